@@ -1,1 +1,5 @@
 pub mod Range
+pub mod Linear
+pub mod Combination
+pub mod Order
+pub mod Cross

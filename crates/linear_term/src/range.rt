@@ -1,7 +1,9 @@
 // The range of coefficients, and what a call of this crate refuses with.
 
-ghost use Rattle.linear_term.specs.Range.{InRange};
-ghost use Rattle.std.specs.Prelude.{IsTrue, ◌↔◌};
+ghost use Rattle.linear_term.specs.Range.{InRange, is_in_range, stays};
+ghost use Rattle.std.specs.Prelude.{◌≡◌, IsTrue, ◌↔◌, IfSome, IfNone, IfOk, IfErr, OnOk, ◌+ℤ◌, ◌*ℤ◌, true, false};
+
+use std::alloc::{AllocError, AllocFailed};
 
 /// Want of memory.
 #[derive(Clone, Copy, Debug, PartialEq, Eq)]
@@ -23,6 +25,96 @@ pub enum TermFault {
     /// A number leaves the range of coefficients: this one.
     Overflow(Place),
     Memory,
+}
+
+impl From<AllocError> for Memory {
+    ghost from_gives = { λ _ e. e ≡ record {} };
+
+    fn from(_error: AllocError) -> Memory {
+        Memory
+    }
+}
+
+impl<T: Drop> From<AllocFailed<T>> for Memory {
+    ghost from_gives = { λ _ e. e ≡ record {} };
+
+    fn from(_error: AllocFailed<T>) -> Memory {
+        Memory
+    }
+}
+
+impl From<Memory> for TermFault {
+    ghost use Rattle.linear_term.specs.declared.range.TermFault.{TermFault};
+
+    ghost from_gives = { λ _ e. e ≡ TermFault.Memory };
+
+    fn from(_error: Memory) -> TermFault {
+        TermFault::Memory
+    }
+}
+
+impl From<AllocError> for TermFault {
+    ghost use Rattle.linear_term.specs.declared.range.TermFault.{TermFault};
+
+    ghost from_gives = { λ _ e. e ≡ TermFault.Memory };
+
+    fn from(_error: AllocError) -> TermFault {
+        TermFault::Memory
+    }
+}
+
+impl<T: Drop> From<AllocFailed<T>> for TermFault {
+    ghost use Rattle.linear_term.specs.declared.range.TermFault.{TermFault};
+
+    ghost from_gives = { λ _ e. e ≡ TermFault.Memory };
+
+    fn from(_error: AllocFailed<T>) -> TermFault {
+        TermFault::Memory
+    }
+}
+
+impl Place {
+    /// The number m·a + n·b, or Overflow with this place where it leaves the range.
+    #[tactic(auto, unfolding(crate::specs::Range::stays))]
+    pub fn value(&self) -> Result<i128, TermFault>
+        ensures exact { IfOk result (λ k. k ≡ (self.now.m *ℤ self.now.a) +ℤ (self.now.n *ℤ self.now.b)) }
+        ensures range { IfOk result InRange }
+        ensures stays { OnOk result (stays self.now ≡ true) }
+        ensures overflow { IfErr result (λ fault. (fault ≡ TermFault.Overflow self.now) × (stays self.now ≡ false)) }
+    {
+        let Some(left) = product(self.m, self.a) else {
+            return Err(TermFault::Overflow(*self));
+        };
+        let Some(right) = product(self.n, self.b) else {
+            return Err(TermFault::Overflow(*self));
+        };
+        let Some(value) = sum(left, right) else {
+            return Err(TermFault::Overflow(*self));
+        };
+        Ok(value)
+    }
+}
+
+fn product(a: i128, b: i128) -> Option<i128>
+    ensures exact { IfSome result (λ c. c ≡ a *ℤ b) }
+    ensures range { IfSome result (λ c. is_in_range c ≡ true) }
+    ensures none { IfNone result (is_in_range (a *ℤ b) ≡ false) }
+{
+    match a.checked_mul(b) {
+        Some(c) if in_range(c) => Some(c),
+        _ => None,
+    }
+}
+
+fn sum(a: i128, b: i128) -> Option<i128>
+    ensures exact { IfSome result (λ c. c ≡ a +ℤ b) }
+    ensures range { IfSome result (λ c. is_in_range c ≡ true) }
+    ensures none { IfNone result (is_in_range (a +ℤ b) ≡ false) }
+{
+    match a.checked_add(b) {
+        Some(c) if in_range(c) => Some(c),
+        _ => None,
+    }
 }
 
 /// Whether n is in the range of coefficients, −(2^127 − 1) to 2^127 − 1.

@@ -1,0 +1,8 @@
+use Rattle.formula.proofs.Connectives.{conjunction, not_every}
+use Rattle.formula.proofs.laws.conjunction_law.Goals as goal
+
+pub returns-clause-members : goal.returns-clause-members
+returns-clause-members c = conjunction
+
+pub returns-clause-de_morgan : goal.returns-clause-de_morgan
+returns-clause-de_morgan c = not_every

@@ -1,0 +1,4 @@
+pub mod Formula
+pub mod Lists
+pub mod Table
+pub mod Truth

@@ -1,0 +1,5 @@
+pub mod Cuts
+pub mod Lexemes
+pub mod Numerals
+pub mod Spellings
+pub mod Terminals

@@ -1,0 +1,16 @@
+// The tokens of a problem file: which bytes belong together, what each such group says to the grammar, and the value of
+// a numeral.
+#![tactic(auto)]
+
+mod laws;
+mod numerals;
+mod scanner;
+mod spellings;
+mod terminals;
+#[cfg(test)]
+mod tests;
+
+pub use laws::tokens_law;
+pub use numerals::{numeral, spelling};
+pub use scanner::{lexemes, tokens};
+pub use terminals::{Lexeme, Terminal, Token, TokenKind, kind_of};

@@ -1,0 +1,3 @@
+pub mod MemorySink
+pub mod MemorySource
+pub mod Outside

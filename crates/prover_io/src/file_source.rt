@@ -1,0 +1,74 @@
+// Real files as a source. It tells no bytes, since no clause can say what the system gives.
+
+ghost use Rattle.std.specs.Prelude.{◌≡◌, ◌&&◌, option_map, string_bytes, is_none, is_some, None};
+
+use crate::source::{BeginFault, Failed, Source};
+use std::alloc::Global;
+use std::fs;
+use std::io::Read;
+use std::rt::Files;
+
+/// The files of the system, by their paths.
+#[derive(Drop)]
+pub struct FileSource<'a, R: Files> {
+    rt: &'a R,
+    alloc: Global,
+    name: Option<String>,
+    // The file begun, as long as nothing failed.
+    file: Option<R::File>,
+    faults: u64,
+}
+
+impl<'a, R: Files> FileSource<'a, R> {
+    /// A source of the files that `rt` gives. Each error of the system is a fault.
+    pub fn new(alloc: Global, rt: &'a R) -> FileSource<'a, R>
+        ensures faults { ⟦<FileSource<'a, R> as Source>⟧.faults result ≡ 0 }
+        ensures idle { ⟦<FileSource<'a, R> as Source>⟧.at result ≡ None }
+    {
+        FileSource {
+            rt,
+            alloc,
+            name: None,
+            file: None,
+            faults: 0,
+        }
+    }
+}
+
+impl<'a, R: Files> Source for FileSource<'a, R> {
+    ghost bytes_of = { λ s name. None };
+
+    ghost left = { λ s. None };
+
+    ghost faults = { λ s. s.faults };
+
+    ghost at = { λ s. option_map string_bytes s.name };
+
+    ghost broken = { λ s. is_some s.name && is_none s.file };
+
+    fn begin(&mut self, name: &str) -> Result<(), BeginFault> {
+        let Ok(begun) = String::from_str(self.alloc, name) else {
+            return Err(BeginFault::Memory);
+        };
+        self.name = Some(begun);
+        let Ok(file) = fs::open(self.rt, name) else {
+            self.file = None;
+            self.faults = self.faults.saturating_add(1);
+            return Err(BeginFault::Failed);
+        };
+        self.file = Some(file);
+        Ok(())
+    }
+
+    fn read(&mut self, buffer: &mut [u8]) -> Result<usize, Failed> {
+        let Some(file) = &mut self.file else {
+            unreachable!()
+        };
+        let Ok(count) = file.read(buffer) else {
+            self.file = None;
+            self.faults = self.faults.saturating_add(1);
+            return Err(Failed);
+        };
+        Ok(count)
+    }
+}

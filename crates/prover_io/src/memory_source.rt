@@ -1,0 +1,164 @@
+// A source over memory, which fails at the calls that it is told to.
+
+ghost use Rattle.std.specs.Option.{option_copied};
+ghost use Rattle.std.specs.Prelude.{◌≡◌, ℕ, ◌+◌, ◌-◌, ◌^◌, ◌<◌, ◌≤◌, ◌↔◌, true, false, List, length, drop, min, find, bytes_eq, option_map, string_bytes, vec_len, None, Some, IfOk, OnOk, OnErr, IsErr, IsErrOf, IsSome, IsTrue};
+
+use crate::source::{BeginFault, Failed, Source};
+use std::alloc::{AllocError, Global};
+
+/// A source of the files that it is given, by their names.
+#[derive(Drop)]
+pub struct MemorySource {
+    files: Vec<(String, Vec<u8>)>,
+    failing: Vec<u64>,
+    calls: u64,
+    faults: u64,
+    name: Option<String>,
+    content: Vec<u8>,
+    position: usize,
+    broken: bool,
+    ghost within: { position ≤ vec_len content },
+}
+
+impl MemorySource {
+    ghost use Rattle.prover_io.specs.MemorySource.{bytes_of, fails_next, IsFresh};
+
+    /// A source of these files; of two with one name the first counts. It fails at the calls of `begin` and `read` with
+    /// the numbers in `failing`, counted from 0, and where a name is begun that it does not have.
+    pub fn new(files: Vec<(String, Vec<u8>)>, failing: Vec<u64>) -> MemorySource
+        ensures { IsFresh result files.items failing.items }
+    {
+        let content = Vec::new(*files.allocator());
+        MemorySource {
+            files,
+            failing,
+            calls: 0,
+            faults: 0,
+            name: None,
+            content,
+            position: 0,
+            broken: false,
+        }
+    }
+
+    // Whether the next call is one of those that fail.
+    fn fails_next(&self) -> bool
+        ensures { result ≡ fails_next self.now }
+    {
+        self.failing.contains(&self.calls)
+    }
+
+    // Counts a call.
+    fn count_call(&mut self)
+        ensures { self.new ≡ record self.old { calls = min (self.old.calls + 1) (2 ^ 64 - 1) } }
+    {
+        self.calls = self.calls.saturating_add(1);
+    }
+
+    // Counts a fault, and breaks what was begun.
+    fn count_fault(&mut self)
+        ensures counts { self.new ≡ record self.old { faults = min (self.old.faults + 1) (2 ^ 64 - 1); broken = true } }
+        ensures later { self.old.faults ≤ self.new.faults }
+    {
+        self.faults = self.faults.saturating_add(1);
+        self.broken = true;
+    }
+
+    // A copy of the first file of this name, if there is one.
+    fn find_content(&self, name: &str) -> Result<Option<Vec<u8>>, AllocError>
+        ensures { IfOk result (λ found. option_map (λ bytes. bytes.items) found ≡ bytes_of self.now name.now) }
+    {
+        match find_file(self.files.as_slice(), name) {
+            Some(file) => Ok(Some(Vec::from_slice(*self.files.allocator(), file.1.as_slice())?)),
+            None => Ok(None),
+        }
+    }
+}
+
+// The first file of this name.
+fn find_file<'a>(files: &'a [(String, Vec<u8>)], name: &str) -> Option<&'a (String, Vec<u8>)>
+    ensures { option_copied result ≡ find (λ file. bytes_eq (string_bytes file.0) name.now) files.now }
+{
+    files.iter().find(|file| file.0.as_str() == name)
+}
+
+impl Source for MemorySource {
+    ghost use Rattle.prover_io.specs.MemorySource.{begin_fails, bytes_of, fails_next, faults_of, is_broken, name_of, rest_of, Counts};
+    ghost use Rattle.prover_io.specs.Outside.{Begun, Broke, Moves};
+
+    ghost bytes_of = { λ s name. bytes_of s name };
+
+    ghost left = { λ s. Some (rest_of s) };
+
+    ghost faults = { λ s. faults_of s };
+
+    ghost at = { λ s. name_of s };
+
+    ghost broken = { λ s. is_broken s };
+
+    fn begin(&mut self, name: &str) -> Result<(), BeginFault>
+        ensures serves { OnOk result (begin_fails self.old name.now ≡ false) }
+        ensures fails { IsErrOf result BeginFault.Failed → begin_fails self.old name.now ≡ true }
+        ensures memory { IsErrOf result BeginFault.Memory → self.new ≡ self.old }
+        ensures begun { OnOk result (Begun name.now (bytes_of self.old name.now) (Some (rest_of self.new)) (name_of self.new) (is_broken self.new)) }
+        ensures failed { IsErrOf result BeginFault.Failed → Broke (Some name.now) (name_of self.new) (is_broken self.new) }
+        ensures fault { IsErrOf result BeginFault.Failed → faults_of self.new ≡ min (faults_of self.old + 1) (2 ^ 64 - 1) }
+        ensures no_fault { OnOk result (faults_of self.new ≡ faults_of self.old) }
+        ensures later { faults_of self.old ≤ faults_of self.new }
+        ensures counted { OnOk result (Counts self.old self.new) }
+        ensures counted_too { IsErrOf result BeginFault.Failed → Counts self.old self.new }
+        ensures same { (n : List ℕ) → bytes_of self.new n ≡ bytes_of self.old n }
+    {
+        let alloc = *self.files.allocator();
+        let Ok(begun) = String::from_str(alloc, name) else {
+            return Err(BeginFault::Memory);
+        };
+        let Ok(found) = self.find_content(name) else {
+            return Err(BeginFault::Memory);
+        };
+        let fails = self.fails_next();
+        self.count_call();
+        self.name = Some(begun);
+        if fails {
+            self.count_fault();
+            return Err(BeginFault::Failed);
+        }
+        let Some(content) = found else {
+            self.count_fault();
+            return Err(BeginFault::Failed);
+        };
+        self.content = content;
+        self.position = 0;
+        self.broken = false;
+        Ok(())
+    }
+
+    fn read(&mut self, buffer: &mut [u8]) -> Result<usize, Failed>
+        requires begun { IsSome (name_of self.old) }
+        requires unbroken { is_broken self.old ≡ false }
+        requires room { 0 < length buffer.old }
+        ensures fails { IsErr result ↔ IsTrue (fails_next self.old) }
+        ensures full { IfOk result (λ n. n ≡ min (length buffer.old) (length (rest_of self.old))) }
+        ensures bytes { IfOk result (λ n. Moves (rest_of self.old) (Some (rest_of self.new)) n buffer.new) }
+        ensures unbroken { OnOk result (is_broken self.new ≡ false) }
+        ensures failed { OnErr result (is_broken self.new ≡ true) }
+        ensures named { name_of self.new ≡ name_of self.old }
+        ensures fault { OnErr result (faults_of self.new ≡ min (faults_of self.old + 1) (2 ^ 64 - 1)) }
+        ensures no_fault { OnOk result (faults_of self.new ≡ faults_of self.old) }
+        ensures later { faults_of self.old ≤ faults_of self.new }
+        ensures counted { Counts self.old self.new }
+        ensures same { (n : List ℕ) → bytes_of self.new n ≡ bytes_of self.old n }
+    {
+        let fails = self.fails_next();
+        self.count_call();
+        if fails {
+            self.count_fault();
+            return Err(Failed);
+        }
+        let rest = &self.content[self.position..];
+        let count = buffer.len().min(rest.len());
+        buffer[..count].copy_from_slice(&rest[..count]);
+        self.position += count;
+        Ok(count)
+    }
+}
