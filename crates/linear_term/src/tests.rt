@@ -149,6 +149,8 @@ fn reads_a_term(rt: HostRuntime) -> Result<(), TermFault> {
         assert_eq!(&rt; t.coef(x), want, "name {x}");
     }
     assert!(&rt; is(&t.copy()?, written));
+    t.is_normal();
+    assert!(&rt; is(&Term::of(rt.alloc(), t.pairs(), t.constant())?, written));
     assert!(&rt;
         is(
             &t.without(0)?,

@@ -1,0 +1,2 @@
+/* A comparison that fails. */
+\problem { 2 = 3 }
