@@ -1,0 +1,4 @@
+pub mod Cutting
+pub mod Charging
+pub mod Meaning
+pub mod Tracing

@@ -1,0 +1,15 @@
+// The budget of a run, and the one way in which a contract says what a call charged and where it was cut.
+#![tactic(auto)]
+
+mod fault;
+mod laws;
+mod log;
+mod purse;
+
+pub use fault::{ElimFault, StepFault};
+pub use laws::cut_law;
+pub use log::{ElimLog, Entry};
+pub use purse::{Purse, Spent};
+
+#[cfg(test)]
+mod tests;
