@@ -108,7 +108,9 @@ fn problem(alloc: Global, formula: &str, filling: u8, count: usize) -> Result<Ve
     let mut bytes = Vec::from_slice(alloc, b"\\problem { ")?;
     for byte in formula.as_bytes() {
         if *byte == b'@' {
-            bytes.resize(bytes.len() + count, filling)?;
+            for _ in 0..count {
+                bytes.push(filling)?;
+            }
         } else {
             bytes.push(*byte)?;
         }
