@@ -1,0 +1,17 @@
+pub mod Literals
+pub mod Normal
+pub mod Content
+pub mod Order
+pub mod Clauses
+pub mod Weight
+pub mod Dnfs
+pub mod Clause
+pub mod Names
+pub mod Bezout
+pub mod Equations
+pub mod Divisibilities
+pub mod Shadows
+pub mod Rules
+pub mod Met
+pub mod Formed
+pub mod Text

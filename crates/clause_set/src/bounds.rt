@@ -1,0 +1,226 @@
+// The bounds that literals set to a linear form.
+
+ghost use Rattle.clause_set.specs.Clauses.{bounds_apart, extent, is_negative, is_void, is_zero, least, same_pairs, slack_of, slack, tightened, with_constant};
+ghost use Rattle.clause_set.specs.Normal.{leads_negative, negated, turned};
+ghost use Rattle.linear_term.specs.Linear.{IsNormal};
+ghost use Rattle.linear_term.specs.Range.{InRange};
+ghost use Rattle.std.specs.Prelude.{◌≡◌, ◌+ℤ◌, pos, int_lt, neg_ℤ, All, IfOk, IfSome};
+
+use super::literal::Literal;
+use linear_term::{Memory, Term};
+use std::alloc::Global;
+
+/// Each coefficient negated.
+pub(crate) fn negated(alloc: Global, pairs: &[(u32, i128)]) -> Result<Vec<(u32, i128)>, Memory>
+    requires { All (λ p. InRange p.1) pairs.now }
+    ensures { IfOk result (λ v. v.items ≡ negated pairs.now) }
+{
+    let mut out = Vec::new(alloc);
+    for pair in pairs {
+        out.push((pair.0, -pair.1))?;
+    }
+    Ok(out)
+}
+
+/// Whether two lists of coefficients are the same.
+pub(crate) fn same_pairs(p: &[(u32, i128)], q: &[(u32, i128)]) -> bool
+    ensures { result ≡ same_pairs p.now q.now }
+{
+    p.cmp(&q).is_eq()
+}
+
+/// The lesser of two bounds, where there are any.
+fn least(j: Option<i128>, k: Option<i128>) -> Option<i128>
+    ensures exact { result ≡ least j k }
+    ensures range { IfSome j (λ n. InRange n) → IfSome k (λ n. InRange n) → IfSome result (λ n. InRange n) }
+{
+    let Some(first) = j else {
+        return k;
+    };
+    let Some(second) = k else {
+        return j;
+    };
+    Some(first.min(second))
+}
+
+/// The number k of which the literal says p + k ≥ 0, where n is the opposite of p.
+fn slack_of(literal: &Literal, p: &[(u32, i128)], n: &[(u32, i128)]) -> Option<i128>
+    requires { n.now ≡ negated p.now }
+    ensures exact { result ≡ slack_of literal.now p.now }
+    ensures range { IfSome result (λ k. InRange k) }
+{
+    match literal {
+        Literal::Eq(t) => equation_slack(t, p, n),
+        Literal::Geq(t) => {
+            if same_pairs(t.pairs(), p) {
+                return Some(t.constant());
+            }
+            None
+        }
+        Literal::Div(_, _) => None,
+        Literal::NDiv(_, _) => None,
+    }
+}
+
+fn equation_slack(t: &Term, p: &[(u32, i128)], n: &[(u32, i128)]) -> Option<i128>
+    requires { n.now ≡ negated p.now }
+    ensures exact { result ≡ slack_of (Literal.Eq t.now) p.now }
+    ensures range { IfSome result (λ k. InRange k) }
+{
+    if same_pairs(t.pairs(), p) {
+        return Some(t.constant());
+    }
+    if same_pairs(t.pairs(), n) {
+        return Some(-t.constant());
+    }
+    None
+}
+
+/// The least number k of which one of the literals says p + k ≥ 0, where n is the opposite of p.
+#[tactic(auto, using(crate::proofs::Slack::slacks))]
+pub(crate) fn slack(literals: &[Literal], p: &[(u32, i128)], n: &[(u32, i128)]) -> Option<i128>
+    requires { n.now ≡ negated p.now }
+    ensures exact { result ≡ slack literals.now p.now }
+    ensures range { IfSome result (λ k. InRange k) }
+{
+    let mut found = None;
+    for literal in literals {
+        found = least(found, slack_of(literal, p, n));
+    }
+    found
+}
+
+/// Whether bounds −j from below and k from above leave no value between them.
+#[tactic(auto, using(crate::proofs::Slack::apart))]
+fn is_negative(j: Option<i128>, k: Option<i128>) -> bool
+    requires { IfSome k (λ n. InRange n) }
+    ensures { result ≡ is_negative (bounds_apart j k) }
+{
+    let Some(first) = j else {
+        return false;
+    };
+    let Some(second) = k else {
+        return false;
+    };
+    first < -second
+}
+
+/// Whether bounds −j from below and k from above leave one value between them.
+#[tactic(auto, using(crate::proofs::Slack::apart))]
+fn is_zero(j: Option<i128>, k: Option<i128>) -> bool
+    requires { IfSome k (λ n. InRange n) }
+    ensures { result ≡ is_zero (bounds_apart j k) }
+{
+    let Some(first) = j else {
+        return false;
+    };
+    let Some(second) = k else {
+        return false;
+    };
+    first == -second
+}
+
+/// Whether no value lies between the literals' bounds of the term's coefficients.
+#[tactic(auto, using(crate::proofs::Terms::terms))]
+fn is_void_bound(alloc: Global, literals: &[Literal], t: &Term) -> Result<bool, Memory>
+    ensures { IfOk result (λ b. b ≡ is_negative (extent literals.now t.now.pairs)) }
+{
+    t.is_normal();
+    let n = negated(alloc, t.pairs())?;
+    let low = slack(literals, t.pairs(), n.as_slice());
+    let high = slack(literals, n.as_slice(), t.pairs());
+    Ok(is_negative(low, high))
+}
+
+/// Whether no value lies between the literals' bounds of this one's coefficients.
+pub(crate) fn is_void(
+    alloc: Global,
+    literals: &[Literal],
+    literal: &Literal,
+) -> Result<bool, Memory>
+    ensures { IfOk result (λ b. b ≡ is_void literals.now literal.now) }
+{
+    match literal {
+        Literal::Eq(t) => is_void_bound(alloc, literals, t),
+        Literal::Geq(t) => is_void_bound(alloc, literals, t),
+        Literal::Div(_, _) => Ok(false),
+        Literal::NDiv(_, _) => Ok(false),
+    }
+}
+
+/// The term of these coefficients and this constant, or its opposite: the one whose first coefficient is positive.
+#[tactic(auto, using(crate::proofs::Terms::turning))]
+pub(crate) fn turned(
+    alloc: Global,
+    pairs: &[(u32, i128)],
+    opposite: &[(u32, i128)],
+    constant: i128,
+) -> Result<Term, Memory>
+    requires normal { IsNormal (record { pairs = pairs.now; constant = constant }) }
+    requires opposite { opposite.now ≡ negated pairs.now }
+    ensures { IfOk result (λ t. t ≡ turned (record { pairs = pairs.now; constant = constant })) }
+{
+    if leads_negative(pairs) {
+        return Term::of(alloc, opposite, opposite_of(constant));
+    }
+    Term::of(alloc, pairs, constant)
+}
+
+fn opposite_of(k: i128) -> i128
+    requires { InRange k }
+    ensures { result ≡ neg_ℤ k }
+{
+    -k
+}
+
+fn leads_negative(pairs: &[(u32, i128)]) -> bool
+    ensures { result ≡ leads_negative pairs.now }
+{
+    let Some((first, _)) = pairs.split_first() else {
+        return false;
+    };
+    first.1 < 0
+}
+
+/// The bound t ≥ 0 as the tightest one of the literals, as an equation where its coefficients have one value alone.
+#[tactic(auto, using(crate::proofs::Terms::turning))]
+fn tightened_bound(alloc: Global, literals: &[Literal], t: &Term) -> Result<Literal, Memory>
+    ensures { IfOk result (λ l. l ≡ tightened literals.now (Literal.Geq t.now)) }
+{
+    t.is_normal();
+    let n = negated(alloc, t.pairs())?;
+    let low = slack(literals, t.pairs(), n.as_slice());
+    let high = slack(literals, n.as_slice(), t.pairs());
+    let constant = constant_of(low, t);
+    if is_zero(low, high) {
+        return Ok(Literal::Eq(turned(alloc, t.pairs(), n.as_slice(), constant)?));
+    }
+    Ok(Literal::Geq(Term::of(alloc, t.pairs(), constant)?))
+}
+
+fn constant_of(k: Option<i128>, t: &Term) -> i128
+    requires { IfSome k (λ n. InRange n) }
+    ensures exact { record { pairs = t.now.pairs; constant = result } ≡ with_constant k t.now }
+    ensures range { InRange result }
+{
+    match k {
+        Some(constant) => constant,
+        None => t.constant(),
+    }
+}
+
+/// The literal as the others tighten it.
+pub(crate) fn tightened(
+    alloc: Global,
+    literals: &[Literal],
+    literal: &Literal,
+) -> Result<Literal, Memory>
+    ensures { IfOk result (λ l. l ≡ tightened literals.now literal.now) }
+{
+    match literal {
+        Literal::Geq(t) => tightened_bound(alloc, literals, t),
+        Literal::Eq(_) => literal.copy(),
+        Literal::Div(_, _) => literal.copy(),
+        Literal::NDiv(_, _) => literal.copy(),
+    }
+}

@@ -1,0 +1,349 @@
+// Disjunctive normal forms: disjunctions of clauses, and charged operations on them.
+
+ghost use Rattle.clause_set.specs.Clauses.{clause_of, clauses_of, found};
+ghost use Rattle.clause_set.specs.Dnfs.{combining, conjunction, denied_clauses, denied_literal, disjunction, joined, joined_with, negated_clause, negated_literal, negation, tidied, tidying, top};
+ghost use Rattle.clause_set.specs.Literals.{AreLiterals, dnf_truth, HasDivisor};
+ghost use Rattle.linear_term.specs.Linear.{number};
+ghost use Rattle.purse.specs.Work.{Charged, Worked};
+ghost use Rattle.std.specs.Prelude.{◌≡◌, ◌<◌, ◌++◌, ◌&&◌, ◌||◌, [], ◌∷◌, pos, negsuc, IfOk, length, List, not, OnOk, slice_get, Some, ℤ};
+
+use super::clause::{Clause, copy_literals};
+use super::covering::uncovered;
+use super::literal::Literal;
+use super::order::sort_once;
+use super::weight::{conjunction_charge, disjunction_charge, negation_charge, tidying_charge};
+use linear_term::{Memory, Term};
+use purse::{Purse, StepFault};
+use sqlite_items::Items;
+use std::alloc::Global;
+use std::marker::Model;
+
+/// A disjunction of clauses, sorted, each once, none covered by another one. Contracts see it as the list of its
+/// clauses, each the list of its literals.
+pub struct Dnf {
+    clauses: Items<Clause>,
+}
+
+impl Model for Dnf {
+    ghost use Rattle.std.specs.Prelude.{List};
+    ghost use Rattle.clause_set.specs.declared.literal.Literal.{Literal};
+
+    ghost Value = { List (List Literal) };
+
+    ghost view = { λ d. d.clauses };
+}
+
+impl Drop for Dnf {
+    fn drop(self) {
+        let Dnf { clauses: _ } = self;
+    }
+}
+
+impl Dnf {
+    /// The disjunction that is true: one clause without literals.
+    #[tactic(auto, using(crate::proofs::Charges::no_literals))]
+    pub fn top(alloc: Global) -> Result<Dnf, Memory>
+        ensures { IfOk result (λ d. d ≡ top) }
+    {
+        let clauses = found(alloc, Clause::of(alloc, Items::new(alloc))?)?;
+        Ok(Dnf { clauses })
+    }
+
+    /// The disjunction that is false: no clause.
+    pub fn bottom(alloc: Global) -> Dnf
+        ensures { result ≡ [] }
+    {
+        Dnf {
+            clauses: Items::new(alloc),
+        }
+    }
+
+    /// How many clauses it has.
+    pub fn len(&self) -> usize
+        ensures { result ≡ length self.now }
+    {
+        self.clauses.len()
+    }
+
+    /// The i-th clause, for i below `len`.
+    pub fn get(&self, i: usize) -> &Clause
+        requires { i < length self.now }
+        ensures { slice_get self.now i ≡ Some result.now }
+    {
+        &self.clauses.as_slice()[i]
+    }
+
+    /// The clauses in their order.
+    pub fn clauses(&self) -> &[Clause]
+        ensures { result.now ≡ self.now }
+    {
+        self.clauses.as_slice()
+    }
+
+    /// An equal disjunction, or want of memory.
+    pub fn copy(&self, alloc: Global) -> Result<Dnf, Memory>
+        ensures { IfOk result (λ d. d ≡ self.now) }
+    {
+        let clauses = copy_clauses(alloc, self.clauses.as_slice())?;
+        Ok(Dnf { clauses })
+    }
+
+    /// The clauses sorted, each once, without those that another one covers: true where one of them is. It charges the
+    /// square of their number.
+    #[tactic(auto, using(crate::proofs::Charges::charges, crate::proofs::Truths::answers))]
+    pub fn tidy(alloc: Global, cs: Items<Clause>, purse: &mut Purse) -> Result<Dnf, StepFault>
+        ensures charged { Charged (tidying cs) purse.old result purse.new }
+        ensures truth { IfOk result (λ d. (e : List ℤ) → dnf_truth d e ≡ dnf_truth cs e) }
+    {
+        purse.step(tidying_charge(cs.len()))?;
+        let clauses = tidied(alloc, cs)?;
+        Ok(Dnf { clauses })
+    }
+}
+
+/// The clauses in tidy form.
+#[tactic(auto, unfolding(crate::specs::Dnfs::tidied))]
+fn tidied(alloc: Global, cs: Items<Clause>) -> Result<Items<Clause>, Memory>
+    ensures { IfOk result (λ d. d ≡ tidied cs) }
+{
+    let sorted = sort_once(alloc, cs)?;
+    uncovered(alloc, sorted.as_slice())
+}
+
+/// The same clauses, or want of memory.
+#[tactic(auto, using(crate::proofs::Walks::copies))]
+fn copy_clauses(alloc: Global, cs: &[Clause]) -> Result<Items<Clause>, Memory>
+    ensures { IfOk result (λ copy. copy ≡ cs.now) }
+{
+    let mut out = Items::new(alloc);
+    for c in cs {
+        out.push(c.copy(alloc)?)?;
+    }
+    Ok(out)
+}
+
+/// The literals of clauses are literals: this call does nothing, and tells its caller so.
+fn know_clauses(cs: &[Clause])
+    ensures { AreLiterals cs.now }
+{
+    for c in cs {
+        c.is_clause();
+    }
+}
+
+/// The disjunction of a and b. It charges 1 and both weights, and then tidies.
+#[tactic(auto, using(crate::proofs::Charges::charges, crate::proofs::Truths::answers))]
+pub fn or(alloc: Global, a: &Dnf, b: &Dnf, purse: &mut Purse) -> Result<Dnf, StepFault>
+    ensures charged { Charged (disjunction a.now b.now) purse.old result purse.new }
+    ensures truth { IfOk result (λ d. (e : List ℤ) → dnf_truth d e ≡ (dnf_truth a.now e || dnf_truth b.now e)) }
+{
+    purse.step(disjunction_charge(a.clauses(), b.clauses()))?;
+    let mut all = copy_clauses(alloc, a.clauses())?;
+    all.append(copy_clauses(alloc, b.clauses())?)?;
+    Dnf::tidy(alloc, all, purse)
+}
+
+/// The conjunction of a and b. It charges 1, and each weight as often as there are clauses on the other side, and then
+/// tidies.
+#[tactic(auto, using(crate::proofs::Charges::charges, crate::proofs::Truths::answers))]
+pub fn and(alloc: Global, a: &Dnf, b: &Dnf, purse: &mut Purse) -> Result<Dnf, StepFault>
+    ensures charged { Charged (conjunction a.now b.now) purse.old result purse.new }
+    ensures truth { IfOk result (λ d. (e : List ℤ) → dnf_truth d e ≡ (dnf_truth a.now e && dnf_truth b.now e)) }
+{
+    know_clauses(a.clauses());
+    know_clauses(b.clauses());
+    conjoin(alloc, a.clauses(), b.clauses(), purse)
+}
+
+#[tactic(auto, using(crate::proofs::Charges::charges))]
+fn conjoin(alloc: Global, a: &[Clause], b: &[Clause], purse: &mut Purse) -> Result<Dnf, StepFault>
+    ensures { Charged (conjunction a.now b.now) purse.old result purse.new }
+{
+    purse.step(conjunction_charge(a, b))?;
+    let all = joined(alloc, a, b)?;
+    Dnf::tidy(alloc, all, purse)
+}
+
+/// The conjunctions of each clause of a with each of b, those of a outermost, without false ones.
+#[tactic(auto, using(crate::proofs::Walks::walks))]
+fn joined(alloc: Global, a: &[Clause], b: &[Clause]) -> Result<Items<Clause>, Memory>
+    ensures { IfOk result (λ all. all ≡ joined a.now b.now) }
+{
+    let mut out = Items::new(alloc);
+    for c in a {
+        out.append(joined_with(alloc, c, b)?)?;
+    }
+    Ok(out)
+}
+
+#[tactic(auto, using(crate::proofs::Walks::walks))]
+fn joined_with(alloc: Global, c: &Clause, d: &[Clause]) -> Result<Items<Clause>, Memory>
+    ensures { IfOk result (λ all. all ≡ joined_with c.now d.now) }
+{
+    let mut out = Items::new(alloc);
+    for e in d {
+        push_joined(alloc, c, e, &mut out)?;
+    }
+    Ok(out)
+}
+
+/// Puts the conjunction of c and e behind the others, unless it is found to be false.
+fn push_joined(alloc: Global, c: &Clause, e: &Clause, out: &mut Items<Clause>) -> Result<(), Memory>
+    ensures { OnOk result (out.new ≡ out.old ++ found (clause_of (c.now ++ e.now))) }
+{
+    c.is_clause();
+    e.is_clause();
+    let mut literals = copy_literals(alloc, c.literals())?;
+    literals.append(copy_literals(alloc, e.literals())?)?;
+    out.append(found(alloc, Clause::of(alloc, literals)?)?)?;
+    Ok(())
+}
+
+/// The clause alone; none where there is none.
+fn found(alloc: Global, c: Option<Clause>) -> Result<Items<Clause>, Memory>
+    ensures { IfOk result (λ cs. cs ≡ found c) }
+{
+    let mut out = Items::new(alloc);
+    match c {
+        Some(clause) => {
+            out.push(clause)?;
+            Ok(out)
+        }
+        None => Ok(out),
+    }
+}
+
+/// −t − 1.
+#[tactic(auto, using(crate::proofs::Charges::combinations))]
+fn below(alloc: Global, t: &Term) -> Result<Term, StepFault>
+    ensures { Worked (combining (negsuc 0) t.now (pos 1) (number (negsuc 0))) result }
+{
+    match Term::combine(-1, t, 1, &Term::number(alloc, -1)) {
+        Ok(term) => Ok(term),
+        Err(fault) => Err(StepFault::from(fault)),
+    }
+}
+
+/// t − 1.
+#[tactic(auto, using(crate::proofs::Charges::combinations))]
+fn above(alloc: Global, t: &Term) -> Result<Term, StepFault>
+    ensures { Worked (combining (pos 1) t.now (pos 1) (number (negsuc 0))) result }
+{
+    match Term::combine(1, t, 1, &Term::number(alloc, -1)) {
+        Ok(term) => Ok(term),
+        Err(fault) => Err(StepFault::from(fault)),
+    }
+}
+
+/// The clauses of one literal.
+fn literal_clauses(alloc: Global, l: Literal) -> Result<Items<Clause>, Memory>
+    requires { HasDivisor l }
+    ensures { IfOk result (λ cs. cs ≡ clauses_of ((l ∷ []) ∷ [])) }
+{
+    let mut literals = Items::new(alloc);
+    literals.push(l)?;
+    found(alloc, Clause::of(alloc, literals)?)
+}
+
+/// The clauses of two literals, each by itself.
+#[tactic(auto, using(crate::proofs::Charges::clauses_of_two))]
+fn two_clauses(alloc: Global, l: Literal, m: Literal) -> Result<Items<Clause>, Memory>
+    requires first { HasDivisor l }
+    requires second { HasDivisor m }
+    ensures { IfOk result (λ cs. cs ≡ clauses_of ((l ∷ []) ∷ (m ∷ []) ∷ [])) }
+{
+    let mut both = literal_clauses(alloc, l)?;
+    both.append(literal_clauses(alloc, m)?)?;
+    Ok(both)
+}
+
+/// t ≥ 0 is false where −t − 1 ≥ 0.
+#[tactic(auto, using(crate::proofs::Charges::works))]
+fn negated_bound(alloc: Global, t: &Term) -> Result<Items<Clause>, StepFault>
+    ensures { Worked (negated_literal (Literal.Geq t.now)) result }
+{
+    let less = below(alloc, t)?;
+    Ok(literal_clauses(alloc, Literal::Geq(less))?)
+}
+
+/// t = 0 is false where −t − 1 ≥ 0 or t − 1 ≥ 0.
+#[tactic(auto, using(crate::proofs::Charges::works))]
+fn negated_equation(alloc: Global, t: &Term) -> Result<Items<Clause>, StepFault>
+    ensures { Worked (negated_literal (Literal.Eq t.now)) result }
+{
+    let less = below(alloc, t)?;
+    let more = above(alloc, t)?;
+    Ok(two_clauses(alloc, Literal::Geq(less), Literal::Geq(more))?)
+}
+
+/// The opposite of a divisibility.
+fn denied_copy(l: &Literal) -> Result<Literal, Memory>
+    requires { HasDivisor l.now }
+    ensures exact { IfOk result (λ m. m ≡ denied_literal l.now) }
+    ensures divisor { IfOk result HasDivisor }
+{
+    match l {
+        Literal::Div(d, t) => Ok(Literal::NDiv(*d, t.copy()?)),
+        Literal::NDiv(d, t) => Ok(Literal::Div(*d, t.copy()?)),
+        Literal::Eq(_) => l.copy(),
+        Literal::Geq(_) => l.copy(),
+    }
+}
+
+#[tactic(auto, using(crate::proofs::Charges::works))]
+fn negated_divisibility(alloc: Global, l: &Literal) -> Result<Items<Clause>, StepFault>
+    requires { HasDivisor l.now }
+    ensures { Worked (denied_clauses l.now) result }
+{
+    let opposite = denied_copy(l)?;
+    Ok(literal_clauses(alloc, opposite)?)
+}
+
+/// The negation of a literal, as clauses.
+fn negated_literal(alloc: Global, l: &Literal) -> Result<Items<Clause>, StepFault>
+    requires { HasDivisor l.now }
+    ensures { Worked (negated_literal l.now) result }
+{
+    match l {
+        Literal::Eq(t) => negated_equation(alloc, t),
+        Literal::Geq(t) => negated_bound(alloc, t),
+        Literal::Div(_, _) => negated_divisibility(alloc, l),
+        Literal::NDiv(_, _) => negated_divisibility(alloc, l),
+    }
+}
+
+/// The negation of a clause: the negations of its literals.
+#[tactic(auto, using(crate::proofs::Charges::loops))]
+fn negated_clause(alloc: Global, c: &Clause, purse: &mut Purse) -> Result<Items<Clause>, StepFault>
+    ensures { Charged (negated_clause c.now) purse.old result purse.new }
+{
+    purse.step(negation_charge(c))?;
+    c.is_clause();
+    let mut out = Items::new(alloc);
+    for l in c.literals() {
+        out.append(negated_literal(alloc, l)?)?;
+    }
+    Ok(out)
+}
+
+/// The negation of a: starting with true, the negation of each of its clauses in turn, joined by a conjunction.
+#[tactic(auto, using(crate::proofs::Truths::answers))]
+pub fn not(alloc: Global, a: &Dnf, purse: &mut Purse) -> Result<Dnf, StepFault>
+    ensures charged { Charged (negation a.now) purse.old result purse.new }
+    ensures truth { IfOk result (λ d. (e : List ℤ) → dnf_truth d e ≡ not (dnf_truth a.now e)) }
+{
+    know_clauses(a.clauses());
+    negated_clauses(alloc, a.clauses(), purse)
+}
+
+#[tactic(auto, using(crate::proofs::Charges::loops))]
+fn negated_clauses(alloc: Global, cs: &[Clause], purse: &mut Purse) -> Result<Dnf, StepFault>
+    ensures { Charged (negation cs.now) purse.old result purse.new }
+{
+    let mut out = Dnf::top(alloc)?;
+    for c in cs {
+        let negated = negated_clause(alloc, c, purse)?;
+        out = conjoin(alloc, out.clauses(), negated.as_slice(), purse)?;
+    }
+    Ok(out)
+}

@@ -1,0 +1,65 @@
+// Laws of the definitions: they have no body to run, and say what the definitions mean.
+
+ghost use Rattle.clause_set.specs.Clause.{IsClause};
+ghost use Rattle.clause_set.specs.Clauses.{clause_of, clauses_of, same_pairs};
+ghost use Rattle.clause_set.specs.declared.literal.Literal.{Literal};
+ghost use Rattle.clause_set.specs.declared.literal.Literal.TheVariants.{Eq, Geq};
+ghost use Rattle.clause_set.specs.Dnfs.{conjunction, covers, disjunction, is_covered, negated_clause, negated_literal, negation, tidied};
+ghost use Rattle.clause_set.specs.Literals.{answer_truth, AreLiterals, clause_truth, dnf_truth, IsLiteral, literal_truth, norm_truth};
+ghost use Rattle.clause_set.specs.Normal.{negated, normal_of};
+ghost use Rattle.clause_set.specs.Order.{clause_cmp, is_clause, is_literal, literal_cmp};
+ghost use Rattle.linear_term.specs.Linear.{Linear};
+ghost use Rattle.std.specs.List.{list_any};
+ghost use Rattle.std.specs.List.Sorted.{IsStrictlySortedBy};
+ghost use Rattle.std.specs.Prelude.{◌≡◌, ◌&&◌, ◌||◌, All, false, List, not, Some, true, ℤ};
+
+/// A clause that covers a true one is true, clauses that cover each other are equal, and the tidy form of clauses is true where one of them is.
+pub fn covers_law()
+    ensures covers { (d c : List Literal) (e : List ℤ) → covers d c ≡ true → clause_truth c e ≡ true → clause_truth d e ≡ true }
+    ensures along { (z d c : List Literal) → covers z d ≡ true → covers d c ≡ true → covers z c ≡ true }
+    ensures back { (d c : List Literal) → IsClause d → IsClause c → covers d c ≡ true → covers c d ≡ true → d ≡ c }
+    ensures tidy { (cs : List (List Literal)) (e : List ℤ) → dnf_truth (tidied cs) e ≡ dnf_truth cs e }
+{}
+
+/// The tidy form of clauses is sorted, each clause once; no clause of it is covered by another one; one that covers one of
+/// it is that one.
+pub fn canonical_law()
+    ensures sorted { (cs : List (List Literal)) → IsStrictlySortedBy clause_cmp (tidied cs) }
+    ensures uncovered { (cs : List (List Literal)) → All (λ c. is_covered (tidied cs) c ≡ false) (tidied cs) }
+    ensures only { (cs : List (List Literal)) → All IsClause cs → (d c : List Literal) → list_any (is_clause d) (tidied cs) ≡ true
+        → list_any (is_clause c) (tidied cs) ≡ true → covers d c ≡ true → d ≡ c }
+{}
+
+/// The literals of a clause are sorted, each once, and bound each list of coefficients once: two bounds of the same
+/// coefficients are equal, so are two equations, and no bound has the coefficients of an equation or their negation.
+pub fn intervals_law()
+    ensures sorted { (ls c : List Literal) → clause_of ls ≡ Some c → IsStrictlySortedBy literal_cmp c }
+    ensures bounds { (c : List Literal) (s t : Linear) → IsClause c → list_any (is_literal (Geq s)) c ≡ true
+        → list_any (is_literal (Geq t)) c ≡ true → s.pairs ≡ t.pairs → s ≡ t }
+    ensures equations { (c : List Literal) (s t : Linear) → IsClause c → list_any (is_literal (Eq s)) c ≡ true
+        → list_any (is_literal (Eq t)) c ≡ true → s.pairs ≡ t.pairs → s ≡ t }
+    ensures alone { (c : List Literal) (s t : Linear) → IsClause c → list_any (is_literal (Eq s)) c ≡ true
+        → list_any (is_literal (Geq t)) c ≡ true → (same_pairs s.pairs t.pairs || same_pairs s.pairs (negated t.pairs)) ≡ false }
+{}
+
+/// The normal form of a literal is true where it is, and the clause of a conjunction of literals where all of them are.
+pub fn normal_law()
+    ensures literal { (l : Literal) (e : List ℤ) → IsLiteral l → norm_truth (normal_of l) e ≡ literal_truth l e }
+    ensures clause { (ls : List Literal) (e : List ℤ) → All IsLiteral ls → answer_truth (clause_of ls) e ≡ clause_truth ls e }
+{}
+
+/// A disjunction of clauses is true where one of both is, a conjunction where both are, and the clauses of conjunctions
+/// of literals where one of these is.
+pub fn operations_law()
+    ensures or { (a b : List (List Literal)) (e : List ℤ) → dnf_truth (disjunction a b).value e ≡ (dnf_truth a e || dnf_truth b e) }
+    ensures and { (a b : List (List Literal)) (e : List ℤ) → AreLiterals a → AreLiterals b
+        → dnf_truth (conjunction a b).value e ≡ (dnf_truth a e && dnf_truth b e) }
+    ensures clauses { (cs : List (List Literal)) (e : List ℤ) → AreLiterals cs → dnf_truth (clauses_of cs) e ≡ dnf_truth cs e }
+{}
+
+/// The negation of a literal, of a clause or of a disjunction is true where this is not.
+pub fn negation_law()
+    ensures literal { (l : Literal) (e : List ℤ) → IsLiteral l → dnf_truth (negated_literal l).value e ≡ not (literal_truth l e) }
+    ensures clause { (c : List Literal) (e : List ℤ) → All IsLiteral c → dnf_truth (negated_clause c).value e ≡ not (clause_truth c e) }
+    ensures not { (d : List (List Literal)) (e : List ℤ) → AreLiterals d → dnf_truth (negation d).value e ≡ not (dnf_truth d e) }
+{}

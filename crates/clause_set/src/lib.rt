@@ -1,0 +1,25 @@
+// Literals over linear terms in normal form, clauses and disjunctive normal forms, and the budget of work on them.
+#![tactic(auto)]
+
+mod bounds;
+mod clause;
+mod compact;
+mod covering;
+mod dnf;
+mod laws;
+mod literal;
+mod normal_form;
+mod order;
+mod weight;
+
+pub use clause::{Clause, normal};
+pub use dnf::{Dnf, and, not, or};
+pub use laws::{
+    canonical_law, covers_law, intervals_law, negation_law, normal_law, operations_law,
+};
+pub use literal::{Literal, Norm};
+pub use order::Ordered;
+pub use purse::{ElimFault, ElimLog, Entry, Purse, Spent, StepFault};
+
+#[cfg(test)]
+mod tests;

@@ -1,0 +1,92 @@
+// Literals over linear terms.
+
+ghost use Rattle.clause_set.specs.Literals.{term_of};
+ghost use Rattle.clause_set.specs.Order.{divisor_of, kind_of};
+ghost use Rattle.std.specs.Prelude.{◌≡◌, IfOk};
+
+use super::order::Ordered;
+use linear_term::{Memory, Term};
+use std::cmp::Ordering;
+
+/// A literal over a linear term t.
+#[derive(Drop)]
+pub enum Literal {
+    /// t = 0.
+    Eq(Term),
+    /// t ≥ 0.
+    Geq(Term),
+    /// The divisor, from 1 to 2^127 − 1, divides t.
+    Div(i128, Term),
+    /// The divisor, from 1 to 2^127 − 1, does not divide t.
+    NDiv(i128, Term),
+}
+
+/// The normal form of a literal.
+#[derive(Drop)]
+pub enum Norm {
+    True,
+    False,
+    Lit(Literal),
+}
+
+impl Literal {
+    /// The term t.
+    pub fn term(&self) -> &Term
+        ensures { result.now ≡ term_of self.now }
+    {
+        match self {
+            Literal::Eq(t) => t,
+            Literal::Geq(t) => t,
+            Literal::Div(_, t) => t,
+            Literal::NDiv(_, t) => t,
+        }
+    }
+
+    fn kind(&self) -> u8
+        ensures { result ≡ kind_of self.now }
+    {
+        match self {
+            Literal::Eq(_) => 0,
+            Literal::Geq(_) => 1,
+            Literal::Div(_, _) => 2,
+            Literal::NDiv(_, _) => 3,
+        }
+    }
+
+    fn divisor(&self) -> i128
+        ensures { result ≡ divisor_of self.now }
+    {
+        match self {
+            Literal::Eq(_) => 0,
+            Literal::Geq(_) => 0,
+            Literal::Div(d, _) => *d,
+            Literal::NDiv(d, _) => *d,
+        }
+    }
+
+    /// An equal literal, or want of memory.
+    pub fn copy(&self) -> Result<Literal, Memory>
+        ensures { IfOk result (λ l. l ≡ self.now) }
+    {
+        match self {
+            Literal::Eq(t) => Ok(Literal::Eq(t.copy()?)),
+            Literal::Geq(t) => Ok(Literal::Geq(t.copy()?)),
+            Literal::Div(d, t) => Ok(Literal::Div(*d, t.copy()?)),
+            Literal::NDiv(d, t) => Ok(Literal::NDiv(*d, t.copy()?)),
+        }
+    }
+}
+
+impl Ordered for Literal {
+    ghost use Rattle.clause_set.specs.Order.{literal_cmp};
+
+    ghost cmp = { literal_cmp };
+
+    /// By kind (Eq, Geq, Div, NDiv), then divisor, then term.
+    fn compare(&self, other: &Literal) -> Ordering {
+        self.kind()
+            .cmp(&other.kind())
+            .then(self.divisor().cmp(&other.divisor()))
+            .then(self.term().compare(other.term()))
+    }
+}

@@ -1,0 +1,12 @@
+pub mod Tests
+pub mod Lists
+pub mod Solving
+pub mod Bezouts
+pub mod Dividing
+pub mod Apart
+pub mod Merge
+pub mod Shift
+pub mod Values
+pub mod Applying
+pub mod Exactness
+pub mod Progress

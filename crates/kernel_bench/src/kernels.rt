@@ -1,0 +1,103 @@
+// The kernels: each answers how many monomials it wrote in all.
+
+use clause_set::{Clause, Dnf, Literal, Purse, StepFault, and};
+use linear_term::Term;
+use sqlite_items::Items;
+use std::alloc::Global;
+
+/// What is timed.
+#[derive(Clone, Copy, Debug, PartialEq, Eq)]
+pub enum Kernel {
+    /// 2·s + 3·t of two terms with this many monomials each, of which all but one have the same name.
+    Combine(u16),
+    /// The conjunction of a normal form of this many clauses with one of two clauses.
+    And(u16),
+    /// Putting this many clauses into a normal form.
+    Tidy(u16),
+}
+
+/// Runs a kernel this many times.
+pub fn run(alloc: Global, kernel: Kernel, times: u32) -> Result<u64, StepFault> {
+    match kernel {
+        Kernel::Combine(size) => combine(alloc, size, times),
+        Kernel::And(size) => conjoin(alloc, size, times),
+        Kernel::Tidy(size) => tidy(alloc, size, times),
+    }
+}
+
+/// A term of this many monomials with rising names from `first` on.
+fn wide(alloc: Global, first: u16, size: u16) -> Result<Term, StepFault> {
+    let mut term = Term::number(alloc, 1);
+    for i in 0..size {
+        let name = Term::name(alloc, u32::from(first) + u32::from(i));
+        term = Term::combine(1, &term, 3, &name)?;
+    }
+    Ok(term)
+}
+
+fn combine(alloc: Global, size: u16, times: u32) -> Result<u64, StepFault> {
+    let s = wide(alloc, 0, size)?;
+    let t = wide(alloc, 1, size)?;
+    let mut written: u64 = 0;
+    for _ in 0..times {
+        let sum = Term::combine(2, &s, 3, &t)?;
+        written = written.saturating_add(sum.len() as u64);
+    }
+    Ok(written)
+}
+
+/// The clause x_i ≥ i, x_(i + 1) ≥ x_i.
+fn clause(alloc: Global, i: u16) -> Result<Option<Clause>, StepFault> {
+    let x = Term::name(alloc, u32::from(i));
+    let next = Term::name(alloc, u32::from(i) + 1);
+    let bound = Term::combine(1, &x, -1, &Term::number(alloc, i128::from(i)))?;
+    let order = Term::combine(1, &next, -1, &x)?;
+    let mut literals = Items::new(alloc);
+    literals.push(Literal::Geq(bound))?;
+    literals.push(Literal::Geq(order))?;
+    Ok(Clause::of(alloc, literals)?)
+}
+
+/// This many clauses, each with two literals of its own.
+fn clauses(alloc: Global, size: u16) -> Result<Items<Clause>, StepFault> {
+    let mut all = Items::new(alloc);
+    for i in 0..size {
+        if let Some(clause) = clause(alloc, i)? {
+            all.push(clause)?;
+        }
+    }
+    Ok(all)
+}
+
+/// The monomials of a normal form.
+fn monomials(d: &Dnf) -> u64 {
+    let mut count: u64 = 0;
+    for clause in d.clauses() {
+        for literal in clause.literals() {
+            count = count.saturating_add(literal.term().len() as u64);
+        }
+    }
+    count
+}
+
+fn conjoin(alloc: Global, size: u16, times: u32) -> Result<u64, StepFault> {
+    let mut purse = Purse::new(u64::MAX);
+    let many = Dnf::tidy(alloc, clauses(alloc, size)?, &mut purse)?;
+    let two = Dnf::tidy(alloc, clauses(alloc, 2)?, &mut purse)?;
+    let mut written: u64 = 0;
+    for _ in 0..times {
+        let both = and(alloc, &many, &two, &mut purse)?;
+        written = written.saturating_add(monomials(&both));
+    }
+    Ok(written)
+}
+
+fn tidy(alloc: Global, size: u16, times: u32) -> Result<u64, StepFault> {
+    let mut purse = Purse::new(u64::MAX);
+    let mut written: u64 = 0;
+    for _ in 0..times {
+        let tidied = Dnf::tidy(alloc, clauses(alloc, size)?, &mut purse)?;
+        written = written.saturating_add(monomials(&tidied));
+    }
+    Ok(written)
+}
