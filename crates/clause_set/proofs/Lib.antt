@@ -20,3 +20,4 @@ pub mod Canonical
 pub mod Intervals
 pub mod Formed
 pub mod Measures
+pub mod Ranges

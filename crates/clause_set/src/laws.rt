@@ -4,11 +4,13 @@ ghost use Rattle.clause_set.specs.Clause.{IsClause};
 ghost use Rattle.clause_set.specs.Clauses.{clause_of, clauses_of, same_pairs};
 ghost use Rattle.clause_set.specs.declared.literal.Literal.{Literal};
 ghost use Rattle.clause_set.specs.declared.literal.Literal.TheVariants.{Eq, Geq};
-ghost use Rattle.clause_set.specs.Dnfs.{conjunction, covers, disjunction, is_covered, negated_clause, negated_literal, negation, tidied};
+ghost use Rattle.clause_set.specs.Dnfs.{conjunction, covers, disjunction, is_covered, negated_clause, negated_literal, negation, tidied, tidying};
 ghost use Rattle.clause_set.specs.Literals.{answer_truth, AreLiterals, clause_truth, dnf_truth, IsLiteral, literal_truth, norm_truth};
 ghost use Rattle.clause_set.specs.Normal.{negated, normal_of};
 ghost use Rattle.clause_set.specs.Order.{clause_cmp, is_clause, is_literal, literal_cmp};
+ghost use Rattle.linear_term.specs.declared.range.Place.{Place};
 ghost use Rattle.linear_term.specs.Linear.{Linear};
+ghost use Rattle.purse.specs.Trace.{At, cut, out_of_range};
 ghost use Rattle.std.specs.List.{list_any};
 ghost use Rattle.std.specs.List.Sorted.{IsStrictlySortedBy};
 ghost use Rattle.std.specs.Prelude.{◌≡◌, ◌&&◌, ◌||◌, All, false, List, not, Some, true, ℤ};
@@ -62,4 +64,11 @@ pub fn negation_law()
     ensures literal { (l : Literal) (e : List ℤ) → IsLiteral l → dnf_truth (negated_literal l).value e ≡ not (literal_truth l e) }
     ensures clause { (c : List Literal) (e : List ℤ) → All IsLiteral c → dnf_truth (negated_clause c).value e ≡ not (clause_truth c e) }
     ensures not { (d : List (List Literal)) (e : List ℤ) → AreLiterals d → dnf_truth (negation d).value e ≡ not (dnf_truth d e) }
+{}
+
+/// Tidying, a disjunction and a conjunction compute no raw number, so these calls never answer Overflow.
+pub fn range_law()
+    ensures tidy { (cs : List (List Literal)) (a b : At) (ps : List Place) → ¬ (cut (tidying cs).events a ≡ out_of_range ps b) }
+    ensures or { (c d : List (List Literal)) (a b : At) (ps : List Place) → ¬ (cut (disjunction c d).events a ≡ out_of_range ps b) }
+    ensures and { (c d : List (List Literal)) (a b : At) (ps : List Place) → ¬ (cut (conjunction c d).events a ≡ out_of_range ps b) }
 {}

@@ -15,7 +15,7 @@ mod weight;
 pub use clause::{Clause, normal};
 pub use dnf::{Dnf, and, not, or};
 pub use laws::{
-    canonical_law, covers_law, intervals_law, negation_law, normal_law, operations_law,
+    canonical_law, covers_law, intervals_law, negation_law, normal_law, operations_law, range_law,
 };
 pub use literal::{Literal, Norm};
 pub use order::Ordered;

@@ -1,0 +1,4 @@
+pub mod Classes
+pub mod Grammar
+pub mod Machine
+pub mod Refusals

@@ -1,0 +1,434 @@
+-- The reader as a machine: it takes one token after another, and its state is what it takes next and what is done with what
+-- it has read. So it says by itself which token is the first that no file has there.
+use Rattle.std.specs.Prelude.{ℕ, suc, Bool, true, false, List, [], ◌∷◌, ◌++◌, Option, Some, None, Result, Ok, Err, pos, if◌then◌else◌}
+use Rattle.pri_tokens.specs.declared.terminals.Terminal.{Terminal}
+use Rattle.pri_tokens.specs.declared.terminals.Terminal.TheVariants as t
+use Rattle.pri_tokens.specs.declared.terminals.Lexeme.{Lexeme}
+use Rattle.pri_reader.specs.declared.tree.Expr.{Expr}
+use Rattle.pri_reader.specs.declared.tree.Form.TheVariants as form
+use Rattle.pri_reader.specs.declared.tree.Added.{Added}
+use Rattle.pri_reader.specs.declared.tree.Name.{Name}
+use Rattle.pri_reader.specs.declared.tree.NameSet.{NameSet}
+use Rattle.pri_reader.specs.declared.tree.Item.{Item}
+use Rattle.pri_reader.specs.declared.tree.File.{File}
+use Rattle.pri_reader.specs.declared.tree.Block.{Block}
+use Rattle.pri_reader.specs.declared.tree.Block.TheVariants as block
+use Rattle.pri_reader.specs.declared.tree.Comparison.{Comparison}
+use Rattle.pri_reader.specs.declared.tree.ReadRefusal.{ReadRefusal}
+use Rattle.pri_reader.specs.declared.tree.ReadRefusal.TheVariants as refusal
+use Rattle.pri_reader.specs.declared.classes.Prefix.{Prefix}
+use Rattle.pri_reader.specs.declared.classes.Prefix.TheVariants as p
+use Rattle.pri_reader.specs.declared.classes.Opening.{Opening}
+use Rattle.pri_reader.specs.declared.classes.Opening.TheVariants as o
+use Rattle.pri_reader.specs.declared.classes.Heading.{Heading}
+use Rattle.pri_reader.specs.declared.classes.Heading.TheVariants as h
+use Rattle.pri_reader.specs.Classes.{prefix_of, opening_of, heading_of, comparison_of, adding_of}
+use Rattle.pri_reader.specs.Grammar.{Right, equivalence, implication, multiplication, Chain, disjunction, conjunction, Part, right, chain, unary, rel, sum, parenthesized, expr, join, chained, added, summed, paired, Setting, value_of, name_of, constants_block, items_block, item, with_set, has_problem}
+
+-- what is made of an expression once it is whole
+pub data Wrap : Type 0 where
+  second : Right → Expr → ℕ → Wrap
+  not_at : ℕ → Wrap
+  minus_at : ℕ → Wrap
+  bound_at : ℕ → Bool → List Name → Wrap
+  part_at : ℕ → Name → Wrap
+  compared : Comparison → Expr → Wrap
+  grouped_at : ℕ → Wrap
+  absolute_at : ℕ → Wrap
+  branches : ℕ → Expr → Expr → Wrap
+
+abbrev pub wrapped : Wrap → Expr → Expr
+wrapped (second r f at) g = join r f at g
+wrapped (not_at at) f = expr at (form.Not f)
+wrapped (minus_at at) f = expr at (form.Minus f)
+wrapped (bound_at at all names) f = expr at (form.Quantified all names f)
+wrapped (part_at at name) f = expr at (form.Part name f)
+wrapped (compared c f) g = expr f.at (form.Compare c f g)
+wrapped (grouped_at at) f = expr at (form.Group f)
+wrapped (absolute_at at) f = expr at (form.Abs f)
+wrapped (branches at c f) g = expr at (form.If c f g)
+
+-- what an expression that is read is for, with the number of open levels there: a line that may go on, or a construct
+pub data Frame : Type 0 where
+  right_of : Right → ℕ → Frame
+  chain_of : Chain → ℕ → List Expr → Frame
+  rel_of : ℕ → Frame
+  sum_of : ℕ → List Added → Bool → Frame
+  wrap : Wrap → Frame
+  parenthesis_of : Frame
+  test_of : ℕ → ℕ → Frame
+  branch_of : ℕ → ℕ → Expr → Frame
+  arguments_of : Name → ℕ → List Expr → Frame
+  pair_left : Bool → ℕ → ℕ → Frame
+  pair_right : Bool → ℕ → Expr → Frame
+  problem_of : ℕ → List Block → Frame
+
+-- what a list of names is for: a block of constants, or a set of an interpolant
+pub data NamesFor : Type 0 where
+  for_constants : Bool → ℕ → List Name → List Block → NamesFor
+  for_set : ℕ → List NameSet → Option ℕ → List Block → NamesFor
+
+-- a block of functions or predicates, with its items so far
+pub record ItemsFor : Type 0 where
+  pub typed : Bool
+  pub at : ℕ
+  pub items : List Item
+  pub blocks : List Block
+
+-- what is taken next
+pub data Want : Type 0 where
+  a_unary : ℕ → Want
+  a_minus : ℕ → Want
+  a_parenthesis : ℕ → Want
+  behind_name : Name → ℕ → Want
+  an_argument : Name → ℕ → Want
+  a_pair : Bool → ℕ → ℕ → Want
+  a_binder : ℕ → Bool → ℕ → Want
+  a_bound_int : ℕ → Bool → ℕ → List Name → Want
+  a_bound : ℕ → Bool → Bool → ℕ → List Name → Want
+  bound_more : ℕ → Bool → Bool → ℕ → List Name → Want
+  a_part_bracket : ℕ → ℕ → Want
+  a_part_name : ℕ → ℕ → Want
+  a_part_close : ℕ → Name → ℕ → Want
+  gives : Expr → Want
+  a_block : List Block → Want
+  a_brace : Heading → ℕ → List Block → Want
+  a_line : Bool → ℕ → List Name → List Block → Want
+  a_name : NamesFor → List Name → Want
+  names_more : NamesFor → List Name → Want
+  an_item_line : ItemsFor → Want
+  an_item : ItemsFor → Want
+  behind_item : ItemsFor → Name → Want
+  a_first_parameter : ItemsFor → Name → Want
+  a_parameter : ItemsFor → Name → ℕ → Want
+  behind_int : ItemsFor → Name → ℕ → Want
+  parameters_more : ItemsFor → Name → ℕ → Want
+  items_more : ItemsFor → Want
+
+-- what a token does: nothing takes it, or it leads on, at once, by a numeral, or by one more level
+pub data Move : Type 0 where
+  bad : Move
+  on : Want → List Frame → Move
+  numeral : ℕ → Want → List Frame → Move
+  level : ℕ → Want → List Frame → Move
+
+-- a name with its arguments
+abbrev pub applied : Name → List Expr → Expr
+applied name fs = expr name.at (form.Use name fs)
+
+-- What begins a part below n open levels.
+
+abbrev pub under_product : ℕ → List Frame → List Frame
+under_product n frames = right_of multiplication n ∷ frames
+
+abbrev pub under_sum : ℕ → List Frame → List Frame
+under_sum n frames = under_product n (sum_of n [] false ∷ frames)
+
+abbrev pub under_rel : ℕ → List Frame → List Frame
+under_rel n frames = under_sum n (rel_of n ∷ frames)
+
+abbrev pub under_chain : Chain → ℕ → List Frame → List Frame
+under_chain conjunction n frames = chain_of conjunction n [] ∷ frames
+under_chain disjunction n frames = chain_of conjunction n [] ∷ chain_of disjunction n [] ∷ frames
+
+abbrev pub under_right : Right → ℕ → List Frame → List Frame
+under_right multiplication n frames = under_product n frames
+under_right implication n frames = under_chain disjunction n (right_of implication n ∷ frames)
+under_right equivalence n frames = under_chain disjunction n (right_of implication n ∷ right_of equivalence n ∷ frames)
+
+abbrev pub under : Part → ℕ → List Frame → List Frame
+under (right r) n frames = under_right r n frames
+under (chain c) n frames = under_chain c n frames
+under rel n frames = under_rel n frames
+under sum n frames = under_sum n frames
+under _ n frames = frames
+
+abbrev pub wants_right : Right → ℕ → Want
+wants_right multiplication n = a_minus n
+wants_right implication n = a_unary n
+wants_right equivalence n = a_unary n
+
+abbrev pub wants : Part → ℕ → Want
+wants (right r) n = wants_right r n
+wants (chain c) n = a_unary n
+wants unary n = a_unary n
+wants parenthesized n = a_parenthesis n
+wants _ n = a_minus n
+
+abbrev pub under_member : Chain → ℕ → List Frame → List Frame
+under_member conjunction n frames = frames
+under_member disjunction n frames = chain_of conjunction n [] ∷ frames
+
+-- Which tokens go on with a line.
+
+abbrev pub takes_right : Right → Terminal → Bool
+takes_right equivalence t.Iff = true
+takes_right implication t.Implies = true
+takes_right multiplication t.Star = true
+takes_right _ _ = false
+
+abbrev pub takes_chain : Chain → Terminal → Bool
+takes_chain disjunction t.Or = true
+takes_chain conjunction t.And = true
+takes_chain _ _ = false
+
+abbrev pub sum_goes_on : Option Bool → ℕ → List Added → List Frame → Move → Move
+sum_goes_on None n before frames other = other
+sum_goes_on (Some sign) n before frames other = on (a_minus n) (under_product n (sum_of n before sign ∷ frames))
+
+abbrev pub rel_goes_on : Option Comparison → ℕ → Expr → List Frame → Move → Move
+rel_goes_on None n f frames other = other
+rel_goes_on (Some c) n f frames other = on (a_minus n) (under_sum n (wrap (compared c f) ∷ frames))
+
+abbrev pub parenthesis_follows : Terminal → Expr → List Frame → Move
+parenthesis_follows t.CloseParenthesis f frames = on (gives f) frames
+parenthesis_follows _ f frames = bad
+
+abbrev pub test_follows : Terminal → ℕ → ℕ → Expr → List Frame → Move
+test_follows t.Then at n f frames = on (a_parenthesis n) (branch_of at n f ∷ frames)
+test_follows _ at n f frames = bad
+
+abbrev pub branch_follows : Terminal → ℕ → ℕ → Expr → Expr → List Frame → Move
+branch_follows t.Else at n c f frames = on (a_parenthesis n) (wrap (branches at c f) ∷ frames)
+branch_follows _ at n c f frames = bad
+
+abbrev pub arguments_follow : Terminal → Name → ℕ → List Expr → List Frame → Move
+arguments_follow t.Comma name n fs frames = on (a_unary n) (under_right equivalence n (arguments_of name n fs ∷ frames))
+arguments_follow t.CloseParenthesis name n fs frames = on (gives (applied name fs)) frames
+arguments_follow _ name n fs frames = bad
+
+abbrev pub left_follows : Terminal → Bool → ℕ → ℕ → Expr → List Frame → Move
+left_follows t.Comma max at n f frames = on (a_unary n) (under_right equivalence n (pair_right max at f ∷ frames))
+left_follows _ max at n f frames = bad
+
+abbrev pub pair_follows : Terminal → Bool → ℕ → Expr → Expr → List Frame → Move
+pair_follows t.CloseParenthesis max at f g frames = on (gives (paired max at f g)) frames
+pair_follows _ max at f g frames = bad
+
+abbrev pub problem_follows : Terminal → ℕ → List Block → Expr → Move
+problem_follows t.CloseBrace at blocks f = on (a_block (blocks ++ block.Problem at f ∷ [])) []
+problem_follows _ at blocks f = bad
+
+-- an expression is read, and a token of this terminal at this offset follows
+unfoldable pub follows : ℕ → Terminal → Expr → List Frame → Move
+follows at kind f [] = bad
+follows at kind f (right_of r n ∷ frames) =
+    if takes_right r kind then level n (wants_right r (suc n)) (under_right r (suc n) (wrap (second r f at) ∷ frames))
+    else follows at kind f frames
+follows at kind f (chain_of c n fs ∷ frames) =
+    if takes_chain c kind then on (a_unary n) (under_member c n (chain_of c n (fs ++ f ∷ []) ∷ frames))
+    else follows at kind (chained c fs f) frames
+follows at kind f (rel_of n ∷ frames) = rel_goes_on (comparison_of kind) n f frames (follows at kind f frames)
+follows at kind f (sum_of n before sign ∷ frames) =
+    sum_goes_on (adding_of kind) n (before ++ added sign f ∷ []) frames (follows at kind (summed before sign f) frames)
+follows at kind f (wrap w ∷ frames) = follows at kind (wrapped w f) frames
+follows at kind f (parenthesis_of ∷ frames) = parenthesis_follows kind f frames
+follows at kind f (test_of start n ∷ frames) = test_follows kind start n f frames
+follows at kind g (branch_of start n f ∷ frames) = branch_follows kind start n f g frames
+follows at kind f (arguments_of name n fs ∷ frames) = arguments_follow kind name n (fs ++ f ∷ []) frames
+follows at kind f (pair_left max start n ∷ frames) = left_follows kind max start n f frames
+follows at kind g (pair_right max start f ∷ frames) = pair_follows kind max start f g frames
+follows at kind f (problem_of start blocks ∷ frames) = problem_follows kind start blocks f
+
+abbrev pub parenthesis_moves : Terminal → ℕ → List Frame → Move
+parenthesis_moves t.OpenParenthesis n frames = level n (a_unary (suc n)) (under_right equivalence (suc n) (parenthesis_of ∷ frames))
+parenthesis_moves _ n frames = bad
+
+-- a minus or a primary begins
+abbrev pub minus_moves : Setting → Lexeme → Option Opening → ℕ → List Frame → Move
+minus_moves s x (Some o.Minus) n frames = level n (a_minus (suc n)) (wrap (minus_at x.at) ∷ frames)
+minus_moves s x (Some o.Number) n frames = numeral (value_of s x) (gives (expr x.at (form.Number (pos (value_of s x))))) frames
+minus_moves s x (Some (o.Truth b)) n frames = on (gives (expr x.at (form.Truth b))) frames
+minus_moves s x (Some o.Identifier) n frames = on (behind_name (name_of s x) n) frames
+minus_moves s x (Some o.Parenthesis) n frames =
+    level n (a_unary (suc n)) (under_right equivalence (suc n) (parenthesis_of ∷ wrap (grouped_at x.at) ∷ frames))
+minus_moves s x (Some o.If) n frames = on (a_parenthesis n) (test_of x.at n ∷ frames)
+minus_moves s x (Some o.Abs) n frames = on (a_parenthesis n) (wrap (absolute_at x.at) ∷ frames)
+minus_moves s x (Some (o.Pair max)) n frames = on (a_pair max x.at n) frames
+minus_moves s x _ n frames = bad
+
+-- a unary begins
+abbrev pub unary_moves : Setting → Lexeme → Option Prefix → Option Opening → ℕ → List Frame → Move
+unary_moves s x (Some p.Not) opening n frames = level n (a_unary (suc n)) (wrap (not_at x.at) ∷ frames)
+unary_moves s x (Some (p.Quantifier all)) opening n frames = on (a_binder x.at all n) frames
+unary_moves s x (Some p.Part) opening n frames = level n (a_part_bracket x.at (suc n)) frames
+unary_moves s x None opening n frames = minus_moves s x opening n (under_rel n frames)
+
+abbrev pub behind_name_moves : Terminal → ℕ → Name → ℕ → List Frame → Move
+behind_name_moves t.OpenParenthesis at name n frames = level n (an_argument name (suc n)) frames
+behind_name_moves kind at name n frames = follows at kind (applied name []) frames
+
+abbrev pub argument_moves : Setting → Lexeme → Terminal → Name → ℕ → List Frame → Move
+argument_moves s x t.CloseParenthesis name n frames = on (gives (applied name [])) frames
+argument_moves s x kind name n frames =
+    unary_moves s x (prefix_of kind) (opening_of kind) n (under_right equivalence n (arguments_of name n [] ∷ frames))
+
+abbrev pub pair_moves : Terminal → Bool → ℕ → ℕ → List Frame → Move
+pair_moves t.OpenParenthesis max at n frames = level n (a_unary (suc n)) (under_right equivalence (suc n) (pair_left max at (suc n) ∷ frames))
+pair_moves _ max at n frames = bad
+
+abbrev pub binder_moves : Terminal → ℕ → Bool → ℕ → List Frame → Move
+binder_moves t.Int at all n frames = on (a_bound at all false n []) frames
+binder_moves t.OpenParenthesis at all n frames = on (a_bound_int at all n []) frames
+binder_moves _ at all n frames = bad
+
+abbrev pub bound_int_moves : Terminal → ℕ → Bool → ℕ → List Name → List Frame → Move
+bound_int_moves t.Int at all n names frames = on (a_bound at all true n names) frames
+bound_int_moves _ at all n names frames = bad
+
+abbrev pub bound_moves : Setting → Lexeme → Terminal → ℕ → Bool → Bool → ℕ → List Name → List Frame → Move
+bound_moves s x t.Identifier at all several n names frames = level n (bound_more at all several (suc n) (names ++ name_of s x ∷ [])) frames
+bound_moves s x _ at all several n names frames = bad
+
+abbrev pub bound_more_moves : Terminal → ℕ → Bool → Bool → ℕ → List Name → List Frame → Move
+bound_more_moves t.Comma at all several n names frames = on (a_bound at all several n names) frames
+bound_more_moves t.Semicolon at all false n names frames = on (a_unary n) (wrap (bound_at at all names) ∷ frames)
+bound_more_moves t.Semicolon at all true n names frames = on (a_bound_int at all n names) frames
+bound_more_moves t.CloseParenthesis at all true n names frames = on (a_unary n) (wrap (bound_at at all names) ∷ frames)
+bound_more_moves _ at all several n names frames = bad
+
+abbrev pub part_bracket_moves : Terminal → ℕ → ℕ → List Frame → Move
+part_bracket_moves t.OpenBracket at n frames = on (a_part_name at n) frames
+part_bracket_moves _ at n frames = bad
+
+abbrev pub part_name_moves : Setting → Lexeme → Terminal → ℕ → ℕ → List Frame → Move
+part_name_moves s x t.Identifier at n frames = on (a_part_close at (name_of s x) n) frames
+part_name_moves s x _ at n frames = bad
+
+abbrev pub part_close_moves : Terminal → ℕ → Name → ℕ → List Frame → Move
+part_close_moves t.CloseBracket at name n frames = on (a_unary n) (wrap (part_at at name) ∷ frames)
+part_close_moves _ at name n frames = bad
+
+-- The blocks.
+
+abbrev pub block_moves : Option Heading → ℕ → List Block → Move
+block_moves None at blocks = bad
+block_moves (Some h.Problem) at blocks = if has_problem blocks then bad else on (a_brace h.Problem at blocks) []
+block_moves (Some heading) at blocks = on (a_brace heading at blocks) []
+
+abbrev pub items_for : Bool → ℕ → List Item → List Block → ItemsFor
+items_for typed at items blocks = record { typed = typed; at = at; items = items; blocks = blocks }
+
+abbrev pub with_item : ItemsFor → Name → ℕ → ItemsFor
+with_item i name arity = items_for i.typed i.at (i.items ++ item name arity ∷ []) i.blocks
+
+abbrev pub in_braces : Heading → ℕ → List Block → Move
+in_braces (h.Constants universal) at blocks = on (a_line universal at [] blocks) []
+in_braces (h.Items typed) at blocks = on (an_item_line (items_for typed at [] blocks)) []
+in_braces h.Problem at blocks = on (a_unary 0) (under_right equivalence 0 (problem_of at blocks ∷ []))
+in_braces h.Interpolant at blocks = on (a_name (for_set at [] None blocks) []) []
+
+abbrev pub brace_moves : Terminal → Heading → ℕ → List Block → Move
+brace_moves t.OpenBrace heading at blocks = in_braces heading at blocks
+brace_moves _ heading at blocks = bad
+
+abbrev pub line_moves : Terminal → Bool → ℕ → List Name → List Block → Move
+line_moves t.Int universal at names blocks = on (a_name (for_constants universal at names blocks) []) []
+line_moves t.CloseBrace universal at names blocks = on (a_block (blocks ++ constants_block universal at names ∷ [])) []
+line_moves _ universal at names blocks = bad
+
+abbrev pub name_moves : Setting → Lexeme → Terminal → NamesFor → List Name → Move
+name_moves s x t.Identifier names_for names = on (names_more names_for (names ++ name_of s x ∷ [])) []
+name_moves s x _ names_for names = bad
+
+-- an `\interpolant` block has at least two sets
+abbrev pub sets_end : ℕ → List NameSet → List NameSet → List Block → Move
+sets_end at [] all blocks = bad
+sets_end at (one ∷ more) all blocks = on (a_block (blocks ++ block.Interpolant at all ∷ [])) []
+
+abbrev pub names_end : Terminal → ℕ → NamesFor → List Name → Move
+names_end t.Semicolon here (for_constants universal at names blocks) more = on (a_line universal at (names ++ more) blocks) []
+names_end t.Semicolon here (for_set at sets start blocks) names = on (a_name (for_set at (with_set sets start names) (Some here) blocks) []) []
+names_end t.CloseBrace here (for_set at sets start blocks) names = sets_end at sets (with_set sets start names) blocks
+names_end _ here names_for names = bad
+
+abbrev pub names_more_moves : Terminal → ℕ → NamesFor → List Name → Move
+names_more_moves t.Comma here names_for names = on (a_name names_for names) []
+names_more_moves kind here names_for names = names_end kind here names_for names
+
+abbrev pub item_moves : Setting → Lexeme → Terminal → ItemsFor → Move
+item_moves s x t.Identifier i = on (behind_item i (name_of s x)) []
+item_moves s x _ i = bad
+
+abbrev pub item_line_moves : Setting → Lexeme → Terminal → Bool → ItemsFor → Move
+item_line_moves s x t.CloseBrace typed i = on (a_block (i.blocks ++ items_block i.typed i.at i.items ∷ [])) []
+item_line_moves s x t.Int true i = on (an_item i) []
+item_line_moves s x kind true i = bad
+item_line_moves s x kind false i = item_moves s x kind i
+
+abbrev pub items_more_moves : Terminal → ItemsFor → Move
+items_more_moves t.Comma i = on (an_item i) []
+items_more_moves t.Semicolon i = on (an_item_line i) []
+items_more_moves _ i = bad
+
+abbrev pub behind_item_moves : Terminal → ItemsFor → Name → Move
+behind_item_moves t.OpenParenthesis i name = on (a_first_parameter i name) []
+behind_item_moves kind i name = items_more_moves kind (with_item i name 0)
+
+abbrev pub parameter_moves : Terminal → ItemsFor → Name → ℕ → Move
+parameter_moves t.Int i name n = on (behind_int i name (suc n)) []
+parameter_moves _ i name n = bad
+
+abbrev pub first_parameter_moves : Terminal → ItemsFor → Name → Move
+first_parameter_moves t.CloseParenthesis i name = on (items_more (with_item i name 0)) []
+first_parameter_moves kind i name = parameter_moves kind i name 0
+
+abbrev pub parameters_more_moves : Terminal → ItemsFor → Name → ℕ → Move
+parameters_more_moves t.Comma i name n = on (a_parameter i name n) []
+parameters_more_moves t.CloseParenthesis i name n = on (items_more (with_item i name n)) []
+parameters_more_moves _ i name n = bad
+
+abbrev pub behind_int_moves : Terminal → ItemsFor → Name → ℕ → Move
+behind_int_moves t.Identifier i name n = on (parameters_more i name n) []
+behind_int_moves kind i name n = parameters_more_moves kind i name n
+
+-- what the token x, of this terminal, does in a state
+unfoldable pub moves : Setting → Lexeme → Terminal → Want → List Frame → Move
+moves s x kind (a_unary n) frames = unary_moves s x (prefix_of kind) (opening_of kind) n frames
+moves s x kind (a_minus n) frames = minus_moves s x (opening_of kind) n frames
+moves s x kind (a_parenthesis n) frames = parenthesis_moves kind n frames
+moves s x kind (behind_name name n) frames = behind_name_moves kind x.at name n frames
+moves s x kind (an_argument name n) frames = argument_moves s x kind name n frames
+moves s x kind (a_pair max at n) frames = pair_moves kind max at n frames
+moves s x kind (a_binder at all n) frames = binder_moves kind at all n frames
+moves s x kind (a_bound_int at all n names) frames = bound_int_moves kind at all n names frames
+moves s x kind (a_bound at all several n names) frames = bound_moves s x kind at all several n names frames
+moves s x kind (bound_more at all several n names) frames = bound_more_moves kind at all several n names frames
+moves s x kind (a_part_bracket at n) frames = part_bracket_moves kind at n frames
+moves s x kind (a_part_name at n) frames = part_name_moves s x kind at n frames
+moves s x kind (a_part_close at name n) frames = part_close_moves kind at name n frames
+moves s x kind (gives f) frames = follows x.at kind f frames
+moves s x kind (a_block blocks) frames = block_moves (heading_of kind) x.at blocks
+moves s x kind (a_brace heading at blocks) frames = brace_moves kind heading at blocks
+moves s x kind (a_line universal at names blocks) frames = line_moves kind universal at names blocks
+moves s x kind (a_name names_for names) frames = name_moves s x kind names_for names
+moves s x kind (names_more names_for names) frames = names_more_moves kind x.at names_for names
+moves s x kind (an_item_line i) frames = item_line_moves s x kind i.typed i
+moves s x kind (an_item i) frames = item_moves s x kind i
+moves s x kind (behind_item i name) frames = behind_item_moves kind i name
+moves s x kind (a_first_parameter i name) frames = first_parameter_moves kind i name
+moves s x kind (a_parameter i name n) frames = parameter_moves kind i name n
+moves s x kind (behind_int i name n) frames = behind_int_moves kind i name n
+moves s x kind (parameters_more i name n) frames = parameters_more_moves kind i name n
+moves s x kind (items_more i) frames = items_more_moves kind i
+
+-- the limits, asked of a move at this offset
+abbrev pub limited : (ℕ → Bool) → (ℕ → Bool) → ℕ → Move → Result (Want × List Frame) ReadRefusal
+limited small shallow at bad = Err (refusal.Syntax at)
+limited small shallow at (on want frames) = Ok (want, frames)
+limited small shallow at (numeral value want frames) = if small value then Ok (want, frames) else Err (refusal.Literal at)
+limited small shallow at (level n want frames) = if shallow n then Ok (want, frames) else Err (refusal.Deep at)
+
+abbrev pub goes_on : (Want → List Frame → Result File ReadRefusal) → Result (Want × List Frame) ReadRefusal → Result File ReadRefusal
+goes_on more (Ok state) = more state.0 state.1
+goes_on more (Err e) = Err e
+
+-- the tokens end, at this offset
+abbrev pub ends : ℕ → Want → Result File ReadRefusal
+ends end (a_block blocks) = if has_problem blocks then Ok (record { blocks = blocks }) else Err (refusal.Syntax end)
+ends end _ = Err (refusal.Syntax end)
+
+-- what the tokens are read as, in a state; they end at this offset
+unfoldable pub run : Setting → ℕ → List Lexeme → Want → List Frame → Result File ReadRefusal
+run s end [] want frames = ends end want
+run s end (x ∷ tokens) want frames = goes_on (run s end tokens) (limited (s.small tokens) (s.shallow tokens) x.at (moves s x x.terminal want frames))

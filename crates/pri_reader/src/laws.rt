@@ -1,0 +1,28 @@
+// What the grammar and the machine that reads it have to do with each other.
+
+ghost use Rattle.pri_reader.specs.Grammar.{IsFile, Setting};
+ghost use Rattle.pri_reader.specs.Machine.{a_block, run};
+ghost use Rattle.pri_reader.specs.Refusals.{AsksNumber, IsCause};
+ghost use Rattle.pri_reader.specs.declared.tree.File.{File};
+ghost use Rattle.pri_reader.specs.declared.tree.ReadRefusal.{ReadRefusal};
+ghost use Rattle.pri_tokens.specs.declared.terminals.Lexeme.{Lexeme};
+ghost use Rattle.std.specs.Prelude.{◌≡◌, List, [], ℕ};
+
+/// Tokens are at most one file, whatever is asked of their numerals and levels.
+#[tactic(auto, using(crate::proofs::CompleteBlocks::one_file))]
+pub fn one_file_law()
+    ensures { (s : Setting) (tokens : List Lexeme) (f : File) (g : File) → IsFile s f tokens → IsFile s g tokens → f ≡ g }
+{}
+
+/// The machine reads tokens as a file exactly where they are derived as that file.
+#[tactic(auto, using(crate::proofs::CompleteBlocks::file_complete))]
+pub fn machine_law()
+    ensures complete { (s : Setting) (end : ℕ) (file : File) (tokens : List Lexeme) → IsFile s file tokens → run s end tokens (a_block []) [] ≡ Ok file }
+    ensures sound { (s : Setting) (end : ℕ) (file : File) (tokens : List Lexeme) → run s end tokens (a_block []) [] ≡ Ok file → IsFile s file tokens }
+{}
+
+/// Where the machine refuses tokens, no tokens behind the refused one make a file; and where it refuses their end, they
+/// are no file.
+pub fn refusal_law()
+    ensures { (s : Setting) (end : ℕ) (tokens : List Lexeme) (e : ReadRefusal) → AsksNumber s.small → AsksNumber s.shallow → run s end tokens (a_block []) [] ≡ Err e → IsCause s end tokens e }
+{}
