@@ -1,5 +1,5 @@
 -- The tidy form of clauses is sorted, each clause once, and none of its clauses is outdone by another one.
-use Rattle.std.proofs.Common.{◌≡◌, Bool, true, false, not, ◌&&◌, List, [], ◌∷◌, sym, ◌∙◌, ap, subst}
+use Rattle.std.proofs.Common.{◌≡◌, Bool, true, false, not, ◌&&◌, List, [], ◌∷◌, refl, sym, ◌∙◌, ap, subst}
 use Rattle.std.specs.Prelude.{All}
 use Rattle.std.specs.List.{AllByRecursion, list_any, filter}
 use Rattle.std.specs.List.Sorted.{IsStrictlySortedBy}
@@ -7,9 +7,9 @@ use Rattle.std.proofs.lemmas.List.Kept.{IsStrictlySortedBy-filter}
 use Rattle.std.proofs.lemmas.List.Elements.{All-from_recursion, recursion_from_All}
 use Rattle.linear_term.proofs.Totals.{by_test}
 use Rattle.clause_set.specs.declared.literal.Literal.{Literal}
-use Rattle.clause_set.specs.Clause.{IsClause}
+use Rattle.clause_set.specs.Clause.{IsClause, IsDnf}
 use Rattle.clause_set.specs.Order.{clause_cmp, is_clause, sorted_once}
-use Rattle.clause_set.specs.Dnfs.{covers, outdoes, is_covered, uncovered, tidied}
+use Rattle.clause_set.specs.Dnfs.{covers, outdoes, is_covered, uncovered, tidied, top}
 use Rattle.clause_set.proofs.Covers.{Among, any_from, any_with, among_filter_back, by_no, not_true}
 use Rattle.clause_set.proofs.Orders.{clause_cmp-equal, is_eq-equal}
 use Rattle.clause_set.proofs.Divisors.{sorted_once-kept}
@@ -65,3 +65,26 @@ unfolding tidied
 tidied-only cs h d c a b k =
     let sorted = sorted_once clause_cmp cs in
     uncovered-only sorted (sorted_once-kept IsClause clause_cmp cs (recursion_from_All IsClause cs h)) d c (held_clause (uncovered sorted) d a) (held_clause (uncovered sorted) c b) k
+
+-- what tidying gives is in form
+pub dnf_of_tidied : (cs d : List (List Literal)) → d ≡ tidied cs → IsDnf d
+dnf_of_tidied cs d is = subst IsDnf (sym is) (record { sorted = tidied-sorted cs; uncovered = tidied-alone cs })
+
+no_clause : tidied [] ≡ []
+unfolding tidied sorted_once
+no_clause = refl
+
+one_clause : tidied top ≡ top
+unfolding tidied sorted_once
+one_clause = refl
+
+pub dnf_of_top : (d : List (List Literal)) → d ≡ top → IsDnf d
+dnf_of_top d is = dnf_of_tidied top d (is ∙ sym one_clause)
+
+pub dnf_of_bottom : (d : List (List Literal)) → d ≡ [] → IsDnf d
+dnf_of_bottom d is = dnf_of_tidied [] d (is ∙ sym no_clause)
+
+pub dnf_of_same : (c d : List (List Literal)) → d ≡ c → IsDnf c → IsDnf d
+dnf_of_same c d is h = subst IsDnf (sym is) h
+
+pub ruleset dnfs = (dnf_of_tidied, dnf_of_top, dnf_of_bottom, dnf_of_same)

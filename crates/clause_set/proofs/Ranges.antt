@@ -1,7 +1,7 @@
 -- Tidying, disjunctions and conjunctions compute no raw number, so their work never leaves the range.
 use Rattle.std.proofs.Common.{◌≡◌, Bool, true, false, cond, List}
 use Rattle.linear_term.specs.declared.range.Place.{Place}
-use Rattle.purse.specs.Trace.{At, End, done, refused, out_of_range, cut, Traced, just, next, step}
+use Rattle.purse.specs.Trace.{At, End, done, refused, out_of_range, cut, just, next, step}
 use Rattle.clause_set.specs.declared.literal.Literal.{Literal}
 use Rattle.clause_set.specs.Dnfs.{tidying, conjunction, disjunction}
 

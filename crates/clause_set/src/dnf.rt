@@ -1,5 +1,6 @@
 // Disjunctive normal forms: disjunctions of clauses, and charged operations on them.
 
+ghost use Rattle.clause_set.specs.Clause.{IsDnf};
 ghost use Rattle.clause_set.specs.Clauses.{clause_of, clauses_of, found};
 ghost use Rattle.clause_set.specs.Dnfs.{combining, conjunction, denied_clauses, denied_literal, disjunction, joined, joined_with, negated_clause, negated_literal, negation, tidied, tidying, top};
 ghost use Rattle.clause_set.specs.Literals.{AreLiterals, dnf_truth, HasDivisor};
@@ -27,10 +28,13 @@ pub struct Dnf {
 impl Model for Dnf {
     ghost use Rattle.std.specs.Prelude.{List};
     ghost use Rattle.clause_set.specs.declared.literal.Literal.{Literal};
+    ghost use Rattle.clause_set.specs.Clause.{IsDnf};
 
     ghost Value = { List (List Literal) };
 
     ghost view = { λ d. d.clauses };
+
+    ghost invariant = { λ d. IsDnf d.clauses };
 }
 
 impl Drop for Dnf {
@@ -41,7 +45,7 @@ impl Drop for Dnf {
 
 impl Dnf {
     /// The disjunction that is true: one clause without literals.
-    #[tactic(auto, using(crate::proofs::Charges::no_literals))]
+    #[tactic(auto, using(crate::proofs::Charges::no_literals, crate::proofs::Canonical::dnfs))]
     pub fn top(alloc: Global) -> Result<Dnf, Memory>
         ensures { IfOk result (λ d. d ≡ top) }
     {
@@ -50,12 +54,20 @@ impl Dnf {
     }
 
     /// The disjunction that is false: no clause.
+    #[tactic(auto, using(crate::proofs::Canonical::dnfs))]
     pub fn bottom(alloc: Global) -> Dnf
         ensures { result ≡ [] }
     {
         Dnf {
             clauses: Items::new(alloc),
         }
+    }
+
+    /// The clauses are in form: this call does nothing, and tells its caller so.
+    pub fn is_dnf(&self)
+        ensures { IsDnf self.now }
+    {
+        let _ = &self.clauses;
     }
 
     /// How many clauses it has.
@@ -81,6 +93,7 @@ impl Dnf {
     }
 
     /// An equal disjunction, or want of memory.
+    #[tactic(auto, using(crate::proofs::Canonical::dnfs))]
     pub fn copy(&self, alloc: Global) -> Result<Dnf, Memory>
         ensures { IfOk result (λ d. d ≡ self.now) }
     {
@@ -90,7 +103,7 @@ impl Dnf {
 
     /// The clauses sorted, each once, without those that another one covers: true where one of them is. It charges the
     /// square of their number.
-    #[tactic(auto, using(crate::proofs::Charges::charges, crate::proofs::Truths::answers))]
+    #[tactic(auto, using(crate::proofs::Charges::charges, crate::proofs::Truths::answers, crate::proofs::Canonical::dnfs))]
     pub fn tidy(alloc: Global, cs: Items<Clause>, purse: &mut Purse) -> Result<Dnf, StepFault>
         ensures charged { Charged (tidying cs) purse.old result purse.new }
         ensures truth { IfOk result (λ d. (e : List ℤ) → dnf_truth d e ≡ dnf_truth cs e) }
