@@ -21,8 +21,8 @@ fn is_related(relation: Relation, left: &i128, right: &i128) -> bool
     }
 }
 
-/// Whether a formula of comparisons of numbers is true, which it then is in every interpretation. A formula with
-/// anything else in it is answered by false.
+/// Whether a formula of comparisons of numbers is true, which it then is in every interpretation. Nothing is said of a
+/// formula with anything else in it.
 #[cycle(evaluate)]
 pub fn is_true(claim: &Typed) -> bool
     ensures { IsGround (formula claim.now) → (w : Meaning) (e : List ℤ) → IsTrue result ↔ Truth w (formula claim.now) e }
