@@ -1,5 +1,5 @@
 -- Negations of literals and clauses are true where these are not.
-use Rattle.std.proofs.Common.{◌≡◌, ◌≢◌, ℤ, pos, negsuc, neg_ℤ, ◌+ℤ◌, ◌*ℤ◌, int_le, Bool, true, false, not, ◌&&◌, ◌||◌, List, [], ◌∷◌, ◌++◌, refl, sym, ◌∙◌, ap, append_assoc, arith}
+use Rattle.std.proofs.Common.{◌≡◌, ◌≢◌, ℤ, pos, negsuc, neg_ℤ, ◌+ℤ◌, ◌*ℤ◌, int_le, Bool, true, false, not, ◌&&◌, ◌||◌, List, [], ◌∷◌, ◌++◌, refl, sym, ◌∙◌, ap, arith}
 use Rattle.std.specs.Prelude.{All, unsigned_abs}
 use Rattle.std.specs.List.{AllByRecursion, flat_map}
 use Rattle.std.specs.Ordering.{int_eq}
@@ -13,6 +13,7 @@ use Rattle.linear_term.specs.Combination.{combination}
 use Rattle.linear_term.proofs.Totals.{value_of-combination, value_of-number}
 use Rattle.linear_term.proofs.Names.{reduced-combination}
 use Rattle.purse.specs.Trace.{Traced, just, step, next, each}
+use Rattle.purse.proofs.Tracing.{each-value}
 use Rattle.clause_set.specs.declared.literal.Literal.{Literal}
 use Rattle.clause_set.specs.declared.literal.Literal.TheVariants.{Eq, Geq, Div, NDiv}
 use Rattle.clause_set.specs.Literals.{literal_truth, clause_truth, dnf_truth, IsLiteral}
@@ -76,11 +77,6 @@ negated_literal-truth (Div d t) e h =
 negated_literal-truth (NDiv d t) e h =
     clauses_of-truth ((Div d t ∷ []) ∷ []) e (alone (Div d t) (record { term = h.term; divisor = h.divisor }), tt) ∙ one-truth (Div d t) e
     ∙ twice_not (divides (unsigned_abs d) (value_of t e))
-
-pub each-value : {C D : Type 0} (f : C → Traced (List D)) (xs : List C) (out : List D) → (each f xs out).value ≡ out ++ flat_map (λ x. (f x).value) xs
-unfolding next just
-each-value f [] out = sym (append-nil out)
-each-value f (x ∷ xs) out = each-value f xs (out ++ (f x).value) ∙ append_assoc out (f x).value (flat_map (λ y. (f y).value) xs)
 
 not_both : (a b : Bool) → (not a || not b) ≡ not (a && b)
 not_both true b = refl

@@ -26,7 +26,8 @@ use Rattle.clause_set.proofs.Terms.{rising-negated}
 use Rattle.clause_set.proofs.NormalTruth.{positive_factor}
 use Rattle.clause_set.proofs.Divisors.{sorted_once-kept, kept-append}
 use Rattle.clause_set.proofs.Operations.{append-literals, and-truth}
-use Rattle.clause_set.proofs.Negations.{alone, less, more, less_is, more_is, each-value, negated_clause-truth}
+use Rattle.purse.proofs.Tracing.{each-value}
+use Rattle.clause_set.proofs.Negations.{alone, less, more, less_is, more_is, negated_clause-truth}
 use Rattle.clause_set.proofs.ClauseTruth.{and_true}
 
 abbrev pub NotZero : List (ℕ × ℤ) → Type 0

@@ -168,7 +168,7 @@ fn clause_literals(alloc: Global, ls: &[Literal]) -> Result<Option<Items<Literal
 
 /// The same literals, or want of memory.
 #[tactic(auto, using(crate::proofs::Walks::copies))]
-pub(crate) fn copy_literals(alloc: Global, ls: &[Literal]) -> Result<Items<Literal>, Memory>
+pub fn copy_literals(alloc: Global, ls: &[Literal]) -> Result<Items<Literal>, Memory>
     ensures { IfOk result (λ copy. copy ≡ ls.now) }
 {
     let mut out = Items::new(alloc);

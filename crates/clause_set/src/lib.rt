@@ -12,13 +12,13 @@ mod normal_form;
 mod order;
 mod weight;
 
-pub use clause::{Clause, normal};
+pub use clause::{Clause, copy_literals, normal};
 pub use dnf::{Dnf, and, not, or};
 pub use laws::{
     canonical_law, covers_law, intervals_law, negation_law, normal_law, operations_law, range_law,
 };
 pub use literal::{Literal, Norm};
-pub use order::Ordered;
+pub use order::{Ordered, sort_once};
 pub use purse::{ElimFault, ElimLog, Entry, Purse, Spent, StepFault};
 
 #[cfg(test)]

@@ -1,15 +1,11 @@
 -- Clauses with one literal apart, and each literal in another's place.
-use Rattle.std.proofs.Common.{◌≡◌, ◌+◌, ℕ, zero, suc, Bool, true, false, ◌&&◌, ◌||◌, cond, List, [], ◌∷◌, ◌++◌, map, Some, refl, sym, ◌∙◌, ap, subst, arith, append_assoc}
+use Rattle.std.proofs.Common.{◌≡◌, ◌+◌, ℕ, zero, suc, Bool, true, false, ◌&&◌, ◌||◌, cond, List, [], ◌∷◌, ◌++◌, map, Some, refl, sym, ◌∙◌, ap, subst, arith}
 use Rattle.std.specs.Prelude.{remove, slice_get, slice_set, count_by}
 use Rattle.std.proofs.lemmas.List.Sums.{sum_by-cons}
 use Rattle.std.specs.List.{list_all, list_any, flat_map, AllByRecursion}
 use Rattle.std.proofs.lemmas.List.{append-nil}
-use Rattle.purse.specs.Trace.{Traced, just, next, each}
-
-pub each-value : {C D : Type 0} (f : C → Traced (List D)) (cs : List C) (out : List D) → (each f cs out).value ≡ out ++ flat_map (λ c. (f c).value) cs
-unfolding next just
-each-value f [] out = sym (append-nil out)
-each-value f (c ∷ cs) out = each-value f cs (out ++ (f c).value) ∙ append_assoc out (f c).value (flat_map (λ d. (f d).value) cs)
+use Rattle.purse.specs.Trace.{Traced, each}
+use Rattle.purse.proofs.Tracing.{each-value}
 
 -- where each step leaves one element
 pub each-map : {C D : Type 0} (f : C → Traced (List D)) (g : C → D) → ((c : C) → (f c).value ≡ g c ∷ []) → (cs : List C) → (each f cs []).value ≡ map g cs

@@ -4,8 +4,8 @@ use Rattle.std.specs.Prelude.{remove, slice_get, slice_set, count_by, All}
 use Rattle.std.specs.List.{AllByRecursion, list_any}
 use Rattle.std.proofs.lemmas.List.Sums.{sum_by-cons}
 use Rattle.std.proofs.lemmas.List.Elements.{All-from_recursion}
-use Rattle.linear_term.specs.Linear.{Linear, coef_of, mentions, has_name, without}
-use Rattle.linear_term.proofs.Names.{combination-unmentioned}
+use Rattle.linear_term.specs.Linear.{Linear, coef_of, mentions, without}
+use Rattle.linear_term.proofs.Names.{without-free, combination-unmentioned}
 use Rattle.linear_term.proofs.Totals.{by_test}
 use Rattle.purse.specs.declared.log.Entry.TheVariants.{Equation, Apart, Merge, Shift}
 use Rattle.clause_set.specs.declared.literal.Literal.{Literal}
@@ -26,18 +26,6 @@ use Rattle.equation_rules.proofs.Applying.{EquationAt, IndivisibilityAt, PairAt,
 use Rattle.equation_rules.proofs.Exactness.{merged_from}
 
 -- ---- terms without x
-gone_step : (x : ℕ) (p : ℕ × ℤ) (ps : List (ℕ × ℤ)) (b : Bool) → nat_eq p.0 x ≡ b → has_name ps x ≡ false → has_name (cond (not b) (p ∷ ps) ps) x ≡ false
-gone_step x p ps true e h = h
-gone_step x p ps false e h = ap (λ b. cond b true (has_name ps x)) e ∙ h
-
-name_gone : (x : ℕ) (ps : List (ℕ × ℤ)) → has_name (filter (λ p. not (nat_eq p.0 x)) ps) x ≡ false
-name_gone x [] = refl
-name_gone x (p ∷ ps) = gone_step x p (filter (λ q. not (nat_eq q.0 x)) ps) (nat_eq p.0 x) refl (name_gone x ps)
-
-without-free : (t : Linear) (x : ℕ) → mentions (without t x) x ≡ false
-unfolding mentions without
-without-free t x = name_gone x t.pairs
-
 -- ---- measures
 abbrev bound_of : ℕ → List Literal → ℕ
 bound_of x c = 2 + 2 * count_by (is_indivisibility x) c + count_by (is_divisibility x) c

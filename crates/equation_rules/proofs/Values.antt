@@ -15,7 +15,8 @@ use Rattle.clause_set.specs.Equations.{size_of, solved, solved_or_kept, equation
 use Rattle.clause_set.specs.Divisibilities.{numbers_from, with_remainder, apart_at, apart, merge_with, merge_at, merge, shifted_bound, shifted, shift_at, shift}
 use Rattle.clause_set.specs.Rules.{rule}
 use Rattle.equation_rules.specs.Results.{scaled_literal, solved_literal, solved_by, equation_results, raised, split_at, apart_results, joined_second, joined_first, merge_results, shifted_term, shifted_literal, shifted_by, shift_results}
-use Rattle.equation_rules.proofs.Lists.{each-value, each-map}
+use Rattle.purse.proofs.Tracing.{each-value}
+use Rattle.equation_rules.proofs.Lists.{each-map}
 
 -- ---- equation
 solved-value : (x : ℕ) (a : ℤ) (s : Linear) (l : Literal) → (solved x a s l).value ≡ scaled_literal x a s l ∷ []

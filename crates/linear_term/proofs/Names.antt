@@ -87,6 +87,18 @@ normal-without t x h = record {
 }
 
 -- a total over the pairs of x and one over the others
+gone_step : (x : ℕ) (p : ℕ × ℤ) (ps : List (ℕ × ℤ)) (b : Bool) → nat_eq p.0 x ≡ b → has_name ps x ≡ false → has_name (cond (not b) (p ∷ ps) ps) x ≡ false
+gone_step x p ps true e h = h
+gone_step x p ps false e h = ap (λ b. cond b true (has_name ps x)) e ∙ h
+
+name_gone : (x : ℕ) (ps : List (ℕ × ℤ)) → has_name (filter (λ p. not (nat_eq p.0 x)) ps) x ≡ false
+name_gone x [] = refl
+name_gone x (p ∷ ps) = gone_step x p (filter (λ q. not (nat_eq q.0 x)) ps) (nat_eq p.0 x) refl (name_gone x ps)
+
+pub without-free : (t : Linear) (x : ℕ) → mentions (without t x) x ≡ false
+unfolding mentions without
+without-free t x = name_gone x t.pairs
+
 total-without_step : (f : ℕ → ℤ → ℤ) (x : ℕ) (p : ℕ × ℤ) (whole rest : ℤ) (ps : List (ℕ × ℤ)) (t : Bool)
     → nat_eq p.0 x ≡ t → rest ≡ whole +ℤ total f ps
     → f p.0 p.1 +ℤ rest ≡ (cond t (f p.0 p.1) (pos 0) +ℤ whole) +ℤ total f (cond (not t) (p ∷ ps) ps)

@@ -18,7 +18,7 @@ pub fn spelling<'a>(bytes: &'a [u8], lexeme: &Lexeme) -> &'a [u8]
 
 /// The value of these decimal digits; none where it is above 2^127 − 1.
 pub fn numeral(digits: &[u8]) -> Option<i128>
-    ensures exact { MatchOption result (2 ^ 127 ≤ decimal_value digits.now) (λ value. value ≡ pos (decimal_value digits.now)) }
+    ensures exact { MatchOption result (2 ^ 127 ≤ decimal_value digits.now) (λ value. (value ≡ pos (decimal_value digits.now)) × (decimal_value digits.now < 2 ^ 127)) }
 {
     let mut value: u128 = 0;
     for digit in digits {

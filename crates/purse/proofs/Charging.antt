@@ -201,6 +201,24 @@ raw_leaves ps x p (Err e) h among leaves = record {
   };
 }
 
+-- ---- loops of calls without a purse
+-- what is left of the work: whatever ends the rest ends the work
+pub record Left {A : Type 0} (rest work : Traced A) : Type 0 where
+  pub ends : (r : Result A StepFault) → Worked rest r → Worked work r
+
+pub left_all : {A : Type 0} (work : Traced A) → Left work work
+left_all work = record { ends = λ r h. h }
+
+pub left_next : {A B : Type 0} (m : Traced A) (g : A → Traced B) {work : Traced B} {v : A} → Left (next m g) work → Worked m (Ok v) → Left (g v) work
+left_next m g inv h = record { ends = λ r rest. inv.ends r (work_ok m g h rest) }
+
+pub left_ends : {A : Type 0} {rest work : Traced A} {r : Result A StepFault} → Left rest work → Worked rest r → Worked work r
+left_ends inv h = inv.ends _ h
+
+-- the value of work that a call did
+pub worked_value : {A : Type 0} {m : Traced A} {v : A} → Worked m (Ok v) → v ≡ m.value
+worked_value h = charged_value (h.each (at (record { budget = 0; spent = 0 }) []))
+
 pub ruleset charging = (then_ok, then_err, then_fault, then_just, no_memory, free)
 
 pub ruleset working = (work_ok, work_err, work_fault, work_just, work_memory)
@@ -208,3 +226,5 @@ pub ruleset working = (work_ok, work_err, work_fault, work_just, work_memory)
 pub ruleset looping = (charging, remains_all, remains_ends, drop-item, drop_all)
 
 pub ruleset logging = (looping, unnoted, after_note)
+
+pub ruleset leaving = (working, left_all, left_ends, drop-item, drop_all)

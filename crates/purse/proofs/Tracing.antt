@@ -1,7 +1,8 @@
 -- Laws of traced work: its value, and work in a row.
-use Rattle.std.proofs.Common.{◌≡◌, ◌++◌, refl, ap, append_assoc}
+use Rattle.std.proofs.Common.{◌≡◌, ◌∙◌, List, [], ◌∷◌, ◌++◌, refl, sym, ap, append_assoc}
+use Rattle.std.specs.List.{flat_map}
 use Rattle.std.proofs.lemmas.List.{append-nil}
-use Rattle.purse.specs.Trace.{Event, Traced, just, step, next}
+use Rattle.purse.specs.Trace.{Event, Traced, just, step, next, each}
 
 pub value-next : {A B : Type 0} (m : Traced A) (f : A → Traced B) → (next m f).value ≡ (f m.value).value
 unfolding next
@@ -35,3 +36,8 @@ just-next m = ap (λ es. record { value = m.value; events = es }) (append-nil m.
 pub next-assoc : {A B C : Type 0} (m : Traced A) (f : A → Traced B) (g : B → Traced C) → next (next m f) g ≡ next m (λ x. next (f x) g)
 unfolding next
 next-assoc m f g = ap (λ es. record { value = (g (f m.value).value).value; events = es }) (append_assoc m.events (f m.value).events (g (f m.value).value).events)
+
+pub each-value : {C D : Type 0} (f : C → Traced (List D)) (xs : List C) (out : List D) → (each f xs out).value ≡ out ++ flat_map (λ x. (f x).value) xs
+unfolding next just
+each-value f [] out = sym (append-nil out)
+each-value f (x ∷ xs) out = each-value f xs (out ++ (f x).value) ∙ append_assoc out (f x).value (flat_map (λ y. (f y).value) xs)

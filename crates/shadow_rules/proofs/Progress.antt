@@ -7,9 +7,9 @@ use Rattle.std.proofs.lemmas.Int.{ints}
 use Rattle.std.proofs.lemmas.List.Folds.{list_any-append, list_any_none}
 use Rattle.std.proofs.lemmas.List.Sums.{AllPass-from_list_all}
 use Rattle.std.proofs.lemmas.List.Elements.{All-nil, All-cons, All-append, All-map, filter_passes}
-use Rattle.linear_term.specs.Linear.{Linear, coef_of, mentions, has_name, without, number}
+use Rattle.linear_term.specs.Linear.{Linear, coef_of, mentions, without, number}
 use Rattle.linear_term.specs.Combination.{combination}
-use Rattle.linear_term.proofs.Names.{combination-unmentioned, coef_of-unmentioned}
+use Rattle.linear_term.proofs.Names.{without-free, combination-unmentioned, coef_of-unmentioned}
 use Rattle.linear_term.proofs.Totals.{by_test, coef_of-combination, coef_of-number}
 use Rattle.purse.specs.declared.log.Entry.TheVariants.{OneSided, Exact, Dark}
 use Rattle.clause_set.specs.declared.literal.Literal.{Literal}
@@ -24,18 +24,6 @@ use Rattle.shadow_rules.proofs.Lists.{All-flat_map}
 use Rattle.shadow_rules.proofs.Split.{lower_sign}
 
 -- ---- terms without x
-gone_step : (x : ℕ) (p : ℕ × ℤ) (ps : List (ℕ × ℤ)) (b : Bool) → nat_eq p.0 x ≡ b → has_name ps x ≡ false → has_name (cond (not b) (p ∷ ps) ps) x ≡ false
-gone_step x p ps true e h = h
-gone_step x p ps false e h = ap (λ b. cond b true (has_name ps x)) e ∙ h
-
-name_gone : (x : ℕ) (ps : List (ℕ × ℤ)) → has_name (filter (λ p. not (nat_eq p.0 x)) ps) x ≡ false
-name_gone x [] = refl
-name_gone x (p ∷ ps) = gone_step x p (filter (λ q. not (nat_eq q.0 x)) ps) (nat_eq p.0 x) refl (name_gone x ps)
-
-without-free : (t : Linear) (x : ℕ) → mentions (without t x) x ≡ false
-unfolding mentions without
-without-free t x = name_gone x t.pairs
-
 number-free : (k : ℤ) (x : ℕ) → mentions (number k) x ≡ false
 unfolding mentions
 number-free k x = refl

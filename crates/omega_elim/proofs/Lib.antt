@@ -1,0 +1,4 @@
+pub mod Filters
+pub mod Results
+pub mod Counting
+pub mod Darkness
