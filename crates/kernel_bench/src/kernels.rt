@@ -1,7 +1,11 @@
 // The kernels: each answers how many monomials it wrote in all.
 
+ghost use Rattle.clause_set.specs.Literals.{HasDivisor};
+ghost use Rattle.std.specs.Prelude.{All, IfOk};
+
 use clause_set::{Clause, Dnf, Literal, Purse, StepFault, and};
 use linear_term::Term;
+use omega_elim::{is_bounded, project};
 use sqlite_items::Items;
 use std::alloc::Global;
 
@@ -14,6 +18,8 @@ pub enum Kernel {
     And(u16),
     /// Putting this many clauses into a normal form.
     Tidy(u16),
+    /// The shadow of this many lower and as many upper bounds of a name, over 8 names.
+    Shadow(u16),
 }
 
 /// Runs a kernel this many times.
@@ -22,6 +28,7 @@ pub fn run(alloc: Global, kernel: Kernel, times: u32) -> Result<u64, StepFault> 
         Kernel::Combine(size) => combine(alloc, size, times),
         Kernel::And(size) => conjoin(alloc, size, times),
         Kernel::Tidy(size) => tidy(alloc, size, times),
+        Kernel::Shadow(size) => shadow(alloc, size, times),
     }
 }
 
@@ -71,8 +78,12 @@ fn clauses(alloc: Global, size: u16) -> Result<Items<Clause>, StepFault> {
 
 /// The monomials of a normal form.
 fn monomials(d: &Dnf) -> u64 {
+    clause_monomials(d.clauses())
+}
+
+fn clause_monomials(clauses: &[Clause]) -> u64 {
     let mut count: u64 = 0;
-    for clause in d.clauses() {
+    for clause in clauses {
         for literal in clause.literals() {
             count = count.saturating_add(literal.term().len() as u64);
         }
@@ -98,6 +109,52 @@ fn tidy(alloc: Global, size: u16, times: u32) -> Result<u64, StepFault> {
     for _ in 0..times {
         let tidied = Dnf::tidy(alloc, clauses(alloc, size)?, &mut purse)?;
         written = written.saturating_add(monomials(&tidied));
+    }
+    Ok(written)
+}
+
+/// a·x_0 + x_1 + .. + x_7 + i·x_own ≥ 0.
+fn bound(alloc: Global, a: i8, own: u32, i: u16) -> Result<Literal, StepFault>
+    ensures { IfOk result HasDivisor }
+{
+    let first = Term::name(alloc, 0);
+    let mut term = Term::combine(
+        i128::from(a),
+        &first,
+        i128::from(i),
+        &Term::name(alloc, own),
+    )?;
+    for name in 1..8 {
+        term = Term::combine(1, &term, 1, &Term::name(alloc, name))?;
+    }
+    Ok(Literal::Geq(term))
+}
+
+/// This many lower bounds and as many upper bounds of x_0.
+#[tactic(auto, using(omega_elim::proofs::Results::pushing))]
+fn bounds(alloc: Global, size: u16) -> Result<Items<Literal>, StepFault>
+    ensures { IfOk result (λ ls. All HasDivisor ls) }
+{
+    let mut out = Items::new(alloc);
+    for i in 0..size {
+        out.push(bound(alloc, 1, 1, i)?)?;
+        out.push(bound(alloc, -2, 2, i)?)?;
+    }
+    Ok(out)
+}
+
+fn shadow(alloc: Global, size: u16, times: u32) -> Result<u64, StepFault> {
+    let mut written: u64 = 0;
+    let Some(c) = Clause::of(alloc, bounds(alloc, size)?)? else {
+        return Ok(written);
+    };
+    if !is_bounded(&c, 0) {
+        return Ok(written);
+    }
+    let mut purse = Purse::new(u64::MAX);
+    for _ in 0..times {
+        let (_, found) = project(alloc, &c, 0, &mut purse)?;
+        written = written.saturating_add(clause_monomials(found.as_slice()));
     }
     Ok(written)
 }

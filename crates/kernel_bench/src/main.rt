@@ -32,6 +32,7 @@ fn named(rt: &HostRuntime) -> Option<(Kernel, u32)> {
         "combine" => Kernel::Combine(size),
         "and" => Kernel::And(size),
         "tidy" => Kernel::Tidy(size),
+        "shadow" => Kernel::Shadow(size),
         _ => return None,
     };
     Some((kernel, times))

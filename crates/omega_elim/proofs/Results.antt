@@ -1,7 +1,7 @@
 -- The literals that a shadow leaves, and the work of the rules.
 use Rattle.std.proofs.Common.{◌≡◌, ◌+◌, ◌*◌, ℕ, ℤ, pos, negsuc, Bool, List, [], ◌∷◌, ◌++◌, map, filter, length, get_or, Result, Ok, Err, IsErrAnd, sym, ◌∙◌, ap, subst}
 use Rattle.std.specs.Prelude.{All}
-use Rattle.std.proofs.lemmas.List.Elements.{All-append, All-filter, All-map, All-weaker}
+use Rattle.std.proofs.lemmas.List.Elements.{All-append, All-cons, All-filter, All-map, All-nil}
 use Rattle.linear_term.specs.Linear.{Linear}
 use Rattle.linear_term.specs.Range.{InRange, all_stay, stays}
 use Rattle.linear_term.proofs.Ranges.{Stays-from_test}
@@ -12,7 +12,7 @@ use Rattle.purse.proofs.Charging.{then_ok, then_err, then_just, free}
 use Rattle.purse.proofs.Charging.{worked_value}
 use Rattle.clause_set.specs.declared.literal.Literal.{Literal}
 use Rattle.clause_set.specs.declared.literal.Literal.TheVariants.{Geq}
-use Rattle.clause_set.specs.Literals.{HasDivisor, IsLiteral}
+use Rattle.clause_set.specs.Literals.{HasDivisor}
 use Rattle.clause_set.specs.Clauses.{clauses_of}
 use Rattle.clause_set.specs.Names.{area, others}
 use Rattle.clause_set.specs.Shadows.{lowers, uppers, shadow_length, exact, exact_pairs}
@@ -34,9 +34,8 @@ use Rattle.clause_set.specs.Names.{product}
 use Rattle.clause_set.specs.Shadows.{factor, shadow, dark_pair}
 
 -- ---- divisors
-pub filter_divisors : (p : Literal → Bool) (c src ls : List Literal) → All IsLiteral c → src ≡ c → ls ≡ filter p src → All HasDivisor ls
-filter_divisors p c src ls literals same is =
-    subst (All HasDivisor) (sym (is ∙ ap (filter p) same)) (All-filter p HasDivisor c (All-weaker IsLiteral HasDivisor (λ l h. h.divisor) c literals))
+pub filter_divisors : (p : Literal → Bool) (c src ls : List Literal) → All HasDivisor c → src ≡ c → ls ≡ filter p src → All HasDivisor ls
+filter_divisors p c src ls divisors same is = subst (All HasDivisor) (sym (is ∙ ap (filter p) same)) (All-filter p HasDivisor c divisors)
 
 inequalities_divisors : (f : Literal → Literal → Linear) (lows ups : List Literal) → All HasDivisor (inequalities f lows ups)
 inequalities_divisors f lows ups =
@@ -49,6 +48,11 @@ shadows_divisors Dark x lows ups ls h = subst (All HasDivisor) (sym (worked_valu
 
 pub append_divisors : (a b new : List Literal) → new ≡ a ++ b → All HasDivisor a → All HasDivisor b → All HasDivisor new
 append_divisors a b new is h k = subst (All HasDivisor) (sym is) (All-append HasDivisor a b h k)
+
+pub pushed_divisor : (a : List Literal) (l : Literal) (new : List Literal) → new ≡ a ++ l ∷ [] → All HasDivisor a → HasDivisor l → All HasDivisor new
+pushed_divisor a l new is h k = append_divisors a (l ∷ []) new is h (All-cons HasDivisor l [] k (All-nil HasDivisor))
+
+pub ruleset pushing = (pushed_divisor, All-nil)
 
 -- ---- the exact shadow
 length_of_shadow : (x : ℕ) (c rest lows ups : List Literal) → rest ≡ others x c → lows ≡ lowers x c → ups ≡ uppers x c → length rest + length lows * length ups ≡ shadow_length x c

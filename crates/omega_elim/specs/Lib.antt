@@ -1,3 +1,4 @@
 pub mod Sides
 pub mod Shadows
 pub mod Splinters
+pub mod Projection

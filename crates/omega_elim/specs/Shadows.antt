@@ -1,12 +1,12 @@
 -- The shadow of a pair of bounds, real or dark, and those of all pairs, with their raw numbers.
-use Rattle.std.specs.Prelude.{ℕ, ℤ, pos, negsuc, ◌-ℤ◌, ◌*ℤ◌, List, [], ◌∷◌}
+use Rattle.std.specs.Prelude.{ℕ, ◌+◌, ◌*◌, ℤ, pos, negsuc, ◌-ℤ◌, ◌*ℤ◌, List, [], ◌∷◌, length, sum_by}
 use Rattle.linear_term.specs.Linear.{Linear, number}
 use Rattle.purse.specs.Trace.{Traced, just, next, compute, each}
 use Rattle.clause_set.specs.declared.literal.Literal.{Literal}
 use Rattle.clause_set.specs.declared.literal.Literal.TheVariants.{Geq}
-use Rattle.clause_set.specs.Names.{product}
+use Rattle.clause_set.specs.Names.{area, product}
 use Rattle.clause_set.specs.Dnfs.{combining}
-use Rattle.clause_set.specs.Shadows.{exact_pair, dark_pair}
+use Rattle.clause_set.specs.Shadows.{lowers, factor, shadow_length, exact_pair, dark_pair, splinter_count}
 use Rattle.omega_elim.specs.declared.shadow.Shadow.{Shadow}
 use Rattle.omega_elim.specs.declared.shadow.Shadow.TheVariants.{Real, Dark}
 
@@ -24,3 +24,7 @@ pair_of Dark x = dark_pair x
 -- the shadows of a lower bound with each upper bound
 abbrev pub row_of : Shadow → ℕ → List Literal → Literal → Traced (List Literal)
 row_of kind x ups low = each (pair_of kind x low) ups []
+
+-- the charge of the dark shadow and its splinters, where a is the greatest coefficient of the upper bounds
+abbrev pub dark_charge : ℕ → List Literal → ℤ → ℕ
+dark_charge x c a = 1 + area (shadow_length x c) c + sum_by (λ low. splinter_count a (factor x low)) (lowers x c) * area (length c + 1) c

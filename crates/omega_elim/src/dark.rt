@@ -1,11 +1,12 @@
 // Bounds of a name on both sides: the dark shadow, where some value surely lies between them, and for the values outside
 // of it the splinters of each lower bound.
 
-ghost use Rattle.clause_set.specs.Names.{area};
+ghost use Rattle.clause_set.specs.Names.{area, others};
 ghost use Rattle.clause_set.specs.Rules.{is_two_sided};
 ghost use Rattle.clause_set.specs.Shadows.{dark, factor, lowers, splinter_count, uppers};
 ghost use Rattle.linear_term.specs.Range.{InRange};
-ghost use Rattle.purse.specs.Trace.{capped};
+ghost use Rattle.omega_elim.specs.Shadows.{dark_charge};
+ghost use Rattle.purse.specs.Trace.{capped, pay};
 ghost use Rattle.purse.specs.Work.{Charged};
 ghost use Rattle.std.specs.Prelude.{◌≡◌, ◌+◌, ◌*◌, ◌<ℤ◌, All, IfOk, length, pos, sum_by, true, ℕ};
 
@@ -46,7 +47,14 @@ fn count_all(lows: &[Literal], x: u32, a: i128) -> u64
 
 /// 1, the literals of the shadow, and for each splinter those of the clause and one more, each with a place for itself
 /// and for each name.
-fn charge(alloc: Global, c: &Clause, others: usize, lows: usize, ups: usize, count: u64) -> Result<u64, Memory>
+fn charge(
+    alloc: Global,
+    c: &Clause,
+    others: usize,
+    lows: usize,
+    ups: usize,
+    count: u64,
+) -> Result<u64, Memory>
     ensures { (k : ℕ) → count ≡ capped k → IfOk result (λ n. n ≡ capped (1 + area (others + lows * ups) c.now + k * area (length c.now + 1) c.now)) }
 {
     let shadow = shadow_charge(alloc, c, others, lows, ups)?;
@@ -54,9 +62,39 @@ fn charge(alloc: Global, c: &Clause, others: usize, lows: usize, ups: usize, cou
     Ok(shadow.saturating_add(count.saturating_mul(each)))
 }
 
+/// Pays for the literals of the dark shadow and of the splinters.
+#[tactic(auto, using(purse::proofs::Charging::charging))]
+fn pay(
+    alloc: Global,
+    c: &Clause,
+    x: u32,
+    rest: usize,
+    lows: &[Literal],
+    ups: &[Literal],
+    a: i128,
+    purse: &mut Purse,
+) -> Result<(), StepFault>
+    requires rest { rest ≡ length (others x c.now) }
+    requires lows { lows.now ≡ lowers x c.now }
+    requires ups { ups.now ≡ uppers x c.now }
+    requires a_positive { pos 0 <ℤ a }
+    ensures { Charged (pay (dark_charge x c.now a)) purse.old result purse.new }
+{
+    let count = count_all(lows, x, a);
+    let whole = charge(alloc, c, rest, lows.len(), ups.len(), count)?;
+    purse.step(whole)
+}
+
 /// The dark shadow, then the splinters of each lower bound.
 #[tactic(auto, using(purse::proofs::Charging::charging))]
-pub(crate) fn dark(alloc: Global, c: &Clause, x: u32, lows: &[Literal], ups: &[Literal], purse: &mut Purse) -> Result<Items<Clause>, StepFault>
+pub(crate) fn dark(
+    alloc: Global,
+    c: &Clause,
+    x: u32,
+    lows: &[Literal],
+    ups: &[Literal],
+    purse: &mut Purse,
+) -> Result<Items<Clause>, StepFault>
     requires lows { lows.now ≡ lowers x c.now }
     requires ups { ups.now ≡ uppers x c.now }
     requires two_sided { is_two_sided x c.now ≡ true }
@@ -65,8 +103,7 @@ pub(crate) fn dark(alloc: Global, c: &Clause, x: u32, lows: &[Literal], ups: &[L
     let a = greatest_factor(ups, x);
     c.is_clause();
     let mut first = literals_on(alloc, c.literals(), x, Side::Without)?;
-    let count = count_all(lows, x, a);
-    purse.step(charge(alloc, c, first.len(), lows.len(), ups.len(), count)?)?;
+    pay(alloc, c, x, first.len(), lows, ups, a, purse)?;
     first.append(shadows(alloc, Shadow::Dark, lows, ups, x)?)?;
     let mut all = Items::new(alloc);
     all.push(first)?;

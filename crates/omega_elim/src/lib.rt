@@ -2,9 +2,15 @@
 // shadow with splinters.
 #![tactic(auto)]
 
+mod bounded;
 mod dark;
 mod exact;
 mod one_sided;
 mod shadow;
 mod sides;
 mod splinter;
+
+pub use bounded::{is_bounded, project};
+
+#[cfg(test)]
+mod tests;

@@ -1,14 +1,14 @@
 // The literals of a clause by what they say of a name, and what they say.
 
-ghost use Rattle.clause_set.specs.Names.{coefficient, has, is_lower, is_upper, remainder};
+ghost use Rattle.clause_set.specs.Names.{coefficient, has, is_bound, is_lower, is_upper, remainder};
 ghost use Rattle.clause_set.specs.Rules.{has_unit};
 ghost use Rattle.clause_set.specs.Shadows.{factor, greatest_factor};
 ghost use Rattle.linear_term.specs.Range.{InRange};
 ghost use Rattle.linear_term.specs.Linear.{mentions};
 ghost use Rattle.omega_elim.specs.Sides.{stands};
-ghost use Rattle.std.specs.List.{list_all};
+ghost use Rattle.std.specs.List.{list_all, list_any};
 ghost use Rattle.std.specs.Ordering.{int_eq};
-ghost use Rattle.std.specs.Prelude.{◌≡◌, filter, IfOk, pos};
+ghost use Rattle.std.specs.Prelude.{◌≡◌, ◌||◌, filter, IfOk, not, pos};
 
 use clause_set::Literal;
 use linear_term::{Memory, Term};
@@ -99,7 +99,7 @@ fn has_unit(l: &Literal, x: u32) -> bool
 }
 
 /// Whether the coefficients of x all have the size 1.
-#[tactic(auto, using(crate::proofs::Filters::tests))]
+#[tactic(auto, using(clause_set::proofs::Walks::walks))]
 pub(crate) fn all_units(ls: &[Literal], x: u32) -> bool
     ensures { result ≡ list_all (has_unit x) ls.now }
 {
@@ -122,4 +122,42 @@ pub(crate) fn greatest_factor(ls: &[Literal], x: u32) -> i128
         most = most.max(factor(l, x));
     }
     most
+}
+
+/// Whether x is in some literal.
+#[tactic(auto, using(clause_set::proofs::Walks::walks))]
+pub(crate) fn has_name(ls: &[Literal], x: u32) -> bool
+    ensures { result ≡ list_any (has x) ls.now }
+{
+    for l in ls {
+        if mentions(l.term(), x) {
+            return true;
+        }
+    }
+    false
+}
+
+/// Whether the literal is an inequality, or without x.
+fn is_free_or_bound(l: &Literal, x: u32) -> bool
+    ensures { result ≡ (not (has x l.now) || is_bound x l.now) }
+{
+    match l {
+        Literal::Eq(t) => !mentions(t, x),
+        Literal::Geq(_) => true,
+        Literal::Div(_, t) => !mentions(t, x),
+        Literal::NDiv(_, t) => !mentions(t, x),
+    }
+}
+
+/// Whether the literals with x are all inequalities.
+#[tactic(auto, using(clause_set::proofs::Walks::walks))]
+pub(crate) fn bounds_alone(ls: &[Literal], x: u32) -> bool
+    ensures { result ≡ list_all (λ l. not (has x l) || is_bound x l) ls.now }
+{
+    for l in ls {
+        if !is_free_or_bound(l, x) {
+            return false;
+        }
+    }
+    true
 }

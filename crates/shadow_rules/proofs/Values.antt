@@ -51,7 +51,7 @@ splinters-of_one : (x : ℕ) (c : List Literal) (a : ℤ) (low : Literal) → (s
 unfolding next just step
 splinters-of_one x c a low = value-each_one (splinter c low) (with_splinter c low) (splinter-value c low) (numbers_from 0 (splinter_count a (factor x low)))
 
-splinters-value : (x : ℕ) (c : List Literal) (a : ℤ) (lows : List Literal) → (each (splinters x c a) lows []).value ≡ flat_map (splinters_of x c a) lows
+pub splinters-value : (x : ℕ) (c : List Literal) (a : ℤ) (lows : List Literal) → (each (splinters x c a) lows []).value ≡ flat_map (splinters_of x c a) lows
 splinters-value x c a lows = value-each (splinters x c a) (splinters_of x c a) (splinters-of_one x c a) lows []
 
 pub one_sided-value : (x : ℕ) (c : List Literal) → (rule x c OneSided).value ≡ clauses_of (one_sided_results x c)

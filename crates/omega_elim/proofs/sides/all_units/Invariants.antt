@@ -1,5 +1,5 @@
 use Rattle.clause_set.specs.Rules.{has_unit}
-use Rattle.omega_elim.proofs.Filters.{Passes}
+use Rattle.clause_set.proofs.Walks.{Passes}
 use Rattle.omega_elim.proofs.sides.all_units.Given as goal
 
 abbrev pub invariant-loop-l : goal.invariant-loop-l

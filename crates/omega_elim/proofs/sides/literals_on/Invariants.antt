@@ -1,5 +1,5 @@
 use Rattle.omega_elim.specs.Sides.{stands}
-use Rattle.omega_elim.proofs.Filters.{Filters}
+use Rattle.clause_set.proofs.Walks.{Filters}
 use Rattle.omega_elim.proofs.sides.literals_on.Given as goal
 
 abbrev pub invariant-loop-l : goal.invariant-loop-l
