@@ -1,4 +1,6 @@
+pub mod BlockReading
 pub mod Classes
 pub mod Grammar
 pub mod Machine
-pub mod Refusals
+pub mod Reading
+pub mod First

@@ -2,9 +2,7 @@
 
 ghost use Rattle.pri_reader.specs.Grammar.{IsFile, Setting};
 ghost use Rattle.pri_reader.specs.Machine.{a_block, run};
-ghost use Rattle.pri_reader.specs.Refusals.{AsksNumber, IsCause};
 ghost use Rattle.pri_reader.specs.declared.tree.File.{File};
-ghost use Rattle.pri_reader.specs.declared.tree.ReadRefusal.{ReadRefusal};
 ghost use Rattle.pri_tokens.specs.declared.terminals.Lexeme.{Lexeme};
 ghost use Rattle.std.specs.Prelude.{◌≡◌, List, [], ℕ};
 
@@ -19,10 +17,4 @@ pub fn one_file_law()
 pub fn machine_law()
     ensures complete { (s : Setting) (end : ℕ) (file : File) (tokens : List Lexeme) → IsFile s file tokens → run s end tokens (a_block []) [] ≡ Ok file }
     ensures sound { (s : Setting) (end : ℕ) (file : File) (tokens : List Lexeme) → run s end tokens (a_block []) [] ≡ Ok file → IsFile s file tokens }
-{}
-
-/// Where the machine refuses tokens, no tokens behind the refused one make a file; and where it refuses their end, they
-/// are no file.
-pub fn refusal_law()
-    ensures { (s : Setting) (end : ℕ) (tokens : List Lexeme) (e : ReadRefusal) → AsksNumber s.small → AsksNumber s.shallow → run s end tokens (a_block []) [] ≡ Err e → IsCause s end tokens e }
 {}

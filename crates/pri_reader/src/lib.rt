@@ -1,11 +1,26 @@
 // The problem files: their grammar, what a file is read as, and the first token that no file has there.
 #![tactic(auto)]
 
+mod binders;
+mod blocks;
 mod classes;
+mod constants;
+mod cursor;
+mod declarations;
+mod expressions;
+mod files;
+mod first;
+mod interpolant;
+mod items;
 mod laws;
+mod names;
+#[cfg(test)]
+mod tests;
 mod tree;
 
-pub use laws::{machine_law, one_file_law, refusal_law};
+pub use files::read;
+pub use first::{completion_law, first_refusal_law};
+pub use laws::{machine_law, one_file_law};
 pub use pri_tokens::{
     Lexeme, Terminal, Token, TokenKind, kind_of, lexemes, numeral, spelling, tokens, tokens_law,
 };

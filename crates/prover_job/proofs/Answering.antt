@@ -70,6 +70,10 @@ pub answers_whole : (w : Meaning) (told : Option (List ℕ)) (bytes : List ℕ) 
 answers_whole w told bytes ends before after whole within met =
     record { bytes = bytes; whole = whole; met = meets_more (TellsVerdict w bytes) (IsFileAnswer w bytes) ends before after (λ answer e. verdict_is w bytes answer within e) met }
 
+-- an answer by its status and its text
+pub same_answer : (status : ℕ) (text : List ℕ) (answer : Answer) → status ≡ answer.status → text ≡ answer.text → record { status = status; text = text } ≡ answer
+same_answer status text answer is same = ap (λ s. record { status = s; text = text }) is ∙ ap (λ t. record { status = answer.status; text = t }) same
+
 -- the answer that tells the verdict meets
 pub meets_verdict : (w : Meaning) (bytes : List ℕ) (verdict : Verdict) (status : ℕ) (text : List ℕ) (ends : ℕ) (before after : Option (List ℕ))
     → IsVerdict w bytes verdict → record { status = status; text = text } ≡ verdict_answer verdict

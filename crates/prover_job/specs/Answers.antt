@@ -1,12 +1,16 @@
 -- What the program answers to its words and to the bytes of the files that they name, and how an answer meets the outside.
 use Rattle.std.specs.Prelude.{◌≡◌, ◌≢◌, ℕ, List, [], ◌∷◌, ◌++◌, Option, Some, None, length, IsTrue, ◌==◌, codes, nat_lt, MatchBool}
 use Rattle.std.specs.List.{list_any}
+use Rattle.std.specs.Fmt.{decimal}
 use Rattle.prover_io.specs.Outside.{IsWhole}
 use Rattle.prover_job.specs.Jobs.{Task, solve}
 use Rattle.formula.specs.Truth.{Meaning}
 use Rattle.prover_job.specs.Verdicts.{IsVerdict}
 use Rattle.prover_job.specs.declared.verdicts.Verdict.{Verdict}
-use Rattle.prover_job.specs.declared.verdicts.Verdict.TheVariants.{Valid, Invalid, Unsupported}
+use Rattle.prover_job.specs.declared.verdicts.Verdict.TheVariants.{Valid, Invalid, Overflow, Refused}
+use Rattle.prover_job.specs.declared.refusals.Refusal.{Refusal}
+use Rattle.prover_job.specs.declared.refusals.RefusalName.{RefusalName}
+use Rattle.prover_job.specs.declared.refusals.RefusalName.TheVariants as name
 
 -- an exit status and the text that goes with it
 pub record Answer : Type 0 where
@@ -25,11 +29,30 @@ words_answer = record { status = 5; text = line (codes "refused words") }
 abbrev pub long_answer : Answer
 long_answer = record { status = 9; text = line (codes "refused: file too long") }
 
+-- the name of a refusal
+abbrev pub name_text : RefusalName → List ℕ
+name_text name.Unsupported = codes "Unsupported"
+name_text name.Syntax = codes "Syntax"
+name_text name.Literal = codes "Literal"
+name_text name.Deep = codes "Deep"
+name_text name.Undeclared = codes "Undeclared"
+name_text name.Redeclared = codes "Redeclared"
+name_text name.Arity = codes "Arity"
+name_text name.Kind = codes "Kind"
+name_text name.NonLinear = codes "NonLinear"
+name_text name.Parts = codes "Parts"
+name_text name.Many = codes "Many"
+
+-- a refusal with its place
+abbrev pub refusal_text : Refusal → List ℕ
+refusal_text r = codes "refused: " ++ (name_text r.name ++ (codes " at " ++ decimal r.at))
+
 -- the answer that tells a verdict
 abbrev pub verdict_answer : Verdict → Answer
 verdict_answer Valid = record { status = 0; text = line (codes "VALID") }
 verdict_answer Invalid = record { status = 1; text = line (codes "INVALID") }
-verdict_answer Unsupported = record { status = 3; text = line (codes "refused: Unsupported at 0") }
+verdict_answer Overflow = record { status = 2; text = line (codes "UNKNOWN: overflow") }
+verdict_answer (Refused r) = record { status = 3; text = line (refusal_text r) }
 
 -- the answer tells the verdict on a file of these bytes in the interpretation
 pub record TellsVerdict (w : Meaning) (bytes : List ℕ) (answer : Answer) : Type 0 where
@@ -91,8 +114,8 @@ AnswersJob w bytes_of (Some (solve file)) ends before after = AnswersFile w (byt
 
 -- the statuses that answers have
 abbrev pub IsAnswerStatus : ℕ → Type 0
-IsAnswerStatus status = IsTrue (list_any (λ s. s == status) (0 ∷ 1 ∷ 3 ∷ 5 ∷ 9 ∷ []))
+IsAnswerStatus status = IsTrue (list_any (λ s. s == status) (0 ∷ 1 ∷ 2 ∷ 3 ∷ 5 ∷ 9 ∷ []))
 
 -- the statuses that a run ends with: those of answers, and 6, 7 and 8
 abbrev pub IsStatus : ℕ → Type 0
-IsStatus ends = IsTrue (list_any (λ s. s == ends) (0 ∷ 1 ∷ 3 ∷ 5 ∷ 6 ∷ 7 ∷ 8 ∷ 9 ∷ []))
+IsStatus ends = IsTrue (list_any (λ s. s == ends) (0 ∷ 1 ∷ 2 ∷ 3 ∷ 5 ∷ 6 ∷ 7 ∷ 8 ∷ 9 ∷ []))

@@ -1,6 +1,4 @@
 pub mod Answers
-pub mod Grammar
-pub mod Ground
 pub mod Jobs
-pub mod Unread
+pub mod Special
 pub mod Verdicts

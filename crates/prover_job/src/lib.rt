@@ -1,11 +1,11 @@
 // The jobs of the prover: the words that name them, and the top call, which does a job over a source and a sink.
 #![tactic(auto)]
 
-mod evaluate;
 mod jobs;
 mod puts;
-mod reader;
+mod refusals;
 mod runs;
+mod special;
 mod statuses;
 mod verdicts;
 mod words;

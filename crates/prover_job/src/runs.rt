@@ -4,24 +4,26 @@ ghost use Rattle.prover_io.specs.Outside.{Broke, Rose};
 ghost use Rattle.formula.specs.Truth.{Meaning};
 ghost use Rattle.prover_job.specs.Answers.{verdict_answer, AnswersFile, AnswersJob, IsAnswerStatus, IsStatus, Meets, TellsVerdict};
 ghost use Rattle.prover_job.specs.Jobs.{files_of, job_of};
-ghost use Rattle.std.specs.Prelude.{◌≡◌, ◌≢◌, ℕ, ◌⊎◌, ◌≤◌, List, map, string_bytes, None, Some, Contains};
+ghost use Rattle.std.specs.Prelude.{◌≡◌, ◌≢◌, ◌<◌, ◌^◌, ℕ, ◌⊎◌, ◌≤◌, length, List, map, string_bytes, None, Some, Contains, IfOk};
 
 use crate::jobs::{Job, WordsFault};
 use crate::puts::put_all;
+use crate::refusals::refusal_text;
 use crate::statuses::{
-    FILE_REFUSED, FILE_TOO_LONG, INVALID, NO_MEMORY, SINK_FAILED, SOURCE_FAILED, VALID,
+    FILE_REFUSED, FILE_TOO_LONG, INVALID, NO_MEMORY, SINK_FAILED, SOURCE_FAILED, UNKNOWN, VALID,
     WORDS_REFUSED,
 };
 use crate::verdicts::{Verdict, judge};
 use crate::words::job;
 use formula::World;
+use linear_term::Memory;
 use prover_io::{ReadFault, Sink, Source, read_all};
 use std::alloc::Global;
 
 // How many bytes a problem's file has at most.
 const FILE: u64 = 1_048_576;
 
-/// Does the job that the words name, and answers the exit status: 0 valid, 1 invalid, 3 the file is refused, 5 the words
+/// Does the job that the words name, and answers the exit status: 0 valid, 1 invalid, 2 unknown, 3 the file is refused, 5 the words
 /// name no job, 6 the source failed, 7 the sink failed, 8 no memory, 9 the file is too long. The interpretation has no
 /// call, so what is promised in it is promised in every one.
 #[tactic(auto, using(crate::proofs::Answering::answering))]
@@ -69,6 +71,7 @@ fn solve<S: Source, K: Sink>(alloc: Global, file: &str, source: &mut S, sink: &m
 // Answers the verdict on a file's bytes.
 #[tactic(auto, using(crate::proofs::Answering::answering))]
 fn put_verdict<K: Sink>(alloc: Global, bytes: &[u8], sink: &mut K) -> u8
+    requires { length bytes.now < 2 ^ 32 }
     ensures met { (w : Meaning) → Meets (TellsVerdict w bytes.now) result (K.taken sink.old) (K.taken sink.new) }
     ensures never { result ≢ 6 }
     ensures sink_failed { result ≡ 7 → Rose (K.faults sink.old) (K.faults sink.new) }
@@ -78,19 +81,38 @@ fn put_verdict<K: Sink>(alloc: Global, bytes: &[u8], sink: &mut K) -> u8
     let Ok(verdict) = judge(alloc, bytes) else {
         return NO_MEMORY;
     };
-    let (status, text) = status_and_text(verdict);
-    put_answer(sink, status, text)
+    let Ok(text) = verdict_text(alloc, verdict) else {
+        return NO_MEMORY;
+    };
+    put_answer(sink, verdict_status(verdict), text.as_slice())
 }
 
-// The exit status and the line that tell a verdict.
-fn status_and_text(verdict: Verdict) -> (u8, &'static [u8])
-    ensures tells { record { status = result.0; text = result.1.now } ≡ verdict_answer verdict }
-    ensures status { IsAnswerStatus result.0 }
+// The exit status that tells a verdict.
+fn verdict_status(verdict: Verdict) -> u8
+    ensures tells { result ≡ (verdict_answer verdict).status }
+    ensures status { IsAnswerStatus result }
 {
     match verdict {
-        Verdict::Valid => (VALID, b"VALID\n"),
-        Verdict::Invalid => (INVALID, b"INVALID\n"),
-        Verdict::Unsupported => (FILE_REFUSED, b"refused: Unsupported at 0\n"),
+        Verdict::Valid => VALID,
+        Verdict::Invalid => INVALID,
+        Verdict::Overflow => UNKNOWN,
+        Verdict::Refused(_) => FILE_REFUSED,
+    }
+}
+
+// The line that tells a verdict.
+fn verdict_text(alloc: Global, verdict: Verdict) -> Result<Vec<u8>, Memory>
+    ensures { IfOk result (λ text. text.items ≡ (verdict_answer verdict).text) }
+{
+    match verdict {
+        Verdict::Valid => Ok(Vec::from_slice(alloc, b"VALID\n")?),
+        Verdict::Invalid => Ok(Vec::from_slice(alloc, b"INVALID\n")?),
+        Verdict::Overflow => Ok(Vec::from_slice(alloc, b"UNKNOWN: overflow\n")?),
+        Verdict::Refused(refusal) => {
+            let mut text = refusal_text(alloc, refusal)?;
+            text.push(b'\n')?;
+            Ok(text)
+        }
     }
 }
 

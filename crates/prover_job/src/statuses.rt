@@ -4,6 +4,8 @@ pub const VALID: u8 = 0;
 
 pub const INVALID: u8 = 1;
 
+pub const UNKNOWN: u8 = 2;
+
 pub const FILE_REFUSED: u8 = 3;
 
 pub const WORDS_REFUSED: u8 = 5;

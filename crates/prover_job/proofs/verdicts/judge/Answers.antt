@@ -1,8 +1,7 @@
-use Rattle.prover_job.proofs.Judging.{judged_true, judged_false}
 use Rattle.prover_job.proofs.verdicts.judge.Goals as goal
 
-pub returns-then-is_true : goal.returns-then-is_true
-returns-then-is_true c = judged_true c.is_true.result c.in-Ok.ensures.read c.is_true.ensures c.if-is_true.true
+pub judge_file-requires : goal.judge_file-requires
+judge_file-requires c = record { bytes = c.args.bytes.now; few = c.requires; read = c.in-Ok.ensures.found }
 
-pub returns : goal.returns
-returns c = judged_false c.is_true.result c.in-Ok.ensures.read c.is_true.ensures c.if-is_true.false
+pub returns-in-Ok : goal.returns-in-Ok
+returns-in-Ok c = c.judge_file.ensures c.args.bytes.now c.in-Ok.ensures.found

@@ -1,0 +1,11 @@
+// The happy path; sums and products at the ends of the range are tried by whole problem files in prover_job.
+
+use crate::decide;
+use formula::Typed;
+
+#[test]
+#[tactic(auto, using(crate::proofs::Steps::ground_truth))]
+fn truth_is_true(rt: HostRuntime) {
+    let claim = Typed::Truth(true);
+    assert!(rt; decide(&claim) == Some(true));
+}

@@ -1,0 +1,58 @@
+-- How a function of the reader fails as the file does.
+use Rattle.std.proofs.Common.{◌≡◌, ◌<◌, ℕ, Bool, List, length, arith, Result, Ok, Err, sym, subst}
+use Rattle.std.specs.Result.{IfErr, IfOk, IsErrAnd}
+use Rattle.std.proofs.lemmas.Result.{err_from_is_err_and}
+use Rattle.pri_tokens.specs.declared.terminals.Terminal.{Terminal}
+use Rattle.pri_tokens.specs.declared.terminals.Lexeme.{Lexeme}
+use Rattle.pri_reader.specs.declared.tree.File.{File}
+use Rattle.pri_reader.specs.declared.tree.ReadRefusal.{ReadRefusal}
+use Rattle.pri_reader.specs.declared.tree.ReadRefusal.TheVariants as refusal
+use Rattle.pri_reader.specs.Grammar.{Takes}
+use Rattle.pri_reader.specs.Machine.{Want, Frame}
+use Rattle.pri_reader.specs.declared.tree.Comparison.{Comparison}
+use Rattle.pri_reader.specs.declared.classes.Prefix.{Prefix}
+use Rattle.pri_reader.specs.declared.classes.Heading.{Heading}
+use Rattle.pri_reader.specs.declared.classes.Opening.{Opening}
+use Rattle.pri_reader.specs.Reading.{Adds, Begins, Compares, FailsWith, Heads, IsRefused, Prefixes}
+
+-- the outcome is that of what was left to do, and that fails
+pub through : {outcome inner : Result File ReadRefusal} (e : ReadRefusal) → outcome ≡ inner → FailsWith e inner → FailsWith e outcome
+through e p h = subst (FailsWith e) (sym p) h
+
+-- want of memory says nothing of the file
+pub memory : {b : List ℕ} {want : Want} {above : List Frame} {tokens : List Lexeme} {e : ReadRefusal} → e ≡ refusal.Memory → IsRefused b want above tokens e
+memory h = rw h (record { run = λ frames. tt })
+
+-- a `?` hands on the refusal of the call before it
+pub fails : {A : Type 0} {e : ReadRefusal} (r : Result A ReadRefusal) (P : ReadRefusal → Type 0) → IsErrAnd r (λ x. x ≡ e) → P e → IfErr r P
+fails r P h p = let q = err_from_is_err_and r h in rw (q.1, q.2) p
+
+-- the result of the last call is handed on
+pub handed_err : {A : Type 0} (r : Result A ReadRefusal) (P Q : ReadRefusal → Type 0) → IfErr r P → ((e : ReadRefusal) → P e → Q e) → IfErr r Q
+handed_err (Ok x) P Q h f = tt
+handed_err (Err e) P Q h f = f e h
+
+pub handed_ok : {A : Type 0} (r : Result A ReadRefusal) (P Q : A → Type 0) → IfOk r P → ((x : A) → P x → Q x) → IfOk r Q
+handed_ok (Ok x) P Q h f = f x h
+handed_ok (Err e) P Q h f = tt
+
+-- a token less stands behind a token
+pub takes_shorter : {k : Terminal} {x : Lexeme} {tokens rest : List Lexeme} → Takes k x tokens rest → length rest < length tokens
+takes_shorter {rest = rest} s = rw s.parts (omega arith)
+
+pub adds_shorter : {sign : Bool} {tokens rest : List Lexeme} → Adds sign tokens rest → length rest < length tokens
+adds_shorter {rest = rest} s = rw s.parts (omega arith)
+
+pub compares_shorter : {sign : Comparison} {tokens rest : List Lexeme} → Compares sign tokens rest → length rest < length tokens
+compares_shorter {rest = rest} s = rw s.parts (omega arith)
+
+pub prefixes_shorter : {p : Prefix} {x : Lexeme} {tokens rest : List Lexeme} → Prefixes p x tokens rest → length rest < length tokens
+prefixes_shorter {rest = rest} s = rw s.parts (omega arith)
+
+pub begins_shorter : {o : Opening} {x : Lexeme} {tokens rest : List Lexeme} → Begins o x tokens rest → length rest < length tokens
+begins_shorter {rest = rest} s = rw s.parts (omega arith)
+
+pub heads_shorter : {heading : Heading} {x : Lexeme} {tokens rest : List Lexeme} → Heads heading x tokens rest → length rest < length tokens
+heads_shorter {rest = rest} s = rw s.parts (omega arith)
+
+pub ruleset shorter = (takes_shorter, heads_shorter, adds_shorter, compares_shorter, prefixes_shorter, begins_shorter)

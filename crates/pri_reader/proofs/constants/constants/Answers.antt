@@ -1,0 +1,31 @@
+use Rattle.std.proofs.Common.{arith}
+use Rattle.pri_reader.proofs.ConstantLines.{lines_begin, lines_end, lines_next, lines_no_brace, lines_no_end, lines_no_name, lines_none}
+use Rattle.pri_reader.proofs.Exits.{fails, takes_shorter}
+use Rattle.pri_reader.proofs.constants.constants.Goals as goal
+
+pub returns-in_err-inner-clause-refused : goal.returns-in_err-inner-clause-refused
+returns-in_err-inner-clause-refused c = fails _ _ c.from_residual.ensures.1 (lines_no_brace c.in_err-inner.ensures.failed)
+
+pub lines-init : goal.lines-init
+lines-init c = record {
+  leads = rw c.new-all.ensures (lines_begin c.in_ok-inner.ensures.found);
+  shorter = takes_shorter c.in_ok-inner.ensures.found;
+}
+
+pub returns-in-Some-clause-read : goal.returns-in-Some-clause-read
+returns-in-Some-clause-read c = rw c.block_of.ensures (lines_end c.lines.invariant.leads c.in-Some.ensures)
+
+pub returns-in_err-int-clause-refused : goal.returns-in_err-int-clause-refused
+returns-in_err-int-clause-refused c = fails _ _ c.from_residual-in_err-int.ensures.1 (lines_none c.lines.invariant.leads c.in_default.ensures c.in_err-int.ensures.failed)
+
+pub returns-in_err-more-clause-refused : goal.returns-in_err-more-clause-refused
+returns-in_err-more-clause-refused c = fails _ _ c.from_residual-in_err-more.ensures.1 (lines_no_name c.lines.invariant.leads c.in_ok-int.ensures.found c.in_err-more.ensures.refused)
+
+pub returns-in_err-behind-clause-refused : goal.returns-in_err-behind-clause-refused
+returns-in_err-behind-clause-refused c = fails _ _ c.from_residual-in_err-behind.ensures.1 (lines_no_end c.lines.invariant.leads c.in_ok-int.ensures.found c.in_ok-more.ensures.read c.in_ok-more.ensures.ended c.in_err-behind.ensures.failed)
+
+pub lines-preserved : goal.lines-preserved
+lines-preserved c = record {
+  leads = rw c.in_ok-append.ensures (lines_next c.lines.invariant.leads c.in_ok-int.ensures.found c.in_ok-more.ensures.read c.in_ok-behind.ensures.found);
+  shorter = omega (arith, c.lines.invariant.shorter, takes_shorter c.in_ok-int.ensures.found, c.in_ok-more.ensures.shorter, takes_shorter c.in_ok-behind.ensures.found);
+}

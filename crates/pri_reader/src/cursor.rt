@@ -1,0 +1,124 @@
+// The next tokens: which one comes, and what it is refused as.
+
+ghost use Rattle.pri_reader.specs.Grammar.{Takes, name_of};
+ghost use Rattle.pri_reader.specs.Reading.{Adds, AddsNone, Begins, BeginsNone, Compares, ComparesNone, Heads, HeadsNone, NoRoom, NotNext, Opened, Prefixes, PrefixesNone, Unwanted, file_setting, place};
+ghost use Rattle.std.specs.Prelude.{◌≡◌, ◌≤◌, ◌<◌, ◌+◌, IfErr, IfOk, MatchOption, length};
+
+use crate::classes::{
+    Heading, Opening, Prefix, adding, comparison, headed_by, opened_by, prefixed_by,
+};
+use crate::tree::{Comparison, Name, ReadRefusal};
+use pri_tokens::{Lexeme, Terminal, spelling};
+use sqlite_items::Items;
+use std::alloc::Global;
+
+/// The greatest number of levels that are open at once.
+const LEVELS: u32 = 200;
+
+/// The refusal of the next token, or of the end of the file.
+pub fn refused(bytes: &[u8], tokens: &[Lexeme]) -> ReadRefusal
+    ensures { result ≡ ReadRefusal.Syntax (place (length bytes.now) tokens.now) }
+{
+    let Some((first, _)) = tokens.split_first() else {
+        return ReadRefusal::Syntax(bytes.len() as u64);
+    };
+    ReadRefusal::Syntax(first.at)
+}
+
+/// The next token and those behind it, where it has this terminal.
+pub fn after(tokens: &[Lexeme], terminal: Terminal) -> Option<(Lexeme, &[Lexeme])>
+    ensures { MatchOption result (NotNext terminal tokens.now) (λ x. Takes terminal x.0 tokens.now x.1.now) }
+{
+    let (first, rest) = tokens.split_first()?;
+    let first = *first;
+    if first.terminal == terminal {
+        return Some((first, rest));
+    }
+    None
+}
+
+/// The next token, which has to have this terminal, and those behind it.
+pub fn sign<'a>(
+    bytes: &[u8],
+    tokens: &'a [Lexeme],
+    terminal: Terminal,
+) -> Result<(Lexeme, &'a [Lexeme]), ReadRefusal>
+    ensures found { IfOk result (λ x. Takes terminal x.0 tokens.now x.1.now) }
+    ensures failed { IfErr result (Unwanted terminal bytes.now tokens.now) }
+{
+    match after(tokens, terminal) {
+        Some(found) => Ok(found),
+        None => Err(refused(bytes, tokens)),
+    }
+}
+
+/// The sign before one more term, true for a minus, and the tokens behind it.
+pub fn added(tokens: &[Lexeme]) -> Option<(bool, &[Lexeme])>
+    ensures { MatchOption result (AddsNone tokens.now) (λ x. Adds x.0 tokens.now x.1.now) }
+{
+    let (first, rest) = tokens.split_first()?;
+    let sign = adding(first.terminal)?;
+    Some((sign, rest))
+}
+
+/// The comparison that comes next, and the tokens behind it.
+pub fn compared(tokens: &[Lexeme]) -> Option<(Comparison, &[Lexeme])>
+    ensures { MatchOption result (ComparesNone tokens.now) (λ x. Compares x.0 tokens.now x.1.now) }
+{
+    let (first, rest) = tokens.split_first()?;
+    let sign = comparison(first.terminal)?;
+    Some((sign, rest))
+}
+
+/// The formula that is no relation which the next token begins, that token, and those behind it.
+pub fn prefix(tokens: &[Lexeme]) -> Option<(Prefix, Lexeme, &[Lexeme])>
+    ensures { MatchOption result (PrefixesNone tokens.now) (λ x. Prefixes x.0 x.1 tokens.now x.2.now) }
+{
+    let (first, rest) = tokens.split_first()?;
+    let first = *first;
+    let prefix = prefixed_by(first.terminal)?;
+    Some((prefix, first, rest))
+}
+
+/// The term, or the formula in parentheses, which the next token begins, that token, and those behind it.
+pub fn opening(tokens: &[Lexeme]) -> Option<(Opening, Lexeme, &[Lexeme])>
+    ensures { MatchOption result (BeginsNone tokens.now) (λ x. Begins x.0 x.1 tokens.now x.2.now) }
+{
+    let (first, rest) = tokens.split_first()?;
+    let first = *first;
+    let opening = opened_by(first.terminal)?;
+    Some((opening, first, rest))
+}
+
+/// The block which the next token begins, that token, and those behind it.
+pub fn heading(tokens: &[Lexeme]) -> Option<(Heading, Lexeme, &[Lexeme])>
+    ensures { MatchOption result (HeadsNone tokens.now) (λ x. Heads x.0 x.1 tokens.now x.2.now) }
+{
+    let (first, rest) = tokens.split_first()?;
+    let first = *first;
+    let heading = headed_by(first.terminal)?;
+    Some((heading, first, rest))
+}
+
+/// One level more; Deep at this token where 200 are open.
+pub fn deeper(depth: u32, at: u64) -> Result<u32, ReadRefusal>
+    ensures found { IfOk result (Opened depth) }
+    ensures failed { IfErr result (NoRoom depth at) }
+{
+    if depth >= LEVELS {
+        return Err(ReadRefusal::Deep(at));
+    }
+    Ok(depth + 1)
+}
+
+/// The name that an identifier is.
+pub fn name(alloc: Global, bytes: &[u8], lexeme: &Lexeme) -> Result<Name, ReadRefusal>
+    ensures exact { IfOk result (λ name. name ≡ name_of (file_setting bytes.now) lexeme.now) }
+    ensures failed { IfErr result (λ e. e ≡ ReadRefusal.Memory) }
+{
+    let text = Items::from_slice(alloc, spelling(bytes, lexeme))?;
+    Ok(Name {
+        at: lexeme.at,
+        text,
+    })
+}

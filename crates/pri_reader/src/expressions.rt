@@ -1,0 +1,485 @@
+// Formulas and terms, by recursive descent: one function for each line of the grammar. Each opens its levels as their
+// tokens are taken, and fails at the first token that no file has there.
+
+ghost use Rattle.pri_reader.specs.Grammar.{conjunction, disjunction, equivalence, expr, implication, paired};
+ghost use Rattle.pri_reader.specs.Machine.{a_binder, a_minus, a_pair, a_parenthesis, a_part_bracket, a_unary, arguments_of, behind_name, test_of, under_chain, under_product, under_rel, under_right, under_sum};
+ghost use Rattle.pri_reader.specs.Reading.{IsRead, IsRefused};
+ghost use Rattle.std.specs.Prelude.{◌≡◌, ℕ, ◌≤◌, ◌<◌, ◌∷◌, [], IfErr, IfOk, length};
+
+use crate::binders::binder;
+use crate::classes::{Opening, Prefix};
+use crate::cursor::{added, after, compared, deeper, name, opening, prefix, refused, sign};
+use crate::tree::{Added, Expr, Form, Name, ReadRefusal};
+use pri_tokens::{Lexeme, Terminal, numeral, spelling};
+use sqlite_items::{Boxed, Items};
+use std::alloc::Global;
+
+/// iff = imp [ `<->` iff ]
+#[cycle(reader)]
+#[tactic(auto, using(crate::proofs::Exits::memory, crate::proofs::Exits::shorter))]
+pub fn whole<'a>(
+    alloc: Global,
+    bytes: &[u8],
+    tokens: &'a [Lexeme],
+    depth: u32,
+) -> Result<(Boxed<Expr>, &'a [Lexeme]), ReadRefusal>
+    requires { depth ≤ 200 }
+    ensures read { IfOk result (λ x. IsRead bytes.now (a_unary depth) (under_right equivalence depth []) x.0 tokens.now x.1.now) }
+    ensures refused { IfErr result (IsRefused bytes.now (a_unary depth) (under_right equivalence depth []) tokens.now) }
+    ensures shorter { IfOk result (λ x. length x.1.now < length tokens.now) }
+{
+    let (first, rest) = imp(alloc, bytes, tokens, depth)?;
+    let Some((sign, inner)) = after(rest, Terminal::Iff) else {
+        return Ok((first, rest));
+    };
+    let depth = deeper(depth, sign.at)?;
+    let (second, behind) = whole(alloc, bytes, inner, depth)?;
+    let at = first.get().at;
+    let form = Form::Iff(first, second);
+    Ok((Boxed::new(alloc, Expr { at, form })?, behind))
+}
+
+/// imp = or [ `->` imp ]
+#[cycle(reader)]
+#[tactic(auto, using(crate::proofs::Exits::memory, crate::proofs::Exits::shorter))]
+fn imp<'a>(
+    alloc: Global,
+    bytes: &[u8],
+    tokens: &'a [Lexeme],
+    depth: u32,
+) -> Result<(Boxed<Expr>, &'a [Lexeme]), ReadRefusal>
+    requires { depth ≤ 200 }
+    ensures read { IfOk result (λ x. IsRead bytes.now (a_unary depth) (under_right implication depth []) x.0 tokens.now x.1.now) }
+    ensures refused { IfErr result (IsRefused bytes.now (a_unary depth) (under_right implication depth []) tokens.now) }
+    ensures shorter { IfOk result (λ x. length x.1.now < length tokens.now) }
+{
+    let (first, rest) = or(alloc, bytes, tokens, depth)?;
+    let Some((sign, inner)) = after(rest, Terminal::Implies) else {
+        return Ok((first, rest));
+    };
+    let depth = deeper(depth, sign.at)?;
+    let (second, behind) = imp(alloc, bytes, inner, depth)?;
+    let at = first.get().at;
+    let form = Form::Implies(first, second);
+    Ok((Boxed::new(alloc, Expr { at, form })?, behind))
+}
+
+/// or = and { `|` and }
+#[cycle(reader)]
+#[tactic(auto, using(crate::proofs::Exits::memory, crate::proofs::Exits::shorter))]
+fn or<'a>(
+    alloc: Global,
+    bytes: &[u8],
+    tokens: &'a [Lexeme],
+    depth: u32,
+) -> Result<(Boxed<Expr>, &'a [Lexeme]), ReadRefusal>
+    requires { depth ≤ 200 }
+    ensures read { IfOk result (λ x. IsRead bytes.now (a_unary depth) (under_chain disjunction depth []) x.0 tokens.now x.1.now) }
+    ensures refused { IfErr result (IsRefused bytes.now (a_unary depth) (under_chain disjunction depth []) tokens.now) }
+    ensures shorter { IfOk result (λ x. length x.1.now < length tokens.now) }
+{
+    let (first, rest) = and(alloc, bytes, tokens, depth)?;
+    let Some((_, mut inner)) = after(rest, Terminal::Or) else {
+        return Ok((first, rest));
+    };
+    let at = first.get().at;
+    let mut members = Items::new(alloc);
+    members.push(first.into_inner())?;
+    'members: loop {
+        let (member, behind) = and(alloc, bytes, inner, depth)?;
+        members.push(member.into_inner())?;
+        let Some((_, more)) = after(behind, Terminal::Or) else {
+            let form = Form::Or(members);
+            return Ok((Boxed::new(alloc, Expr { at, form })?, behind));
+        };
+        inner = more;
+    }
+}
+
+/// and = unary { `&` unary }
+#[cycle(reader)]
+#[tactic(auto, using(crate::proofs::Exits::memory, crate::proofs::Exits::shorter))]
+fn and<'a>(
+    alloc: Global,
+    bytes: &[u8],
+    tokens: &'a [Lexeme],
+    depth: u32,
+) -> Result<(Boxed<Expr>, &'a [Lexeme]), ReadRefusal>
+    requires { depth ≤ 200 }
+    ensures read { IfOk result (λ x. IsRead bytes.now (a_unary depth) (under_chain conjunction depth []) x.0 tokens.now x.1.now) }
+    ensures refused { IfErr result (IsRefused bytes.now (a_unary depth) (under_chain conjunction depth []) tokens.now) }
+    ensures shorter { IfOk result (λ x. length x.1.now < length tokens.now) }
+{
+    let (first, rest) = unary(alloc, bytes, tokens, depth)?;
+    let Some((_, mut inner)) = after(rest, Terminal::And) else {
+        return Ok((first, rest));
+    };
+    let at = first.get().at;
+    let mut members = Items::new(alloc);
+    members.push(first.into_inner())?;
+    'members: loop {
+        let (member, behind) = unary(alloc, bytes, inner, depth)?;
+        members.push(member.into_inner())?;
+        let Some((_, more)) = after(behind, Terminal::And) else {
+            let form = Form::And(members);
+            return Ok((Boxed::new(alloc, Expr { at, form })?, behind));
+        };
+        inner = more;
+    }
+}
+
+/// unary = `!` unary, or quantifier unary, or `\part` [ identifier ] unary, or rel
+#[cycle(reader)]
+#[tactic(auto, using(crate::proofs::Exits::memory, crate::proofs::Exits::shorter))]
+fn unary<'a>(
+    alloc: Global,
+    bytes: &[u8],
+    tokens: &'a [Lexeme],
+    depth: u32,
+) -> Result<(Boxed<Expr>, &'a [Lexeme]), ReadRefusal>
+    requires { depth ≤ 200 }
+    ensures read { IfOk result (λ x. IsRead bytes.now (a_unary depth) [] x.0 tokens.now x.1.now) }
+    ensures refused { IfErr result (IsRefused bytes.now (a_unary depth) [] tokens.now) }
+    ensures shorter { IfOk result (λ x. length x.1.now < length tokens.now) }
+{
+    let Some((prefix, first, inner)) = prefix(tokens) else {
+        return rel(alloc, bytes, tokens, depth);
+    };
+    let at = first.at;
+    match prefix {
+        Prefix::Not => {
+            let depth = deeper(depth, at)?;
+            let (operand, rest) = unary(alloc, bytes, inner, depth)?;
+            let form = Form::Not(operand);
+            Ok((Boxed::new(alloc, Expr { at, form })?, rest))
+        }
+        Prefix::Quantifier(all) => quantified(alloc, bytes, inner, depth, at, all),
+        Prefix::Part => {
+            let depth = deeper(depth, at)?;
+            part(alloc, bytes, inner, depth, at)
+        }
+    }
+}
+
+/// Behind a quantifier: its binder, and the unary formula that is its body.
+#[cycle(reader)]
+#[tactic(auto, using(crate::proofs::Exits::memory, crate::proofs::Exits::shorter))]
+fn quantified<'a>(
+    alloc: Global,
+    bytes: &[u8],
+    tokens: &'a [Lexeme],
+    depth: u32,
+    at: u64,
+    all: bool,
+) -> Result<(Boxed<Expr>, &'a [Lexeme]), ReadRefusal>
+    requires { depth ≤ 200 }
+    ensures read { IfOk result (λ x. IsRead bytes.now (a_binder at all depth) [] x.0 tokens.now x.1.now) }
+    ensures refused { IfErr result (IsRefused bytes.now (a_binder at all depth) [] tokens.now) }
+    ensures shorter { IfOk result (λ x. length x.1.now < length tokens.now) }
+{
+    let (names, depth, body) = binder(alloc, bytes, tokens, depth)?;
+    let (scope, rest) = unary(alloc, bytes, body, depth)?;
+    let form = Form::Quantified(all, names, scope);
+    Ok((Boxed::new(alloc, Expr { at, form })?, rest))
+}
+
+/// Behind `\part`: `[` identifier `]` unary.
+#[cycle(reader)]
+#[tactic(auto, using(crate::proofs::Exits::memory, crate::proofs::Exits::shorter))]
+fn part<'a>(
+    alloc: Global,
+    bytes: &[u8],
+    tokens: &'a [Lexeme],
+    depth: u32,
+    at: u64,
+) -> Result<(Boxed<Expr>, &'a [Lexeme]), ReadRefusal>
+    requires { depth ≤ 200 }
+    ensures read { IfOk result (λ x. IsRead bytes.now (a_part_bracket at depth) [] x.0 tokens.now x.1.now) }
+    ensures refused { IfErr result (IsRefused bytes.now (a_part_bracket at depth) [] tokens.now) }
+    ensures shorter { IfOk result (λ x. length x.1.now < length tokens.now) }
+{
+    let (_, inner) = sign(bytes, tokens, Terminal::OpenBracket)?;
+    let (identifier, close) = sign(bytes, inner, Terminal::Identifier)?;
+    let (_, body) = sign(bytes, close, Terminal::CloseBracket)?;
+    let name = name(alloc, bytes, &identifier)?;
+    let (scope, rest) = unary(alloc, bytes, body, depth)?;
+    let form = Form::Part(name, scope);
+    Ok((Boxed::new(alloc, Expr { at, form })?, rest))
+}
+
+/// rel = sum [ (`=`, `!=`, `<`, `<=`, `>` or `>=`) sum ]
+#[cycle(reader)]
+#[tactic(auto, using(crate::proofs::Exits::memory, crate::proofs::Exits::shorter))]
+fn rel<'a>(
+    alloc: Global,
+    bytes: &[u8],
+    tokens: &'a [Lexeme],
+    depth: u32,
+) -> Result<(Boxed<Expr>, &'a [Lexeme]), ReadRefusal>
+    requires { depth ≤ 200 }
+    ensures read { IfOk result (λ x. IsRead bytes.now (a_minus depth) (under_rel depth []) x.0 tokens.now x.1.now) }
+    ensures refused { IfErr result (IsRefused bytes.now (a_minus depth) (under_rel depth []) tokens.now) }
+    ensures shorter { IfOk result (λ x. length x.1.now < length tokens.now) }
+{
+    let (first, rest) = sum(alloc, bytes, tokens, depth)?;
+    let Some((comparison, inner)) = compared(rest) else {
+        return Ok((first, rest));
+    };
+    let (second, behind) = sum(alloc, bytes, inner, depth)?;
+    let at = first.get().at;
+    let form = Form::Compare(comparison, first, second);
+    Ok((Boxed::new(alloc, Expr { at, form })?, behind))
+}
+
+/// sum = product { (`+` or `-`) product }
+#[cycle(reader)]
+#[tactic(auto, using(crate::proofs::Exits::memory, crate::proofs::Exits::shorter))]
+fn sum<'a>(
+    alloc: Global,
+    bytes: &[u8],
+    tokens: &'a [Lexeme],
+    depth: u32,
+) -> Result<(Boxed<Expr>, &'a [Lexeme]), ReadRefusal>
+    requires { depth ≤ 200 }
+    ensures read { IfOk result (λ x. IsRead bytes.now (a_minus depth) (under_sum depth []) x.0 tokens.now x.1.now) }
+    ensures refused { IfErr result (IsRefused bytes.now (a_minus depth) (under_sum depth []) tokens.now) }
+    ensures shorter { IfOk result (λ x. length x.1.now < length tokens.now) }
+{
+    let (first, rest) = product(alloc, bytes, tokens, depth)?;
+    let Some((mut minus, mut inner)) = added(rest) else {
+        return Ok((first, rest));
+    };
+    let mut later = Items::new(alloc);
+    'terms: loop {
+        let (term, behind) = product(alloc, bytes, inner, depth)?;
+        let term = term.into_inner();
+        later.push(Added { minus, term })?;
+        let Some((sign, more)) = added(behind) else {
+            let at = first.get().at;
+            let form = Form::Sum(first, later);
+            return Ok((Boxed::new(alloc, Expr { at, form })?, behind));
+        };
+        minus = sign;
+        inner = more;
+    }
+}
+
+/// product = minus { `*` minus }, grouped to the right
+#[cycle(reader)]
+#[tactic(auto, using(crate::proofs::Exits::memory, crate::proofs::Exits::shorter))]
+fn product<'a>(
+    alloc: Global,
+    bytes: &[u8],
+    tokens: &'a [Lexeme],
+    depth: u32,
+) -> Result<(Boxed<Expr>, &'a [Lexeme]), ReadRefusal>
+    requires { depth ≤ 200 }
+    ensures read { IfOk result (λ x. IsRead bytes.now (a_minus depth) (under_product depth []) x.0 tokens.now x.1.now) }
+    ensures refused { IfErr result (IsRefused bytes.now (a_minus depth) (under_product depth []) tokens.now) }
+    ensures shorter { IfOk result (λ x. length x.1.now < length tokens.now) }
+{
+    let (first, rest) = factor(alloc, bytes, tokens, depth)?;
+    let Some((sign, inner)) = after(rest, Terminal::Star) else {
+        return Ok((first, rest));
+    };
+    let depth = deeper(depth, sign.at)?;
+    let (second, behind) = product(alloc, bytes, inner, depth)?;
+    let at = first.get().at;
+    let form = Form::Product(first, sign.at, second);
+    Ok((Boxed::new(alloc, Expr { at, form })?, behind))
+}
+
+/// minus = `-` minus, or primary
+#[cycle(reader)]
+#[tactic(auto, using(crate::proofs::Exits::memory, crate::proofs::Exits::shorter))]
+fn factor<'a>(
+    alloc: Global,
+    bytes: &[u8],
+    tokens: &'a [Lexeme],
+    depth: u32,
+) -> Result<(Boxed<Expr>, &'a [Lexeme]), ReadRefusal>
+    requires { depth ≤ 200 }
+    ensures read { IfOk result (λ x. IsRead bytes.now (a_minus depth) [] x.0 tokens.now x.1.now) }
+    ensures refused { IfErr result (IsRefused bytes.now (a_minus depth) [] tokens.now) }
+    ensures shorter { IfOk result (λ x. length x.1.now < length tokens.now) }
+{
+    let Some((opening, first, inner)) = opening(tokens) else {
+        return Err(refused(bytes, tokens));
+    };
+    let at = first.at;
+    match opening {
+        Opening::Minus => {
+            let depth = deeper(depth, at)?;
+            let (operand, rest) = factor(alloc, bytes, inner, depth)?;
+            let form = Form::Minus(operand);
+            Ok((Boxed::new(alloc, Expr { at, form })?, rest))
+        }
+        Opening::Number => {
+            let Some(value) = numeral(spelling(bytes, &first)) else {
+                return Err(ReadRefusal::Literal(at));
+            };
+            let form = Form::Number(value);
+            Ok((Boxed::new(alloc, Expr { at, form })?, inner))
+        }
+        Opening::Truth(truth) => {
+            let form = Form::Truth(truth);
+            Ok((Boxed::new(alloc, Expr { at, form })?, inner))
+        }
+        Opening::Identifier => {
+            let name = name(alloc, bytes, &first)?;
+            application(alloc, bytes, inner, depth, name)
+        }
+        Opening::Parenthesis => {
+            let (operand, rest) = parenthesis(alloc, bytes, tokens, depth)?;
+            let form = Form::Group(operand);
+            Ok((Boxed::new(alloc, Expr { at, form })?, rest))
+        }
+        Opening::If => conditional(alloc, bytes, inner, depth, at),
+        Opening::Abs => {
+            let (operand, rest) = parenthesis(alloc, bytes, inner, depth)?;
+            let form = Form::Abs(operand);
+            Ok((Boxed::new(alloc, Expr { at, form })?, rest))
+        }
+        Opening::Pair(max) => pair(alloc, bytes, inner, depth, at, max),
+    }
+}
+
+/// Behind an identifier: [ `(` [ iff { `,` iff } ] `)` ].
+#[cycle(reader)]
+#[tactic(auto, using(crate::proofs::Exits::memory, crate::proofs::Exits::shorter))]
+fn application<'a>(
+    alloc: Global,
+    bytes: &[u8],
+    tokens: &'a [Lexeme],
+    depth: u32,
+    name: Name,
+) -> Result<(Boxed<Expr>, &'a [Lexeme]), ReadRefusal>
+    requires { depth ≤ 200 }
+    ensures read { IfOk result (λ x. IsRead bytes.now (behind_name name depth) [] x.0 tokens.now x.1.now) }
+    ensures refused { IfErr result (IsRefused bytes.now (behind_name name depth) [] tokens.now) }
+    ensures shorter { IfOk result (λ x. length x.1.now ≤ length tokens.now) }
+{
+    let at = name.at;
+    let Some((open, inner)) = after(tokens, Terminal::OpenParenthesis) else {
+        let form = Form::Use(name, Items::new(alloc));
+        return Ok((Boxed::new(alloc, Expr { at, form })?, tokens));
+    };
+    let depth = deeper(depth, open.at)?;
+    let Some((_, rest)) = after(inner, Terminal::CloseParenthesis) else {
+        return arguments(alloc, bytes, inner, depth, name);
+    };
+    let form = Form::Use(name, Items::new(alloc));
+    Ok((Boxed::new(alloc, Expr { at, form })?, rest))
+}
+
+/// Behind the `(` of an application: iff { `,` iff } `)`.
+#[cycle(reader)]
+#[tactic(auto, using(crate::proofs::Exits::memory, crate::proofs::Exits::shorter))]
+fn arguments<'a>(
+    alloc: Global,
+    bytes: &[u8],
+    tokens: &'a [Lexeme],
+    depth: u32,
+    name: Name,
+) -> Result<(Boxed<Expr>, &'a [Lexeme]), ReadRefusal>
+    requires { depth ≤ 200 }
+    ensures read { IfOk result (λ x. IsRead bytes.now (a_unary depth) (under_right equivalence depth (arguments_of name depth [] ∷ [])) x.0 tokens.now x.1.now) }
+    ensures refused { IfErr result (IsRefused bytes.now (a_unary depth) (under_right equivalence depth (arguments_of name depth [] ∷ [])) tokens.now) }
+    ensures shorter { IfOk result (λ x. length x.1.now < length tokens.now) }
+{
+    let mut list = Items::new(alloc);
+    let mut inner = tokens;
+    'arguments: loop {
+        let (argument, rest) = whole(alloc, bytes, inner, depth)?;
+        list.push(argument.into_inner())?;
+        let Some((_, more)) = after(rest, Terminal::Comma) else {
+            let (_, behind) = sign(bytes, rest, Terminal::CloseParenthesis)?;
+            let at = name.at;
+            let form = Form::Use(name, list);
+            return Ok((Boxed::new(alloc, Expr { at, form })?, behind));
+        };
+        inner = more;
+    }
+}
+
+/// Behind `\if`: ( iff ) `\then` ( iff ) `\else` ( iff ).
+#[cycle(reader)]
+#[tactic(auto, using(crate::proofs::Exits::memory, crate::proofs::Exits::shorter))]
+fn conditional<'a>(
+    alloc: Global,
+    bytes: &[u8],
+    tokens: &'a [Lexeme],
+    depth: u32,
+    at: u64,
+) -> Result<(Boxed<Expr>, &'a [Lexeme]), ReadRefusal>
+    requires { depth ≤ 200 }
+    ensures read { IfOk result (λ x. IsRead bytes.now (a_parenthesis depth) (test_of at depth ∷ []) x.0 tokens.now x.1.now) }
+    ensures refused { IfErr result (IsRefused bytes.now (a_parenthesis depth) (test_of at depth ∷ []) tokens.now) }
+    ensures shorter { IfOk result (λ x. length x.1.now < length tokens.now) }
+{
+    let (test, rest) = parenthesis(alloc, bytes, tokens, depth)?;
+    let (_, inner) = sign(bytes, rest, Terminal::Then)?;
+    let (yes, rest) = parenthesis(alloc, bytes, inner, depth)?;
+    let (_, inner) = sign(bytes, rest, Terminal::Else)?;
+    let (no, rest) = parenthesis(alloc, bytes, inner, depth)?;
+    let form = Form::If(test, yes, no);
+    Ok((Boxed::new(alloc, Expr { at, form })?, rest))
+}
+
+/// Behind `\min` or `\max`: `(` iff `,` iff `)`.
+#[cycle(reader)]
+#[tactic(auto, using(crate::proofs::Exits::memory, crate::proofs::Exits::shorter))]
+fn pair<'a>(
+    alloc: Global,
+    bytes: &[u8],
+    tokens: &'a [Lexeme],
+    depth: u32,
+    at: u64,
+    max: bool,
+) -> Result<(Boxed<Expr>, &'a [Lexeme]), ReadRefusal>
+    requires { depth ≤ 200 }
+    ensures read { IfOk result (λ x. IsRead bytes.now (a_pair max at depth) [] x.0 tokens.now x.1.now) }
+    ensures refused { IfErr result (IsRefused bytes.now (a_pair max at depth) [] tokens.now) }
+    ensures shorter { IfOk result (λ x. length x.1.now < length tokens.now) }
+{
+    let (open, inner) = sign(bytes, tokens, Terminal::OpenParenthesis)?;
+    let depth = deeper(depth, open.at)?;
+    let (first, rest) = whole(alloc, bytes, inner, depth)?;
+    let (_, inner) = sign(bytes, rest, Terminal::Comma)?;
+    let (second, rest) = whole(alloc, bytes, inner, depth)?;
+    let (_, behind) = sign(bytes, rest, Terminal::CloseParenthesis)?;
+    let form = pair_form(max, first, second);
+    Ok((Boxed::new(alloc, Expr { at, form })?, behind))
+}
+
+/// ( iff )
+#[cycle(reader)]
+#[tactic(auto, using(crate::proofs::Exits::memory, crate::proofs::Exits::shorter))]
+fn parenthesis<'a>(
+    alloc: Global,
+    bytes: &[u8],
+    tokens: &'a [Lexeme],
+    depth: u32,
+) -> Result<(Boxed<Expr>, &'a [Lexeme]), ReadRefusal>
+    requires { depth ≤ 200 }
+    ensures read { IfOk result (λ x. IsRead bytes.now (a_parenthesis depth) [] x.0 tokens.now x.1.now) }
+    ensures refused { IfErr result (IsRefused bytes.now (a_parenthesis depth) [] tokens.now) }
+    ensures shorter { IfOk result (λ x. length x.1.now < length tokens.now) }
+{
+    let (open, inner) = sign(bytes, tokens, Terminal::OpenParenthesis)?;
+    let depth = deeper(depth, open.at)?;
+    let (operand, close) = whole(alloc, bytes, inner, depth)?;
+    let (_, rest) = sign(bytes, close, Terminal::CloseParenthesis)?;
+    Ok((operand, rest))
+}
+
+/// `\min` of these two, or `\max`.
+fn pair_form(max: bool, first: Boxed<Expr>, second: Boxed<Expr>) -> Form
+    ensures { (at : ℕ) → expr at result ≡ paired max at first second }
+{
+    if max {
+        Form::Max(first, second)
+    } else {
+        Form::Min(first, second)
+    }
+}

@@ -1,0 +1,122 @@
+-- Texts among others, and what names stand for.
+use Rattle.std.proofs.Common.{◌≡◌, ℕ, suc, ◌+◌, Bool, true, false, ◌||◌, cond, not, List, [], ◌∷◌, ◌++◌, map, length, Option, Some, None, refl, sym, ap, ◌∙◌, arith, is_some, if◌then◌else◌, position, nat_lt, ◌<◌, take, get_or, Bor}
+use Rattle.std.proofs.lemmas.List.{take_more, length-take-le}
+use Rattle.std.specs.Global.{Vec}
+use Rattle.std.specs.List.{list_any, prefix_len}
+use Rattle.std.proofs.lemmas.List.Sums.{prefix_len-le-length}
+use Rattle.std.proofs.lemmas.List.{length-map}
+use Rattle.indexmap.specs.IndexSet.{insert_key}
+use Rattle.pri_reader.specs.declared.tree.Name.{Name}
+use Rattle.pri_typing.specs.Scope.{place, is_text, is_among, with_text, bind, depth_of}
+use Rattle.pri_typing.specs.Bounds.{last_or, last_place, bound_texts}
+use Rattle.pri_typing.specs.declared.scope.Bound.{Bound}
+use Rattle.pri_typing.specs.declared.scope.Bound.TheViews as bound
+use Rattle.std.specs.Option.{IfSome}
+
+-- Texts that are kept as vectors.
+
+abbrev pub texts_of : List (Vec ℕ) → List (List ℕ)
+texts_of = map (λ k. k.items)
+
+pub among_is : (t : List ℕ) (ks : List (Vec ℕ)) → list_any (λ k. is_text t k.items) ks ≡ is_among t (texts_of ks)
+among_is t [] = refl
+among_is t (k ∷ ks) = ap (λ z. is_text t k.items || z) (among_is t ks)
+
+prefix_is : (t : List ℕ) (ks : List (Vec ℕ)) → prefix_len (λ k. not (is_text t k.items)) ks ≡ prefix_len (λ x. not (is_text t x)) (texts_of ks)
+prefix_is t [] = refl
+prefix_is t (k ∷ ks) = ap (λ z. cond (not (is_text t k.items)) (1 + z) 0) (prefix_is t ks)
+
+pub position_is : (t : List ℕ) (ks : List (Vec ℕ)) → position (λ k. is_text t k.items) ks ≡ position (is_text t) (texts_of ks)
+position_is t ks = λ i. if nat_lt (prefix_is t ks i) (sym (length-map ks (λ k. k.items)) i) then Some (prefix_is t ks i) else None
+
+map-append : (xs ys : List (Vec ℕ)) → texts_of (xs ++ ys) ≡ texts_of xs ++ texts_of ys
+map-append [] ys = refl
+map-append (x ∷ xs) ys = ap (λ z. x.items ∷ z) (map-append xs ys)
+
+pub inserted_is : (ks : List (Vec ℕ)) (k : Vec ℕ) → texts_of (insert_key (λ x y. is_text x.items y.items) ks k) ≡ with_text k.items (texts_of ks)
+inserted_is ks k = by (list_any (λ y. is_text k.items y.items) ks) ∙ ap (λ z. if z then texts_of ks else texts_of ks ++ k.items ∷ []) (among_is k.items ks)
+  where
+    by : (b : Bool) → texts_of (if b then ks else ks ++ k ∷ []) ≡ (if b then texts_of ks else texts_of ks ++ k.items ∷ [])
+    by true = refl
+    by false = map-append ks (k ∷ [])
+
+-- Bound names.
+
+pub last_place-append : (t : List ℕ) (names : List Name) (n : Name) → last_place t (names ++ n ∷ []) ≡ (if is_text t n.text then Some (length names) else last_place t names)
+last_place-append t [] n = refl
+last_place-append t (x ∷ names) n = ap (λ z. last_or z first) (last_place-append t names n) ∙ by (is_text t n.text)
+  where
+    first : Option ℕ
+    first = if is_text t x.text then Some 0 else None
+
+    by : (b : Bool) → last_or (if b then Some (length names) else last_place t names) first ≡ (if b then Some (suc (length names)) else last_or (last_place t names) first)
+    by true = refl
+    by false = refl
+
+pub last_place-more : (t : List ℕ) (names : List Name) (i : ℕ) (n : Name) → i < length names
+    → last_place t (take (i + 1) names) ≡ (if is_text t (get_or names i n).text then Some i else last_place t (take i names))
+last_place-more t names i n h = ap (last_place t) (take_more names i n h) ∙ last_place-append t (take i names) (get_or names i n)
+    ∙ ap (λ z. if is_text t (get_or names i n).text then Some z else last_place t (take i names)) (length-take-le i names (omega arith))
+
+-- the depth of a text: by its last place among the innermost names, else further out
+abbrev pub depth_by : List ℕ → List (List ℕ) → Option ℕ → Option ℕ
+depth_by t outer (Some i) = Some (length outer + i)
+depth_by t outer None = depth_of t outer
+
+pub depth_of-bind : (t : List ℕ) (names : List Name) (outer : List (List ℕ)) → depth_of t (bind names outer) ≡ depth_by t outer (last_place t names)
+depth_of-bind t [] outer = refl
+depth_of-bind t (n ∷ names) outer = depth_of-bind t names (n.text ∷ outer) ∙ by (last_place t names) (is_text t n.text) refl
+  where
+    by : (r : Option ℕ) (b : Bool) → is_text t n.text ≡ b
+        → depth_by t (n.text ∷ outer) r ≡ depth_by t outer (last_or r (if b then Some 0 else None))
+    by (Some i) b e = ap (λ z. Some z) (omega arith)
+    by None true e = ap (λ z. if z then Some (length outer) else depth_of t outer) e ∙ ap (λ z. Some z) (omega arith)
+    by None false e = ap (λ z. if z then Some (length outer) else depth_of t outer) e
+
+-- a text that the innermost names have is bound, and else it is where it is further out
+pub bound_is : (t : List ℕ) (names : List Name) (outer : List (List ℕ)) → is_some (depth_of t (bind names outer)) ≡ (is_some (last_place t names) || is_some (depth_of t outer))
+bound_is t names outer = ap is_some (depth_of-bind t names outer) ∙ by (last_place t names)
+  where
+    by : (r : Option ℕ) → is_some (depth_by t outer r) ≡ (is_some r || is_some (depth_of t outer))
+    by (Some i) = refl
+    by None = refl
+
+pub length-bind : (names : List Name) (outer : List (List ℕ)) → length (bind names outer) ≡ length names + length outer
+length-bind [] outer = omega arith
+length-bind (n ∷ names) outer = length-bind names (n.text ∷ outer) ∙ omega arith
+
+pub bound_more : (b : Bound) (names : Bor (List Name)) (outer : Bor Bound) → b ≡ bound.More names outer → length (bound_texts b) ≡ length names.now + length (bound_texts outer.now)
+bound_more b names outer e = ap (λ z. length (bound_texts z)) e ∙ length-bind names.now (bound_texts outer.now)
+
+pub last_place-within : (t : List ℕ) (names : List Name) → IfSome (last_place t names) (λ i. i < length names)
+last_place-within t [] = tt
+last_place-within t (n ∷ names) = by (last_place t names) (is_text t n.text) (last_place-within t names)
+  where
+    by : (r : Option ℕ) (b : Bool) → IfSome r (λ i. i < length names) → IfSome (last_or r (if b then Some 0 else None)) (λ i. i < suc (length names))
+    by (Some i) b h = omega arith
+    by None true h = omega arith
+    by None false h = tt
+
+pub depth_of-more : (t : List ℕ) (b : Bound) (names : Bor (List Name)) (outer : Bor Bound) → b ≡ bound.More names outer
+    → depth_of t (bound_texts b) ≡ depth_by t (bound_texts outer.now) (last_place t names.now)
+depth_of-more t b names outer e = ap (λ z. depth_of t (bound_texts z)) e ∙ depth_of-bind t names.now (bound_texts outer.now)
+
+pub depth_of-within : (t : List ℕ) (texts : List (List ℕ)) → IfSome (depth_of t texts) (λ d. d < length texts)
+depth_of-within t [] = tt
+depth_of-within t (x ∷ outer) = by (is_text t x) (depth_of t outer) (depth_of-within t outer)
+  where
+    by : (b : Bool) (r : Option ℕ) → IfSome r (λ d. d < length outer) → IfSome (if b then Some (length outer) else r) (λ d. d < suc (length outer))
+    by true r h = omega arith
+    by false None h = tt
+    by false (Some d) h = omega arith
+
+pub ruleset bounding = (bound_more, depth_of-more)
+
+-- the place of a text that is not there
+pub place_missing : (t : List ℕ) (texts : List (List ℕ)) → position (is_text t) texts ≡ None → place t texts ≡ length texts
+place_missing t texts h = by (nat_lt (prefix_len (λ x. not (is_text t x)) texts) (length texts)) refl h
+  where
+    by : (b : Bool) → nat_lt (prefix_len (λ x. not (is_text t x)) texts) (length texts) ≡ b
+        → (if b then Some (prefix_len (λ x. not (is_text t x)) texts) else None) ≡ None → prefix_len (λ x. not (is_text t x)) texts ≡ length texts
+    by true e k = absurd cc
+    by false e k = grind (arith, e, prefix_len-le-length (λ x. not (is_text t x)) texts)

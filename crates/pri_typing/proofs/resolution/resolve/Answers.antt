@@ -1,0 +1,17 @@
+use Rattle.std.proofs.Common.{None, ◌≡◌, subst, ◌⊎◌, Some}
+use Rattle.std.specs.Result.{IfErr, IfOk, OnOk}
+use Rattle.pri_typing.specs.declared.problem.TypeRefusal.TheVariants.{Memory}
+use Rattle.pri_typing.specs.Faults.{least}
+use Rattle.pri_typing.specs.Files.{IsTyped, file_faults}
+use Rattle.pri_typing.proofs.Answered.{answered-well}
+use Rattle.pri_typing.proofs.resolution.resolve.Goals as goal
+
+pub returns-clause-refused : goal.returns-clause-refused
+returns-clause-refused c = subst (λ blocks. IfErr c.resolve_problem.result (λ r. (r ≡ Memory) ⊎ (least (file_faults (record { blocks = blocks })) ≡ Some r)))
+    c.as_slice-blocks.ensures c.resolve_problem.ensures.refused
+
+pub returns-clause-well_formed : goal.returns-clause-well_formed
+returns-clause-well_formed c =
+    answered-well (record { blocks = c.args.file.now.blocks }) c.resolve_problem.result
+    (subst (λ blocks. IfOk c.resolve_problem.result (λ p. IsTyped (record { blocks = blocks }) p)) c.as_slice-blocks.ensures c.resolve_problem.ensures.typed)
+    (subst (λ blocks. OnOk c.resolve_problem.result (least (file_faults (record { blocks = blocks })) ≡ None)) c.as_slice-blocks.ensures c.resolve_problem.ensures.sound)

@@ -1,0 +1,14 @@
+pub mod Bounds
+pub mod Everywhere
+pub mod Faults
+pub mod Files
+pub mod Limits
+pub mod Parts
+pub mod Phrase
+pub mod Posed
+pub mod Problems
+pub mod Ranges
+pub mod Scope
+pub mod Symbols
+pub mod Typing
+pub mod WellFormed

@@ -1,0 +1,67 @@
+-- What typing asks of a file so that all numbers of names fit: it is so in every file that is read from fewer than 2^32
+-- tokens with at most 200 levels.
+use Rattle.std.specs.Prelude.{ℕ, ◌≡◌, true, ◌+◌, ◌<◌, ◌≤◌, ◌^◌, List, length}
+use Rattle.pri_reader.specs.declared.tree.Block.{Block}
+use Rattle.pri_reader.specs.declared.tree.Name.{Name}
+use Rattle.pri_typing.specs.declared.scope.Place.{Place}
+use Rattle.pri_typing.specs.Phrase.{Phrase, number, truth, used, group, choice, absolute, lesser, greater, minus, product, sum, compared, negation, quantified, part, conjunction, disjunction, implication, equivalence, Phrases, no_phrase, and_phrase, Addends, no_addend, and_addend}
+use Rattle.pri_reader.specs.Grammar.{has_problem}
+use Rattle.pri_typing.specs.Files.{problem_of}
+use Rattle.pri_typing.specs.Typing.{part_names}
+use Rattle.pri_typing.specs.Bounds.{bound_texts, most_bound, IsFit}
+
+abbrev mutual
+  -- where n names are bound around the phrase, at most 200 are bound at each place inside it
+  pub IsShallow : ℕ → Phrase → Type 0
+  IsShallow n (number _ k) = Unit {0}
+  IsShallow n (truth _ b) = Unit {0}
+  IsShallow n (used _ x ps) = AreShallow n ps
+  IsShallow n (group _ p) = IsShallow n p
+  IsShallow n (choice _ c p q) = IsShallow n c × IsShallow n p × IsShallow n q
+  IsShallow n (absolute _ p) = IsShallow n p
+  IsShallow n (lesser _ p q) = IsShallow n p × IsShallow n q
+  IsShallow n (greater _ p q) = IsShallow n p × IsShallow n q
+  IsShallow n (minus _ p) = IsShallow n p
+  IsShallow n (product _ p sign q) = IsShallow n p × IsShallow n q
+  IsShallow n (sum _ p more) = IsShallow n p × AddendsAreShallow n more
+  IsShallow n (compared _ c p q) = IsShallow n p × IsShallow n q
+  IsShallow n (negation _ p) = IsShallow n p
+  IsShallow n (quantified _ all names p) = (length names + n ≤ most_bound) × IsShallow (length names + n) p
+  IsShallow n (part _ x p) = IsShallow n p
+  IsShallow n (conjunction _ ps) = AreShallow n ps
+  IsShallow n (disjunction _ ps) = AreShallow n ps
+  IsShallow n (implication _ p q) = IsShallow n p × IsShallow n q
+  IsShallow n (equivalence _ p q) = IsShallow n p × IsShallow n q
+
+  pub AreShallow : ℕ → Phrases → Type 0
+  AreShallow n no_phrase = Unit {0}
+  AreShallow n (and_phrase p ps) = IsShallow n p × AreShallow n ps
+
+  pub AddendsAreShallow : ℕ → Addends → Type 0
+  AddendsAreShallow n no_addend = Unit {0}
+  AddendsAreShallow n (and_addend is_minus p more) = IsShallow n p × AddendsAreShallow n more
+
+-- a phrase at a place where all numbers of its names fit
+pub record IsReady (here : Place) (p : Phrase) : Type 0 where
+  pub fit : IsFit here
+  pub shallow : IsShallow (length (bound_texts here.bound.now)) p
+
+pub record AreReady (here : Place) (ps : Phrases) : Type 0 where
+  pub fit : IsFit here
+  pub shallow : AreShallow (length (bound_texts here.bound.now)) ps
+
+pub record AddendsAreReady (here : Place) (more : Addends) : Type 0 where
+  pub fit : IsFit here
+  pub shallow : AddendsAreShallow (length (bound_texts here.bound.now)) more
+
+-- a phrase that stands under a quantifier for these names
+pub record IsReadyUnder (here : Place) (names : List Name) (p : Phrase) : Type 0 where
+  pub fit : IsFit here
+  pub bindable : length names + length (bound_texts here.bound.now) ≤ most_bound
+  pub shallow : IsShallow (length names + length (bound_texts here.bound.now)) p
+
+-- the blocks have a `\problem` block, with at most 200 bound names at each place of its formula and fewer than 2^32 parts
+pub record IsResolvable (blocks : List Block) : Type 0 where
+  pub problem : has_problem blocks ≡ true
+  pub shallow : IsShallow 0 (problem_of blocks)
+  pub countable : length (part_names (problem_of blocks)) < 2 ^ 32

@@ -1,0 +1,286 @@
+// The formula or the term that an expression says, with every name resolved to its number.
+
+ghost use Rattle.std.specs.Prelude.{◌≡◌, List, ℕ, IfOk, length};
+ghost use Rattle.formula.specs.Formula.{and_expression, expression, expressions_of, formula, formulas_of};
+ghost use Rattle.pri_typing.specs.Bounds.{IsFit, scope_at};
+ghost use Rattle.pri_typing.specs.Limits.{AddendsAreReady, AreReady, IsReady, IsReadyUnder};
+ghost use Rattle.pri_typing.specs.Phrase.{addends_of, phrase, phrases_of};
+ghost use Rattle.pri_typing.specs.Scope.{inside, place, refers};
+ghost use Rattle.pri_typing.specs.Typing.{members, quantifiers, relation_of, says, signed, signed_terms, terms, use_says, use_value, value};
+
+use crate::scope::{Bound, Place, Referent, refer};
+use formula::{Relation, Typed, TypedTerm};
+use linear_term::Memory;
+use pri_reader::{Added, Comparison, Expr, Form, Name};
+use sqlite_items::{Boxed, Items};
+use std::alloc::Global;
+
+fn relation(comparison: Comparison) -> Relation
+    ensures { result ≡ relation_of comparison }
+{
+    match comparison {
+        Comparison::Equal => Relation::Eq,
+        Comparison::Unequal => Relation::Neq,
+        Comparison::Less => Relation::Lt,
+        Comparison::AtMost => Relation::Leq,
+        Comparison::Greater => Relation::Gt,
+        Comparison::AtLeast => Relation::Geq,
+    }
+}
+
+/// A use as a formula. What is no predicate says `false`; typing refuses it.
+fn use_formula(referent: Option<Referent>, arguments: Items<TypedTerm>) -> Typed
+    ensures { formula result ≡ use_says referent (expressions_of arguments) }
+{
+    match referent {
+        Some(Referent::Predicate(p, _)) => Typed::Pred(p, arguments),
+        Some(Referent::Name(_)) => Typed::Truth(false),
+        Some(Referent::Function(_, _)) => Typed::Truth(false),
+        None => Typed::Truth(false),
+    }
+}
+
+/// A use as a term. What is no term says 0; typing refuses it.
+fn use_term(referent: Option<Referent>, arguments: Items<TypedTerm>) -> TypedTerm
+    ensures { expression result ≡ use_value referent (expressions_of arguments) }
+{
+    match referent {
+        Some(Referent::Name(x)) => TypedTerm::Name(x),
+        Some(Referent::Function(f, _)) => TypedTerm::Apply(f, arguments),
+        Some(Referent::Predicate(_, _)) => TypedTerm::Number(0),
+        None => TypedTerm::Number(0),
+    }
+}
+
+/// The number of a part.
+fn part_number(here: &Place, name: &Name) -> u32
+    requires { IsFit here.now }
+    ensures { result ≡ place name.now.text here.now.parts.now }
+{
+    here.parts.number(name.text.as_slice())
+}
+
+fn quantifier(all: bool, body: Boxed<Typed>) -> Typed
+    ensures { formula result ≡ quantifiers all 1 (formula body) }
+{
+    if all {
+        Typed::Forall(body)
+    } else {
+        Typed::Exists(body)
+    }
+}
+
+/// The formula under so many quantifiers.
+fn quantify(alloc: Global, all: bool, count: usize, body: Typed) -> Result<Typed, Memory>
+    ensures { IfOk result (λ f. formula f ≡ quantifiers all count (formula body)) }
+{
+    let mut quantified = body;
+    for _name in 0..count {
+        quantified = quantifier(all, Boxed::new(alloc, quantified)?);
+    }
+    Ok(quantified)
+}
+
+/// The formula that an expression says.
+#[cycle(build)]
+pub fn build_formula(alloc: Global, here: &Place, expr: &Expr) -> Result<Typed, Memory>
+    requires { IsReady here.now (phrase expr.now) }
+    ensures { IfOk result (λ f. formula f ≡ says (scope_at here.now) (phrase expr.now)) }
+{
+    match &expr.form {
+        Form::Truth(b) => Ok(Typed::Truth(*b)),
+        Form::Use(name, arguments) => {
+            let terms = build_terms(alloc, here, arguments.as_slice())?;
+            Ok(use_formula(refer(here, name.text.as_slice()), terms))
+        }
+        Form::Group(inner) => build_formula(alloc, here, inner.get()),
+        Form::Compare(sign, left, right) => {
+            Ok(Typed::Rel(
+                relation(*sign),
+                build_term(alloc, here, left.get())?,
+                build_term(alloc, here, right.get())?,
+            ))
+        }
+        Form::Not(inner) => Ok(Typed::Not(boxed_formula(alloc, here, inner.get())?)),
+        Form::Quantified(all, names, body) => {
+            build_quantified(alloc, here, *all, names.as_slice(), body.get())
+        }
+        Form::Part(name, body) => {
+            Ok(Typed::Part(
+                part_number(here, name),
+                boxed_formula(alloc, here, body.get())?,
+            ))
+        }
+        Form::And(members) => Ok(Typed::And(build_members(alloc, here, members.as_slice())?)),
+        Form::Or(members) => Ok(Typed::Or(build_members(alloc, here, members.as_slice())?)),
+        Form::Implies(left, right) => {
+            Ok(Typed::Implies(
+                boxed_formula(alloc, here, left.get())?,
+                boxed_formula(alloc, here, right.get())?,
+            ))
+        }
+        Form::Iff(left, right) => {
+            Ok(Typed::Iff(
+                boxed_formula(alloc, here, left.get())?,
+                boxed_formula(alloc, here, right.get())?,
+            ))
+        }
+        Form::Number(_) => Ok(Typed::Truth(false)),
+        Form::If(_, _, _) => Ok(Typed::Truth(false)),
+        Form::Abs(_) => Ok(Typed::Truth(false)),
+        Form::Min(_, _) => Ok(Typed::Truth(false)),
+        Form::Max(_, _) => Ok(Typed::Truth(false)),
+        Form::Minus(_) => Ok(Typed::Truth(false)),
+        Form::Product(_, _, _) => Ok(Typed::Truth(false)),
+        Form::Sum(_, _) => Ok(Typed::Truth(false)),
+    }
+}
+
+/// The term that an expression says.
+#[cycle(build)]
+pub fn build_term(alloc: Global, here: &Place, expr: &Expr) -> Result<TypedTerm, Memory>
+    requires { IsReady here.now (phrase expr.now) }
+    ensures { IfOk result (λ t. expression t ≡ value (scope_at here.now) (phrase expr.now)) }
+{
+    match &expr.form {
+        Form::Number(n) => Ok(TypedTerm::Number(*n)),
+        Form::Use(name, arguments) => {
+            let terms = build_terms(alloc, here, arguments.as_slice())?;
+            Ok(use_term(refer(here, name.text.as_slice()), terms))
+        }
+        Form::Group(inner) => build_term(alloc, here, inner.get()),
+        Form::If(condition, yes, no) => {
+            Ok(TypedTerm::If(
+                boxed_formula(alloc, here, condition.get())?,
+                boxed_term(alloc, here, yes.get())?,
+                boxed_term(alloc, here, no.get())?,
+            ))
+        }
+        Form::Abs(inner) => Ok(TypedTerm::Abs(boxed_term(alloc, here, inner.get())?)),
+        Form::Min(left, right) => {
+            Ok(TypedTerm::Min(
+                boxed_term(alloc, here, left.get())?,
+                boxed_term(alloc, here, right.get())?,
+            ))
+        }
+        Form::Max(left, right) => {
+            Ok(TypedTerm::Max(
+                boxed_term(alloc, here, left.get())?,
+                boxed_term(alloc, here, right.get())?,
+            ))
+        }
+        Form::Minus(inner) => Ok(TypedTerm::Minus(boxed_term(alloc, here, inner.get())?)),
+        Form::Product(left, _, right) => {
+            Ok(TypedTerm::Product(
+                boxed_term(alloc, here, left.get())?,
+                boxed_term(alloc, here, right.get())?,
+            ))
+        }
+        Form::Sum(first, more) => {
+            let first = build_term(alloc, here, first.get())?;
+            Ok(TypedTerm::Sum(build_sum(alloc, here, more.as_slice(), first)?))
+        }
+        Form::Truth(_) => Ok(TypedTerm::Number(0)),
+        Form::Compare(_, _, _) => Ok(TypedTerm::Number(0)),
+        Form::Not(_) => Ok(TypedTerm::Number(0)),
+        Form::Quantified(_, _, _) => Ok(TypedTerm::Number(0)),
+        Form::Part(_, _) => Ok(TypedTerm::Number(0)),
+        Form::And(_) => Ok(TypedTerm::Number(0)),
+        Form::Or(_) => Ok(TypedTerm::Number(0)),
+        Form::Implies(_, _) => Ok(TypedTerm::Number(0)),
+        Form::Iff(_, _) => Ok(TypedTerm::Number(0)),
+    }
+}
+
+#[cycle(build)]
+fn boxed_formula(alloc: Global, here: &Place, expr: &Expr) -> Result<Boxed<Typed>, Memory>
+    requires { IsReady here.now (phrase expr.now) }
+    ensures { IfOk result (λ f. formula f ≡ says (scope_at here.now) (phrase expr.now)) }
+{
+    Ok(Boxed::new(alloc, build_formula(alloc, here, expr)?)?)
+}
+
+#[cycle(build)]
+fn boxed_term(alloc: Global, here: &Place, expr: &Expr) -> Result<Boxed<TypedTerm>, Memory>
+    requires { IsReady here.now (phrase expr.now) }
+    ensures { IfOk result (λ t. expression t ≡ value (scope_at here.now) (phrase expr.now)) }
+{
+    Ok(Boxed::new(alloc, build_term(alloc, here, expr)?)?)
+}
+
+/// The formula of a quantifier that binds these names.
+#[cycle(build)]
+fn build_quantified(
+    alloc: Global,
+    here: &Place,
+    all: bool,
+    names: &[Name],
+    body: &Expr,
+) -> Result<Typed, Memory>
+    requires { IsReadyUnder here.now names.now (phrase body.now) }
+    ensures { IfOk result (λ f. formula f ≡ quantifiers all (length names.now) (says (inside names.now (scope_at here.now)) (phrase body.now))) }
+{
+    let bound = Bound::More(names, here.bound);
+    let inner = Place {
+        symbols: here.symbols,
+        parts: here.parts,
+        bound: &bound,
+    };
+    let formula = build_formula(alloc, &inner, body)?;
+    quantify(alloc, all, names.len(), formula)
+}
+
+#[cycle(build)]
+fn build_members(alloc: Global, here: &Place, exprs: &[Expr]) -> Result<Items<Typed>, Memory>
+    requires { AreReady here.now (phrases_of exprs.now) }
+    ensures { IfOk result (λ fs. formulas_of fs ≡ members (scope_at here.now) (phrases_of exprs.now)) }
+{
+    let mut out = Items::new(alloc);
+    for expr in exprs {
+        out.push(build_formula(alloc, here, expr)?)?;
+    }
+    Ok(out)
+}
+
+#[cycle(build)]
+fn build_terms(alloc: Global, here: &Place, exprs: &[Expr]) -> Result<Items<TypedTerm>, Memory>
+    requires { AreReady here.now (phrases_of exprs.now) }
+    ensures { IfOk result (λ ts. expressions_of ts ≡ terms (scope_at here.now) (phrases_of exprs.now)) }
+{
+    let mut out = Items::new(alloc);
+    for expr in exprs {
+        out.push(build_term(alloc, here, expr)?)?;
+    }
+    Ok(out)
+}
+
+/// The members of a sum.
+#[cycle(build)]
+fn build_sum(
+    alloc: Global,
+    here: &Place,
+    more: &[Added],
+    first: TypedTerm,
+) -> Result<Items<TypedTerm>, Memory>
+    requires { AddendsAreReady here.now (addends_of more.now) }
+    ensures { IfOk result (λ ts. expressions_of ts ≡ and_expression (expression first) (signed_terms (scope_at here.now) (addends_of more.now))) }
+{
+    let mut out = Items::new(alloc);
+    out.push(first)?;
+    for added in more {
+        let term = build_term(alloc, here, &added.term)?;
+        out.push(with_sign(alloc, added.minus, term)?)?;
+    }
+    Ok(out)
+}
+
+/// A later term of a sum with its sign.
+fn with_sign(alloc: Global, minus: bool, term: TypedTerm) -> Result<TypedTerm, Memory>
+    ensures { IfOk result (λ t. expression t ≡ signed minus (expression term)) }
+{
+    if minus {
+        Ok(TypedTerm::Minus(Boxed::new(alloc, term)?))
+    } else {
+        Ok(term)
+    }
+}

@@ -1,0 +1,20 @@
+// Declarations of symbols.
+
+use sqlite_items::Items;
+
+/// What a symbol is declared as. The numbers are those of the arguments, of a function at least one.
+#[derive(Clone, Copy, Debug, PartialEq, Eq)]
+pub enum Kind {
+    Existential,
+    Universal,
+    Function(u32),
+    Predicate(u32),
+}
+
+/// A declaration of a symbol, with the offset of its name.
+#[derive(Debug, Drop)]
+pub struct Declaration {
+    pub at: u64,
+    pub text: Items<u8>,
+    pub kind: Kind,
+}

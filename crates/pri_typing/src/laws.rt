@@ -1,0 +1,59 @@
+// What typing promises of its refusals and of the problems that it makes, and what a problem means, each the contract of a
+// function with nothing to do.
+
+ghost use Rattle.std.specs.Prelude.{◌≡◌, ◌↔◌, ◌<◌, ◌^◌, ℕ, ℤ, true, false, length, map, List, [], Some, None, All, Contains};
+ghost use Rattle.formula.specs.Formula.{every, formula, formulas};
+ghost use Rattle.formula.specs.Truth.{Meaning, Truth};
+ghost use Rattle.pri_tokens.specs.declared.terminals.Lexeme.{Lexeme};
+ghost use Rattle.pri_reader.specs.declared.tree.File.{File};
+ghost use Rattle.pri_reader.specs.Grammar.{IsFile, Setting};
+ghost use Rattle.pri_reader.specs.Reading.{file_setting};
+ghost use Rattle.pri_typing.specs.Limits.{IsResolvable};
+ghost use Rattle.pri_typing.specs.Faults.{is_before, least};
+ghost use Rattle.pri_typing.specs.Files.{IsTyped, file_faults, scope_of};
+ghost use Rattle.pri_typing.specs.Problems.{Holds, IsPure, IsRefuted, assumed, scope_of_problem};
+ghost use Rattle.pri_typing.specs.Scope.{refers};
+ghost use Rattle.pri_typing.specs.WellFormed.{HasDistinctNames, IsWellFormed, components_of};
+ghost use Rattle.pri_typing.specs.declared.problem.Problem.{Problem};
+ghost use Rattle.pri_typing.specs.declared.problem.TypeRefusal.{TypeRefusal};
+
+/// The least fault of a list is in it, and no fault of the list comes before it; only the empty list has none.
+pub fn least_law()
+    ensures among { (rs : List TypeRefusal) (r : TypeRefusal) → least rs ≡ Some r → Contains rs r }
+    ensures first { (rs : List TypeRefusal) (r : TypeRefusal) → least rs ≡ Some r → All (λ s. is_before s r ≡ false) rs }
+    ensures none { (rs : List TypeRefusal) → least rs ≡ None → rs ≡ [] }
+{}
+
+/// The problem of a file without faults is well formed, where the file keeps to the limit on numerals, and its symbols
+/// have different names.
+pub fn well_formed_law()
+    ensures well_formed { (s : Setting) (f : File) (tokens : List Lexeme) (p : Problem)
+        → ((rest : List Lexeme) (n : ℕ) → s.small rest n ≡ true → n < 2 ^ 127)
+        → IsFile s f tokens → least (file_faults f) ≡ None → IsTyped f p → IsWellFormed p }
+    ensures distinct { (f : File) (p : Problem) → least (file_faults f) ≡ None → IsTyped f p → HasDistinctNames p }
+{}
+
+/// Without universal constants a problem holds where its formula is true. A problem without applications holds in one
+/// interpretation where it holds in another. What is refuted does not hold everywhere.
+pub fn holds_law()
+    ensures alone { (w : Meaning) (p : Problem) (e : List ℤ) → p.universals ≡ [] → Holds w p e ↔ Truth w (formula p.formula) e }
+    ensures pure { (v w : Meaning) (p : Problem) (e : List ℤ) → IsPure p → Holds v p e → Holds w p e }
+    ensures refuted { (p : Problem) (e : List ℤ) → IsRefuted p → length e ≡ length p.existentials → ¬ ((w : Meaning) → Holds w p e) }
+{}
+
+/// With the symbols of the problem of a file declared, each name stands for what it stands for in the file.
+pub fn names_law()
+    ensures same { (f : File) (p : Problem) (text : List ℕ) → least (file_faults f) ≡ None → IsTyped f p
+        → refers (scope_of_problem p) text ≡ refers (scope_of f.blocks) text }
+{}
+
+/// The formula of a problem is false where all that its components assume is true.
+pub fn components_law()
+    ensures assumed { (w : Meaning) (p : Problem) (e : List ℤ)
+        → Truth w (every (formulas (map assumed (components_of p)))) e ↔ (¬ (Truth w (formula p.formula) e)) }
+{}
+
+/// A file of fewer than 2^32 tokens that is read within the limits can be resolved.
+pub fn limits_law()
+    ensures { (bytes : List ℕ) (f : File) (tokens : List Lexeme) → length tokens < 2 ^ 32 → IsFile (file_setting bytes) f tokens → IsResolvable f.blocks }
+{}

@@ -1,0 +1,24 @@
+// Typing: what the names of a problem file stand for, which of its expressions are formulas and which are terms, and the
+// problem that a file poses; or the first of its faults.
+#![tactic(auto)]
+
+mod applications;
+mod build;
+mod collect;
+mod cuts;
+mod declaration;
+mod faults;
+mod laws;
+mod parts;
+mod problem;
+mod refusals;
+mod resolution;
+mod scope;
+mod symbols;
+#[cfg(test)]
+mod tests;
+mod texts;
+
+pub use laws::{components_law, holds_law, least_law, limits_law, names_law, well_formed_law};
+pub use problem::{Cut, Problem, Symbol, TypeRefusal};
+pub use resolution::resolve;

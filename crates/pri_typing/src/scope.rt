@@ -1,0 +1,191 @@
+// What a name stands for at a place of a formula.
+
+ghost use Rattle.std.specs.Prelude.{◌≡◌, List, ℕ, is_some, Some, None, if◌then◌else◌, length, ◌<◌, ◌≤◌, ◌^◌};
+ghost use Rattle.std.specs.Option.{option_map, IfSome};
+ghost use Rattle.pri_typing.specs.Bounds.{IsFit, bound_texts, most_bound, last_place, scope_at};
+ghost use Rattle.pri_typing.specs.Faults.{use_of};
+ghost use Rattle.pri_typing.specs.Typing.{is_applied};
+ghost use Rattle.pri_typing.specs.Scope.{depth_of, refers, symbol_of};
+ghost use Rattle.pri_typing.specs.declared.declaration.Declaration.{Declaration};
+
+use crate::declaration::Kind;
+use crate::symbols::Symbols;
+use crate::texts::Texts;
+use pri_reader::Name;
+
+/// What an expression is: a formula, or a term.
+#[derive(Clone, Copy, Debug, PartialEq, Eq)]
+pub enum Sort {
+    Formula,
+    Term,
+}
+
+/// What a use of a name has to look like: what it is, and the number of its arguments.
+#[derive(Clone, Copy, Debug, PartialEq, Eq)]
+pub struct Use {
+    pub sort: Sort,
+    pub arity: u32,
+}
+
+/// What a name stands for: a constant or a bound variable by its number as a name of the problem's formula, and a function
+/// or a predicate by its number and its arity.
+#[derive(Clone, Copy, Debug, PartialEq, Eq)]
+pub enum Referent {
+    Name(u32),
+    Function(u32, u32),
+    Predicate(u32, u32),
+}
+
+/// The bound names at a place: those of the innermost quantifier, and those around it.
+#[derive(Clone, Copy)]
+pub enum Bound<'a> {
+    Nothing,
+    More(&'a [Name], &'a Bound<'a>),
+}
+
+/// A place of a formula: the symbols of the file, the names of its parts, and the bound names there.
+#[derive(Clone, Copy)]
+pub struct Place<'a> {
+    pub symbols: &'a Symbols,
+    pub parts: &'a Texts,
+    pub bound: &'a Bound<'a>,
+}
+
+fn last_found(found: Option<usize>, i: usize, is_same: bool) -> Option<usize>
+    ensures { result ≡ (if is_same then Some i else found) }
+{
+    if is_same { Some(i) } else { found }
+}
+
+/// The last of the names that has this text.
+fn last_place_of(names: &[Name], text: &[u8]) -> Option<usize>
+    ensures found { result ≡ last_place text.now names.now }
+    ensures within { IfSome result (λ i. i < length names.now) }
+{
+    let mut found = None;
+    for i in 0..names.len() {
+        found = last_found(found, i, text == names[i].text.as_slice());
+    }
+    found
+}
+
+/// Whether a bound name has this text.
+fn is_bound(bound: &Bound, text: &[u8]) -> bool
+    ensures { result ≡ is_some (depth_of text.now (bound_texts bound.now)) }
+{
+    match bound {
+        Bound::Nothing => false,
+        Bound::More(names, outer) => {
+            last_place_of(names, text).is_some() || is_bound(outer, text)
+        }
+    }
+}
+
+/// What a use of a symbol has to look like.
+fn use_of_kind(kind: Kind) -> Use
+    ensures { (ds : List Declaration) (n : ℕ) → result ≡ use_of (symbol_of ds kind n) }
+{
+    match kind {
+        Kind::Existential => Use {
+            sort: Sort::Term,
+            arity: 0,
+        },
+        Kind::Universal => Use {
+            sort: Sort::Term,
+            arity: 0,
+        },
+        Kind::Function(arity) => Use {
+            sort: Sort::Term,
+            arity,
+        },
+        Kind::Predicate(arity) => Use {
+            sort: Sort::Formula,
+            arity,
+        },
+    }
+}
+
+/// What a use of this text has to look like here, if it stands for something.
+pub fn use_at(place: &Place, text: &[u8]) -> Option<Use>
+    ensures { result ≡ option_map use_of (refers (scope_at place.now) text.now) }
+{
+    if is_bound(place.bound, text) {
+        return Some(Use {
+            sort: Sort::Term,
+            arity: 0,
+        });
+    }
+    match place.symbols.find(text) {
+        Some(entry) => Some(use_of_kind(entry.kind)),
+        None => None,
+    }
+}
+
+/// Whether a use of this text is an application here.
+pub fn applies_at(place: &Place, text: &[u8]) -> bool
+    ensures { result ≡ is_applied (refers (scope_at place.now) text.now) }
+{
+    if is_bound(place.bound, text) {
+        return false;
+    }
+    match place.symbols.find(text) {
+        Some(entry) => is_applied_kind(entry.kind),
+        None => false,
+    }
+}
+
+fn is_applied_kind(kind: Kind) -> bool
+    ensures { (ds : List Declaration) (n : ℕ) → result ≡ is_applied (Some (symbol_of ds kind n)) }
+{
+    match kind {
+        Kind::Existential => false,
+        Kind::Universal => false,
+        Kind::Function(_) => true,
+        Kind::Predicate(_) => true,
+    }
+}
+
+/// How many names are bound.
+#[tactic(auto, using(crate::proofs::Scopes::bounding))]
+fn count_bound(bound: &Bound) -> u32
+    requires shallow { length (bound_texts bound.now) ≤ most_bound }
+    ensures { result ≡ length (bound_texts bound.now) }
+{
+    match bound {
+        Bound::Nothing => 0,
+        Bound::More(names, outer) => names.len() as u32 + count_bound(outer),
+    }
+}
+
+/// The number of the bound variables around the innermost one of this text.
+#[tactic(auto, using(crate::proofs::Scopes::bounding))]
+fn depth(bound: &Bound, text: &[u8]) -> Option<u32>
+    requires shallow { length (bound_texts bound.now) ≤ most_bound }
+    ensures { result ≡ depth_of text.now (bound_texts bound.now) }
+{
+    match bound {
+        Bound::Nothing => None,
+        Bound::More(names, outer) => {
+            match last_place_of(names, text) {
+                Some(i) => Some(count_bound(outer) + i as u32),
+                None => depth(outer, text),
+            }
+        }
+    }
+}
+
+/// What a name stands for.
+pub fn refer(place: &Place, text: &[u8]) -> Option<Referent>
+    requires { IsFit place.now }
+    ensures { result ≡ refers (scope_at place.now) text.now }
+{
+    match depth(place.bound, text) {
+        Some(depth) => Some(Referent::Name(place.symbols.constants() + depth)),
+        None => {
+            match place.symbols.find(text) {
+                Some(entry) => Some(place.symbols.referent(entry)),
+                None => None,
+            }
+        }
+    }
+}

@@ -1,0 +1,2 @@
+// A sum past the range of coefficients.
+\problem { 170141183460469231731687303715884105727 + 1 > 0 }
