@@ -8,12 +8,12 @@ use Rattle.pri_reader.specs.declared.tree.ReadRefusal.{ReadRefusal}
 use Rattle.pri_reader.specs.declared.tree.ReadRefusal.TheVariants as refusal
 use Rattle.pri_reader.specs.Grammar.{IsFile}
 use Rattle.pri_reader.specs.Machine.{a_block}
-use Rattle.pri_reader.specs.Reading.{Answers, FailsWith, file_setting, reads}
-use Rattle.pri_reader.specs.First.{Refuses, AsksNumber}
+use Rattle.pri_reader.specs.Reading.{Answers, AnswersRefusal, FailsWith, file_setting, reads}
+use Rattle.pri_reader.specs.First.{Refuses, AsksNumber, IsFirstRefusal}
 use Rattle.std.specs.Result.{IfErr, IfOk}
 use Rattle.pri_reader.proofs.CompleteBlocks.{file_complete}
 use Rattle.pri_reader.proofs.Sound.{file_sound}
-use Rattle.pri_reader.proofs.FirstRefusal.{first_refused}
+use Rattle.pri_reader.proofs.FirstRefusal.{first_refused, first_none, first_unique}
 
 put_length : (at n : ℕ) (terminal : Option Terminal) (more : List Lexeme) → length (put at n terminal more) ≤ suc (length more)
 put_length at n None more = omega arith
@@ -62,3 +62,12 @@ pub refused_caused : (b : List ℕ) (tokens : List Lexeme) (result : Result File
     → IfErr result (Refuses (file_setting b) (length b) tokens)
 refused_caused b tokens (Ok file) h = tt
 refused_caused b tokens (Err e) h = caused b tokens e h
+
+-- what is the first refusal is answered
+pub refused_so : (b : List ℕ) (tokens : List Lexeme) (result : Result File ReadRefusal) → IfOk result (λ file. reads b tokens (a_block []) [] ≡ Ok file)
+    → IfErr result (λ e. FailsWith e (reads b tokens (a_block []) [])) → (e : ReadRefusal) → IsFirstRefusal (file_setting b) (length b) tokens e → AnswersRefusal e result
+refused_so b tokens (Ok g) h k e first = first_none (file_setting b) (length b) tokens g e (small_asks b) (shallow_asks b) (found b tokens g h) first
+refused_so b tokens (Err refusal.Memory) h k e first = tt
+refused_so b tokens (Err (refusal.Syntax at)) h k e first = first_unique (file_setting b) (length b) tokens (refusal.Syntax at) e (small_asks b) (shallow_asks b) (caused b tokens (refusal.Syntax at) k) first
+refused_so b tokens (Err (refusal.Literal at)) h k e first = first_unique (file_setting b) (length b) tokens (refusal.Literal at) e (small_asks b) (shallow_asks b) (caused b tokens (refusal.Literal at) k) first
+refused_so b tokens (Err (refusal.Deep at)) h k e first = first_unique (file_setting b) (length b) tokens (refusal.Deep at) e (small_asks b) (shallow_asks b) (caused b tokens (refusal.Deep at) k) first

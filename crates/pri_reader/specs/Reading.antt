@@ -139,6 +139,14 @@ BindsNext b several next.Body tokens rest = BindsEnd b several tokens rest
 pub record BindsNoMore (b : List ℕ) (several : Bool) (tokens : List Lexeme) (e : ReadRefusal) : Type 0 where
   pub run : (n : ℕ) (names : List Name) → BindsNone b (λ at all. bound_more at all several n names) tokens e
 
+-- the answer is this refusal, or want of memory
+abbrev pub AnswersRefusal : ReadRefusal → Result File ReadRefusal → Type 0
+AnswersRefusal e (Ok found) = ⊥
+AnswersRefusal e (Err refusal.Memory) = Unit {0}
+AnswersRefusal e (Err (refusal.Syntax at)) = refusal.Syntax at ≡ e
+AnswersRefusal e (Err (refusal.Literal at)) = refusal.Literal at ≡ e
+AnswersRefusal e (Err (refusal.Deep at)) = refusal.Deep at ≡ e
+
 -- the answer is this file, unless memory is wanted
 abbrev pub Answers : File → Result File ReadRefusal → Type 0
 Answers file (Ok found) = found ≡ file

@@ -1,9 +1,10 @@
 // The file that bytes are, or why they are none.
 
 ghost use Rattle.pri_reader.specs.Grammar.{IsFile};
-ghost use Rattle.pri_reader.specs.Reading.{Answers, file_setting};
-ghost use Rattle.pri_reader.specs.First.{Refuses};
+ghost use Rattle.pri_reader.specs.Reading.{Answers, AnswersRefusal, file_setting};
+ghost use Rattle.pri_reader.specs.First.{IsFirstRefusal, Refuses};
 ghost use Rattle.pri_reader.specs.declared.tree.File.{File};
+ghost use Rattle.pri_reader.specs.declared.tree.ReadRefusal.{ReadRefusal};
 ghost use Rattle.pri_tokens.specs.Lexemes.{lexemes_of};
 ghost use Rattle.std.specs.Prelude.{◌<◌, ◌^◌, IfErr, IfOk, length};
 
@@ -21,6 +22,7 @@ pub fn read(alloc: Global, bytes: &[u8]) -> Result<File, ReadRefusal>
     ensures found { IfOk result (λ file. IsFile (file_setting bytes.now) file (lexemes_of bytes.now)) }
     ensures only { (file : File) → IsFile (file_setting bytes.now) file (lexemes_of bytes.now) → Answers file result }
     ensures refused { IfErr result (Refuses (file_setting bytes.now) (length bytes.now) (lexemes_of bytes.now)) }
+    ensures refuses { (e : ReadRefusal) → IsFirstRefusal (file_setting bytes.now) (length bytes.now) (lexemes_of bytes.now) e → AnswersRefusal e result }
 {
     let tokens = lexemes(alloc, bytes)?;
     file(alloc, bytes, tokens.as_slice())
