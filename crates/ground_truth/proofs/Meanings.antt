@@ -4,11 +4,11 @@ use Rattle.std.specs.Ordering.{int_eq}
 use Rattle.std.specs.Bool.{Decides}
 use Rattle.std.proofs.lemmas.Int.{ints}
 use Rattle.std.proofs.lemmas.Bool.Decides.{Decides-int_eq, Decides-not}
-use Rattle.formula.specs.declared.typed.Relation.{Relation}
-use Rattle.formula.specs.declared.typed.Relation.TheVariants.{Eq, Neq, Lt, Leq, Gt, Geq}
-use Rattle.formula.specs.Formula.{Formula, Formulas, Expression, Expressions, constant, compares, applies, negation, every, some, implies, iff, for_all, for_some, part, no_formula, and_formula, number, name, call, minus, total, product, choice, absolute, lesser, greater, no_expression, and_expression}
-use Rattle.formula.specs.Lists.{sum_of}
-use Rattle.formula.specs.Truth.{Meaning, Truth, AreAllTrue, AreAllFalse, HasValue, HaveValues, IsRelated}
+use Rattle.typed_formula.specs.declared.typed.Relation.{Relation}
+use Rattle.typed_formula.specs.declared.typed.Relation.TheVariants.{Eq, Neq, Lt, Leq, Gt, Geq}
+use Rattle.typed_formula.specs.Formula.{Formula, Formulas, Expression, Expressions, constant, compares, applies, negation, every, some, implies, iff, for_all, for_some, part, no_formula, and_formula, number, name, call, minus, total, product, choice, absolute, lesser, greater, no_expression, and_expression}
+use Rattle.typed_formula.specs.Lists.{sum_of}
+use Rattle.typed_formula.specs.Truth.{Meaning, Truth, AreAllTrue, AreAllFalse, HasValue, HaveValues, IsRelated}
 use Rattle.ground_truth.specs.Ground.{IsNumeric, AreNumeric, IsGround, AreGround, number_of, numbers_of, is_related, agree, is_true, all_true, any_true}
 
 mutual

@@ -7,14 +7,14 @@ use Rattle.linear_term.specs.declared.range.Place.{Place}
 use Rattle.linear_term.specs.Range.{InRange, stays, all_stay}
 use mir.Syntax.{w128}
 use mir.Val.{SFits}
-use Rattle.formula.specs.declared.typed.Relation.{Relation}
-use Rattle.formula.specs.declared.typed.Typed.{Typed}
-use Rattle.formula.specs.declared.typed.Typed.TheVariants as f
-use Rattle.formula.specs.declared.typed.TypedTerm.{TypedTerm}
-use Rattle.formula.specs.declared.typed.TypedTerm.TheVariants as e
-use Rattle.formula.specs.Formula.{Formula, Expression, formula, formulas_of, expression, expressions_of}
-use Rattle.formula.specs.Lists.{sum_of}
-use Rattle.formula.proofs.Folds.{formula-Truth, formula-Rel, formula-Not, formula-And, formula-Or, formula-Implies, formula-Iff, formula-Part, expression-Number, expression-Minus, expression-Sum, expression-Product}
+use Rattle.typed_formula.specs.declared.typed.Relation.{Relation}
+use Rattle.typed_formula.specs.declared.typed.Typed.{Typed}
+use Rattle.typed_formula.specs.declared.typed.Typed.TheVariants as f
+use Rattle.typed_formula.specs.declared.typed.TypedTerm.{TypedTerm}
+use Rattle.typed_formula.specs.declared.typed.TypedTerm.TheVariants as e
+use Rattle.typed_formula.specs.Formula.{Formula, Expression, formula, formulas_of, expression, expressions_of}
+use Rattle.typed_formula.specs.Lists.{sum_of}
+use Rattle.typed_formula.proofs.Folds.{formula-Truth, formula-Rel, formula-Not, formula-And, formula-Or, formula-Implies, formula-Iff, formula-Part, expression-Number, expression-Minus, expression-Sum, expression-Product}
 use Rattle.ground_truth.specs.Ground.{IsNumeric, AreNumeric, IsGround, AreGround, number_of, numbers_of, is_related, agree, is_true, all_true, any_true}
 use Rattle.ground_truth.specs.Computed.{Computes, place, sums, sums_from, computed, all_computed, computed_for, all_computed_for}
 

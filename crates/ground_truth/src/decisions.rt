@@ -1,12 +1,12 @@
 // The truth of a ground formula by its numbers.
 
-ghost use Rattle.formula.specs.Formula.{expression, formula, formulas_of};
+ghost use Rattle.typed_formula.specs.Formula.{expression, formula, formulas_of};
 ghost use Rattle.ground_truth.specs.Computed.{all_computed_for, computed, computed_for, Computes};
 ghost use Rattle.ground_truth.specs.Ground.{all_true, any_true, AreGround, IsGround, is_related, is_true, IsNumeric, number_of};
 ghost use Rattle.std.specs.Prelude.{◌≡◌, ◌++◌};
 
 use crate::values::value;
-use formula::{Relation, Typed, TypedTerm};
+use typed_formula::{Relation, Typed, TypedTerm};
 
 /// Whether two numbers are in this relation.
 fn is_related(relation: Relation, left: &i128, right: &i128) -> bool

@@ -1,7 +1,7 @@
 // What the truth of a ground formula means.
 
-ghost use Rattle.formula.specs.Formula.{Formula};
-ghost use Rattle.formula.specs.Truth.{Meaning, Truth};
+ghost use Rattle.typed_formula.specs.Formula.{Formula};
+ghost use Rattle.typed_formula.specs.Truth.{Meaning, Truth};
 ghost use Rattle.ground_truth.specs.Ground.{IsGround, is_true};
 ghost use Rattle.std.specs.Prelude.{◌↔◌, IsTrue, List, ℤ};
 

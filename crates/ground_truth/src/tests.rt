@@ -1,7 +1,7 @@
 // The happy path; sums and products at the ends of the range are tried by whole problem files in prover_job.
 
 use crate::decide;
-use formula::Typed;
+use typed_formula::Typed;
 
 #[test]
 #[tactic(auto, using(crate::proofs::Steps::ground_truth))]

@@ -1,13 +1,13 @@
 // The value of a term of numerals, sums, products and minus, where every number on the way stays in the range.
 
-ghost use Rattle.formula.specs.Formula.{expression, expressions_of};
+ghost use Rattle.typed_formula.specs.Formula.{expression, expressions_of};
 ghost use Rattle.ground_truth.specs.Computed.{all_computed, computed, Computes, place, sums};
 ghost use Rattle.ground_truth.specs.Ground.{AreNumeric, IsNumeric, number_of, numbers_of};
-ghost use Rattle.formula.specs.Lists.{sum_of};
+ghost use Rattle.typed_formula.specs.Lists.{sum_of};
 ghost use Rattle.linear_term.specs.Range.{InRange};
 ghost use Rattle.std.specs.Prelude.{◌≡◌, [], ◌∷◌, ◌*ℤ◌, ◌+ℤ◌, ◌++◌, IfSome, pos};
 
-use formula::TypedTerm;
+use typed_formula::TypedTerm;
 use linear_term::Place;
 
 /// The number m·a + n·b of the place, where it and both products stay in the range.

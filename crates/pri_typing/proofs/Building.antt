@@ -1,11 +1,11 @@
 -- The formulas and terms of lists of expressions.
 use Rattle.std.proofs.Common.{◌≡◌, ℕ, zero, suc, ◌+◌, Bool, true, false, List, [], ◌∷◌, map, length, refl, sym, ap, ◌∙◌, arith, take, take_all, get_or, subst, ◌<◌, ◌≤◌, ◌^◌}
-use Rattle.formula.specs.Formula.{Formula, and_formula, and_expression, formula, formulas, formulas_of, expression, expressions, expressions_of}
+use Rattle.typed_formula.specs.Formula.{Formula, and_formula, and_expression, formula, formulas, formulas_of, expression, expressions, expressions_of}
 use Rattle.pri_reader.specs.declared.tree.Expr.{Expr}
 use Rattle.pri_reader.specs.declared.tree.Added.{Added}
 use Rattle.pri_reader.specs.declared.tree.Name.{Name}
-use Rattle.formula.specs.declared.typed.Typed.{Typed}
-use Rattle.formula.specs.declared.typed.TypedTerm.{TypedTerm}
+use Rattle.typed_formula.specs.declared.typed.Typed.{Typed}
+use Rattle.typed_formula.specs.declared.typed.TypedTerm.{TypedTerm}
 use Rattle.pri_typing.specs.declared.scope.Place.{Place}
 use Rattle.pri_typing.specs.Bounds.{bound_texts, most_bound}
 use Rattle.pri_typing.specs.Files.{most_symbols}

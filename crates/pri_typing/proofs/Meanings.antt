@@ -1,9 +1,9 @@
 -- What a problem means: where there are no constants, and where there is no application.
 use Rattle.std.proofs.Common.{◌≡◌, ◌↔◌, ℕ, suc, ℤ, pos, ◌*ℤ◌, neg_ℤ, List, [], ◌∷◌, ◌++◌, length, unsigned_abs, refl, sym, ap, subst, ◌∙◌, arith, append-nil}
 use Rattle.std.specs.Int.{int_min, int_max}
-use Rattle.formula.specs.Formula.{Formula, Formulas, Expression, Expressions, formula, constant, compares, applies, negation, every, some, implies, iff, for_all, for_some, part, no_formula, and_formula, number, name, call, minus, total, product, choice, absolute, lesser, greater, no_expression, and_expression}
-use Rattle.formula.specs.Truth.{Meaning, Truth, AreAllTrue, AreAllFalse, HasValue, HaveValues, IsRelated}
-use Rattle.formula.specs.Lists.{sum_of}
+use Rattle.typed_formula.specs.Formula.{Formula, Formulas, Expression, Expressions, formula, constant, compares, applies, negation, every, some, implies, iff, for_all, for_some, part, no_formula, and_formula, number, name, call, minus, total, product, choice, absolute, lesser, greater, no_expression, and_expression}
+use Rattle.typed_formula.specs.Truth.{Meaning, Truth, AreAllTrue, AreAllFalse, HasValue, HaveValues, IsRelated}
+use Rattle.typed_formula.specs.Lists.{sum_of}
 use Rattle.integers.specs.Entry.{entry}
 use Rattle.pri_typing.specs.declared.problem.Problem.{Problem}
 use Rattle.pri_typing.specs.Everywhere.{Property, Everywhere, AllEverywhere, TermEverywhere, TermsEverywhere}
@@ -14,16 +14,16 @@ no_values [] e = refl
 no_values (v ∷ u) e = absurd (omega (arith, e))
 
 -- Without universal constants the problem holds where its formula is true.
-pub holds_alone : (w : Meaning) (p : Problem) (e : List ℤ) → p.universals ≡ [] → Holds w p e ↔ Truth w (formula p.formula) e
-holds_alone w p e none =
+pub holds_alone : (w : Meaning) (p : Problem) (e : List ℤ) → p.universals ≡ [] → length e ≡ length p.existentials → Holds w p e ↔ Truth w (formula p.formula) e
+holds_alone w p e none many =
     let len = ap length none in (
-      λ h. subst (Truth w (formula p.formula)) (append-nil e) (h [] (sym len)),
-      λ h u k. subst (Truth w (formula p.formula)) (sym (ap (λ z. e ++ z) (no_values u (k ∙ len)) ∙ append-nil e)) h,
+      λ h. subst (Truth w (formula p.formula)) (append-nil e) (h.is [] (sym len)),
+      λ h. record { many = many; is = λ u k. subst (Truth w (formula p.formula)) (sym (ap (λ z. e ++ z) (no_values u (k ∙ len)) ∙ append-nil e)) h },
     )
 
 -- A problem that is refuted does not hold in every interpretation, whatever the existential constants are.
 pub refuted_fails : (p : Problem) (e : List ℤ) → IsRefuted p → length e ≡ length p.existentials → ((w : Meaning) → Holds w p e) → ⊥
-refuted_fails p e r l h = let at = r e l in at.fails (h (meaning_of at.table) at.universals at.fit)
+refuted_fails p e r l h = let at = r e l in at.fails ((h (meaning_of at.table)).is at.universals at.fit)
 
 -- Without applications the interpretation does not matter.
 
@@ -85,4 +85,4 @@ mutual
       (λ x. pure_values u v w n ts e h.1 (λ xs. P (x ∷ xs)) (λ xs. Q (x ∷ xs)) (λ xs. m (x ∷ xs))) k
 
 pub pure_holds : (v w : Meaning) (p : Problem) (e : List ℤ) → IsPure p → Holds v p e → Holds w p e
-pure_holds v w p e h k = λ u l. pure_truth (tt {1}) v w 0 (formula p.formula) (e ++ u) h (k u l)
+pure_holds v w p e h k = record { many = k.many; is = λ u l. pure_truth (tt {1}) v w 0 (formula p.formula) (e ++ u) h (k.is u l) }

@@ -2,7 +2,7 @@
 use Rattle.std.proofs.Common.{◌≡◌, ℕ, suc, ◌+◌, ◌<◌, ◌≤◌, Bool, true, false, ◌&&◌, ◌||◌, List, [], ◌∷◌, ◌++◌, length, Option, Some, None, refl, sym, ap, subst, ◌∙◌, arith, nat_eq, not, if◌then◌else◌}
 use Rattle.std.specs.Cmp.Derive.{both_true}
 use Rattle.pri_reader.specs.declared.tree.Name.{Name}
-use Rattle.formula.specs.Formula.{Formula, Expression}
+use Rattle.typed_formula.specs.Formula.{Formula, Expression}
 use Rattle.pri_typing.specs.declared.problem.TypeRefusal.TheVariants.{Arity, NonLinear}
 use Rattle.pri_typing.specs.declared.scope.Sort.{Sort}
 use Rattle.pri_typing.specs.declared.scope.Sort.TheVariants as sort

@@ -1,15 +1,15 @@
 -- What a problem means (Rümmer, A constraint sequent calculus for first-order logic with linear integer arithmetic, 2008):
 -- the existential constants are chosen first, then the interpretation, then the universal constants.
-use Rattle.std.specs.Prelude.{ℕ, ◌≡◌, ◌⊎◌, ℤ, Bool, true, false, List, [], ◌++◌, length, map, nat_eq, if◌then◌else◌}
+use Rattle.std.specs.Prelude.{ℕ, ◌+◌, ◌≡◌, ◌⊎◌, ◌<◌, ◌≤◌, ℤ, Bool, true, false, List, [], ◌++◌, length, map, nat_eq, if◌then◌else◌}
 use Rattle.std.specs.List.{filter, list_any}
 use Rattle.std.specs.Bool.{beq}
 use Rattle.pri_tokens.specs.Lexemes.{lexemes_of}
 use Rattle.pri_reader.specs.declared.tree.Expr.{Expr}
 use Rattle.pri_reader.specs.Grammar.{Setting, Derives, whole}
-use Rattle.formula.specs.Formula.{Formula, Formulas, Expression, Expressions, formula, formulas, constant, compares, applies, negation, every, some, implies, iff, for_all, for_some, part, no_formula, and_formula, number, name, call, minus, total, product, choice, absolute, lesser, greater, no_expression, and_expression}
-use Rattle.formula.specs.Truth.{Meaning, Truth}
-use Rattle.formula.specs.Table.{is_true_at_row, value_at_row}
-use Rattle.formula.specs.declared.world.Table.{Table}
+use Rattle.typed_formula.specs.Formula.{Formula, Formulas, Expression, Expressions, formula, formulas, constant, compares, applies, negation, every, some, implies, iff, for_all, for_some, part, no_formula, and_formula, number, name, call, minus, total, product, choice, absolute, lesser, greater, no_expression, and_expression}
+use Rattle.typed_formula.specs.Truth.{Meaning, Truth}
+use Rattle.typed_formula.specs.Table.{is_true_at_row, value_at_row}
+use Rattle.typed_formula.specs.declared.world.Table.{Table}
 use Rattle.pri_typing.specs.declared.problem.Problem.{Problem}
 use Rattle.pri_typing.specs.declared.declaration.Kind.{Kind}
 use Rattle.pri_typing.specs.declared.declaration.Kind.TheVariants.{Existential, Universal, Function, Predicate}
@@ -24,10 +24,16 @@ use Rattle.pri_typing.specs.WellFormed.{SignedFormula, components_of}
 
 -- Truth of a problem.
 
+-- The formula is true in an interpretation at these values of the existential constants, whatever the universal constants are.
+pub record IsTrueAt (w : Meaning) (p : Problem) (f : Formula) (e : List ℤ) : Type 0 where
+  pub many : length e ≡ length p.existentials
+  pub is : (u : List ℤ) → length u ≡ length p.universals → Truth w f (e ++ u)
+
 -- The problem holds in an interpretation at the values of its existential constants: its formula is true there whatever
 -- the universal constants are.
-abbrev pub Holds : Meaning → Problem → List ℤ → Type 0
-Holds w p e = (u : List ℤ) → length u ≡ length p.universals → Truth w (formula p.formula) (e ++ u)
+pub record Holds (w : Meaning) (p : Problem) (e : List ℤ) : Type 0 where
+  pub many : length e ≡ length p.existentials
+  pub is : (u : List ℤ) → length u ≡ length p.universals → Truth w (formula p.formula) (e ++ u)
 
 -- the interpretation that a finite table gives
 abbrev pub meaning_of : Table → Meaning
@@ -138,6 +144,16 @@ abbrev mutual
 abbrev pub IsUniversal : Problem → Type 0
 IsUniversal p = IsUniversalAt plus (formula p.formula)
 
+-- a name is below m or, as that of a bound variable, at n or above
+abbrev pub IsNameIn : ℕ → ℕ → Expression → Type 0
+IsNameIn m n (name x) = (x < m) ⊎ (n ≤ x)
+IsNameIn m n (call f ts) = ⊥
+IsNameIn m n _ = Unit {0}
+
+-- of the problem's symbols the formula speaks of existential constants alone
+abbrev pub SpeaksOfExistentials : Problem → Formula → Type 0
+SpeaksOfExistentials p = Everywhere (record { of_formula = IsNoPredicate; of_term = λ depth. IsNameIn (length p.existentials) (length p.existentials + length p.universals) }) 0
+
 -- What a text says.
 
 abbrev pub unplaced : Kind → List ℕ → Declaration
@@ -152,9 +168,13 @@ scope_of_problem p = record {
   bound = [];
 }
 
+-- a text without limits on numerals and levels: what a text says does not depend on the file that it stands in
+abbrev pub text_setting : List ℕ → Setting
+text_setting text = record { bytes = text; small = λ rest n. true; shallow = λ rest n. true }
+
 -- The text is derived as a formula and, with the symbols of the problem declared, types as this one.
-pub record Says (s : Setting) (p : Problem) (said : Formula) : Type 0 where
+pub record Says (text : List ℕ) (p : Problem) (said : Formula) : Type 0 where
   pub expression : Expr
-  pub derived : Derives s 0 whole expression (lexemes_of s.bytes) []
+  pub derived : Derives (text_setting text) 0 whole expression (lexemes_of text) []
   pub typed : faults (scope_of_problem p) sort.Formula (first_token (phrase expression)) (phrase expression) ≡ []
   pub is : says (scope_of_problem p) (phrase expression) ≡ said

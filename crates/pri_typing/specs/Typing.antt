@@ -3,10 +3,10 @@ use Rattle.std.specs.Prelude.{ℕ, zero, suc, pos, length, Bool, true, false, Li
 use Rattle.pri_reader.specs.declared.tree.Name.{Name}
 use Rattle.pri_reader.specs.declared.tree.Comparison.{Comparison}
 use Rattle.pri_reader.specs.declared.tree.Comparison.TheVariants as comparison
-use Rattle.formula.specs.Formula.{Formula, Formulas, Expression, Expressions, no_formula, and_formula, no_expression, and_expression}
-use Rattle.formula.specs.Formula as logic
-use Rattle.formula.specs.declared.typed.Relation.{Relation}
-use Rattle.formula.specs.declared.typed.Relation.TheVariants as relation
+use Rattle.typed_formula.specs.Formula.{Formula, Formulas, Expression, Expressions, no_formula, and_formula, no_expression, and_expression}
+use Rattle.typed_formula.specs.Formula as logic
+use Rattle.typed_formula.specs.declared.typed.Relation.{Relation}
+use Rattle.typed_formula.specs.declared.typed.Relation.TheVariants as relation
 use Rattle.pri_typing.specs.declared.scope.Referent.{Referent}
 use Rattle.pri_typing.specs.declared.scope.Referent.TheVariants as referent
 use Rattle.pri_typing.specs.Phrase.{Phrase, number, truth, used, group, choice, absolute, lesser, greater, minus, product, sum, compared, negation, quantified, part, conjunction, disjunction, implication, equivalence, Phrases, no_phrase, and_phrase, Addends, no_addend, and_addend}

@@ -2,7 +2,7 @@
 use Rattle.std.specs.Prelude.{ℕ, suc, ◌+◌, ◌<◌, ◌≤◌, ◌≡◌, Bool, true, false, ◌&&◌, ◌||◌, not, List, [], ◌∷◌, ◌++◌, length, map, slice_get, nat_eq, Some}
 use Rattle.std.specs.List.{All, Contains, IsDistinct, flat_map, concat}
 use Rattle.linear_term.specs.Range.{InRange}
-use Rattle.formula.specs.Formula.{Formula, Formulas, Expression, Expressions, formula, constant, applies, negation, every, some, implies, part, no_formula, and_formula, number, name, call, minus, total, product, no_expression, and_expression}
+use Rattle.typed_formula.specs.Formula.{Formula, Formulas, Expression, Expressions, formula, constant, applies, negation, every, some, implies, part, no_formula, and_formula, number, name, call, minus, total, product, no_expression, and_expression}
 use Rattle.pri_typing.specs.declared.problem.Problem.{Problem}
 use Rattle.pri_typing.specs.declared.problem.Symbol.{Symbol}
 use Rattle.pri_typing.specs.declared.problem.Cut.{Cut}

@@ -1,7 +1,7 @@
 // The formula or the term that an expression says, with every name resolved to its number.
 
 ghost use Rattle.std.specs.Prelude.{◌≡◌, List, ℕ, IfOk, length};
-ghost use Rattle.formula.specs.Formula.{and_expression, expression, expressions_of, formula, formulas_of};
+ghost use Rattle.typed_formula.specs.Formula.{and_expression, expression, expressions_of, formula, formulas_of};
 ghost use Rattle.pri_typing.specs.Bounds.{IsFit, scope_at};
 ghost use Rattle.pri_typing.specs.Limits.{AddendsAreReady, AreReady, IsReady, IsReadyUnder};
 ghost use Rattle.pri_typing.specs.Phrase.{addends_of, phrase, phrases_of};
@@ -9,11 +9,11 @@ ghost use Rattle.pri_typing.specs.Scope.{inside, place, refers};
 ghost use Rattle.pri_typing.specs.Typing.{members, quantifiers, relation_of, says, signed, signed_terms, terms, use_says, use_value, value};
 
 use crate::scope::{Bound, Place, Referent, refer};
-use formula::{Relation, Typed, TypedTerm};
 use linear_term::Memory;
 use pri_reader::{Added, Comparison, Expr, Form, Name};
 use sqlite_items::{Boxed, Items};
 use std::alloc::Global;
+use typed_formula::{Relation, Typed, TypedTerm};
 
 fn relation(comparison: Comparison) -> Relation
     ensures { result ≡ relation_of comparison }

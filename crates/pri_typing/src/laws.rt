@@ -2,8 +2,8 @@
 // function with nothing to do.
 
 ghost use Rattle.std.specs.Prelude.{◌≡◌, ◌↔◌, ◌<◌, ◌^◌, ℕ, ℤ, true, false, length, map, List, [], Some, None, All, Contains};
-ghost use Rattle.formula.specs.Formula.{every, formula, formulas};
-ghost use Rattle.formula.specs.Truth.{Meaning, Truth};
+ghost use Rattle.typed_formula.specs.Formula.{every, formula, formulas};
+ghost use Rattle.typed_formula.specs.Truth.{Meaning, Truth};
 ghost use Rattle.pri_tokens.specs.declared.terminals.Lexeme.{Lexeme};
 ghost use Rattle.pri_reader.specs.declared.tree.File.{File};
 ghost use Rattle.pri_reader.specs.Grammar.{IsFile, Setting};
@@ -36,7 +36,7 @@ pub fn well_formed_law()
 /// Without universal constants a problem holds where its formula is true. A problem without applications holds in one
 /// interpretation where it holds in another. What is refuted does not hold everywhere.
 pub fn holds_law()
-    ensures alone { (w : Meaning) (p : Problem) (e : List ℤ) → p.universals ≡ [] → Holds w p e ↔ Truth w (formula p.formula) e }
+    ensures alone { (w : Meaning) (p : Problem) (e : List ℤ) → p.universals ≡ [] → length e ≡ length p.existentials → Holds w p e ↔ Truth w (formula p.formula) e }
     ensures pure { (v w : Meaning) (p : Problem) (e : List ℤ) → IsPure p → Holds v p e → Holds w p e }
     ensures refuted { (p : Problem) (e : List ℤ) → IsRefuted p → length e ≡ length p.existentials → ¬ ((w : Meaning) → Holds w p e) }
 {}

@@ -2,7 +2,7 @@
 // ends the program.
 #![tactic(auto)]
 
-use formula::Table;
+use typed_formula::Table;
 use prover_io::{FileSource, OutSink};
 use prover_job::run;
 use std::alloc::AllocError;

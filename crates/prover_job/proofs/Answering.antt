@@ -3,7 +3,7 @@ use Rattle.std.proofs.Common.{◌≡◌, ◌≢◌, ℕ, ◌+◌, ◌<◌, ◌�
 use Rattle.std.proofs.lemmas.List.{length-replicate}
 use Rattle.std.proofs.lemmas.Bool.{lt-ltb, le-ltb}
 use Rattle.std.specs.Prelude.{replicate, nat_lt}
-use Rattle.formula.specs.Truth.{Meaning}
+use Rattle.typed_formula.specs.Truth.{Meaning}
 use Rattle.prover_io.specs.Outside.{IsLonger, IsWhole}
 use Rattle.prover_job.specs.declared.verdicts.Verdict.{Verdict}
 use Rattle.prover_job.specs.Answers.{Answer, Gives, GivesPart, Meets, AnswersFile, AnswersJob, IsFileAnswer, TellsVerdict, IsWordsAnswer, PutsAll, PutsSome, long_answer, words_answer, verdict_answer}

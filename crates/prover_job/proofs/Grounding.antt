@@ -9,7 +9,7 @@ use Rattle.pri_typing.specs.Phrase.{Phrase, first_token, number, truth, used, gr
 use Rattle.pri_typing.specs.Ranges.{IsRanged, AreRanged, AreAddedRanged}
 use Rattle.pri_typing.specs.Scope.{Scope, refers}
 use Rattle.pri_typing.specs.Faults.{faults, all_faults, addend_faults, use_faults, needs, product_faults}
-use Rattle.formula.specs.Formula.{Expression}
+use Rattle.typed_formula.specs.Formula.{Expression}
 use Rattle.pri_typing.specs.Typing.{says, value, members, signed, signed_terms}
 use Rattle.ground_truth.specs.Ground.{IsGround, AreGround, IsNumeric, AreNumeric}
 use Rattle.prover_job.specs.Special.{special, all_special, added_special}

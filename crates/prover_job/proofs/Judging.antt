@@ -3,8 +3,8 @@ use Rattle.std.proofs.Common.{◌≡◌, ℕ, ◌<◌, ◌^◌, Bool, true, fals
 use Rattle.std.specs.List.{flat_map}
 use Rattle.std.proofs.lemmas.Bool.{ltb-true}
 use Rattle.std.proofs.Common.{◌⊎◌, inl, inr}
-use Rattle.formula.specs.Formula.{Formula, formula}
-use Rattle.formula.specs.Truth.{Meaning, Truth}
+use Rattle.typed_formula.specs.Formula.{Formula, formula}
+use Rattle.typed_formula.specs.Truth.{Meaning, Truth}
 use Rattle.linear_term.specs.Range.{all_stay}
 use Rattle.pri_tokens.specs.Lexemes.{lexemes_of}
 use Rattle.pri_reader.specs.declared.tree.File.{File}

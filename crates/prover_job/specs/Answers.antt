@@ -4,7 +4,7 @@ use Rattle.std.specs.List.{list_any}
 use Rattle.std.specs.Fmt.{decimal}
 use Rattle.prover_io.specs.Outside.{IsWhole}
 use Rattle.prover_job.specs.Jobs.{Task, solve}
-use Rattle.formula.specs.Truth.{Meaning}
+use Rattle.typed_formula.specs.Truth.{Meaning}
 use Rattle.prover_job.specs.Verdicts.{IsVerdict}
 use Rattle.prover_job.specs.declared.verdicts.Verdict.{Verdict}
 use Rattle.prover_job.specs.declared.verdicts.Verdict.TheVariants.{Valid, Invalid, Overflow, Refused}

@@ -1,7 +1,7 @@
 -- What is said of the bytes of a problem's file.
 use Rattle.std.specs.Prelude.{◌≡◌, ◌<◌, ◌^◌, ◌⊎◌, ℕ, true, false, List, [], length, Option, Some, None}
-use Rattle.formula.specs.Formula.{Formula, formula}
-use Rattle.formula.specs.Truth.{Meaning, Truth}
+use Rattle.typed_formula.specs.Formula.{Formula, formula}
+use Rattle.typed_formula.specs.Truth.{Meaning, Truth}
 use Rattle.linear_term.specs.Range.{all_stay}
 use Rattle.pri_tokens.specs.Lexemes.{lexemes_of}
 use Rattle.pri_reader.specs.declared.tree.File.{File}

@@ -1,7 +1,7 @@
 // The top call: the words, then the file, then its verdict, then the text of the answer.
 
 ghost use Rattle.prover_io.specs.Outside.{Broke, Rose};
-ghost use Rattle.formula.specs.Truth.{Meaning};
+ghost use Rattle.typed_formula.specs.Truth.{Meaning};
 ghost use Rattle.prover_job.specs.Answers.{verdict_answer, AnswersFile, AnswersJob, IsAnswerStatus, IsStatus, Meets, TellsVerdict};
 ghost use Rattle.prover_job.specs.Jobs.{files_of, job_of};
 ghost use Rattle.std.specs.Prelude.{◌≡◌, ◌≢◌, ◌<◌, ◌^◌, ℕ, ◌⊎◌, ◌≤◌, length, List, map, string_bytes, None, Some, Contains, IfOk};
@@ -15,7 +15,7 @@ use crate::statuses::{
 };
 use crate::verdicts::{Verdict, judge};
 use crate::words::job;
-use formula::World;
+use typed_formula::World;
 use linear_term::Memory;
 use prover_io::{ReadFault, Sink, Source, read_all};
 use std::alloc::Global;

@@ -1,7 +1,7 @@
 // Whole runs over memory: the status and the bytes taken.
 
 use super::*;
-use formula::Table;
+use typed_formula::Table;
 use prover_io::{MemorySink, MemorySource};
 use std::alloc::Global;
 use std::process::Abort;

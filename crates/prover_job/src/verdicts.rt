@@ -1,6 +1,6 @@
 // The verdict on a problem's file.
 
-ghost use Rattle.formula.specs.Truth.{Meaning};
+ghost use Rattle.typed_formula.specs.Truth.{Meaning};
 ghost use Rattle.prover_job.specs.Verdicts.{IsFileOf, IsReadable, IsVerdict};
 ghost use Rattle.prover_job.specs.declared.verdicts.Verdict.{Verdict};
 ghost use Rattle.pri_typing.specs.Faults.{least};

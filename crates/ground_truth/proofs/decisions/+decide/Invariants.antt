@@ -1,5 +1,5 @@
 use Rattle.std.proofs.Common.{drop}
-use Rattle.formula.specs.Formula.{formulas_of}
+use Rattle.typed_formula.specs.Formula.{formulas_of}
 use Rattle.ground_truth.specs.Ground.{AreGround}
 use Rattle.ground_truth.proofs.Steps.{AllLeft, AnyLeft}
 use Rattle.ground_truth.proofs.decisions.+decide.Given as goal

@@ -1,5 +1,5 @@
 use Rattle.std.proofs.Common.{drop}
-use Rattle.formula.specs.Formula.{expressions_of}
+use Rattle.typed_formula.specs.Formula.{expressions_of}
 use Rattle.linear_term.specs.Range.{InRange}
 use Rattle.ground_truth.specs.Ground.{AreNumeric}
 use Rattle.ground_truth.proofs.Steps.{Left}

@@ -1,5 +1,5 @@
 use Rattle.std.proofs.Common.{◌≡◌, take, map, ◌∷◌}
-use Rattle.formula.specs.Formula.{formula, expression}
+use Rattle.typed_formula.specs.Formula.{formula, expression}
 use Rattle.pri_typing.specs.Bounds.{scope_at}
 use Rattle.pri_typing.specs.Phrase.{phrase}
 use Rattle.pri_typing.specs.Typing.{says, value, signed}

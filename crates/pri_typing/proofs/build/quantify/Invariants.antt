@@ -1,5 +1,5 @@
 use Rattle.std.proofs.Common.{◌≡◌}
-use Rattle.formula.specs.Formula.{formula}
+use Rattle.typed_formula.specs.Formula.{formula}
 use Rattle.pri_typing.specs.Typing.{quantifiers}
 use Rattle.pri_typing.proofs.build.quantify.Given as goal
 

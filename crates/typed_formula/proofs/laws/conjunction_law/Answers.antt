@@ -1,5 +1,5 @@
-use Rattle.formula.proofs.Connectives.{conjunction, not_every}
-use Rattle.formula.proofs.laws.conjunction_law.Goals as goal
+use Rattle.typed_formula.proofs.Connectives.{conjunction, not_every}
+use Rattle.typed_formula.proofs.laws.conjunction_law.Goals as goal
 
 pub returns-clause-members : goal.returns-clause-members
 returns-clause-members c = conjunction

@@ -6,9 +6,9 @@ use Rattle.std.specs.Bool.{Decides}
 use Rattle.std.proofs.lemmas.Bool.Decides.{Decides-eqb, Decides-int_eq, Decides-and}
 use Rattle.std.proofs.lemmas.Slice.Eq.{slice_eq-Decides}
 use Rattle.std.proofs.lemmas.List.Elements.{All-head, All-tail}
-use Rattle.formula.specs.declared.world.TruthRow.{TruthRow}
-use Rattle.formula.specs.declared.world.ValueRow.{ValueRow}
-use Rattle.formula.specs.Table.{is_row_for, is_true_at_row, value_at_row, SaysValue, SaysTruth}
+use Rattle.typed_formula.specs.declared.world.TruthRow.{TruthRow}
+use Rattle.typed_formula.specs.declared.world.ValueRow.{ValueRow}
+use Rattle.typed_formula.specs.Table.{is_row_for, is_true_at_row, value_at_row, SaysValue, SaysTruth}
 
 lists_decided : (xs ys : List ℤ) → Decides (pointwise int_eq xs ys) (xs ≡ ys)
 lists_decided xs ys = slice_eq-Decides Decides-int_eq xs ys _ refl

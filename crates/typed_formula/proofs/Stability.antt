@@ -1,11 +1,11 @@
 -- Truth is stable: what is not false is true.
 use Rattle.std.proofs.Common.{◌≡◌, ◌↔◌, ℤ, ◌≤ℤ◌, ◌<ℤ◌, Bool, true, List, [], ◌∷◌, ◌++◌, arith}
 use borrow.Author.Differences.{ints}
-use Rattle.formula.specs.declared.typed.Relation.{Relation}
-use Rattle.formula.specs.declared.typed.Relation.TheVariants.{Eq, Neq, Lt, Leq, Gt, Geq}
-use Rattle.formula.specs.Formula.{Formula, Formulas, constant, compares, applies, negation, every, some, implies, iff, for_all, for_some, part, no_formula, and_formula}
-use Rattle.formula.specs.Truth.{Meaning, Truth, AreAllTrue, IsRelated, opposite_relation}
-use Rattle.formula.proofs.Values.{value_stable, values_stable}
+use Rattle.typed_formula.specs.declared.typed.Relation.{Relation}
+use Rattle.typed_formula.specs.declared.typed.Relation.TheVariants.{Eq, Neq, Lt, Leq, Gt, Geq}
+use Rattle.typed_formula.specs.Formula.{Formula, Formulas, constant, compares, applies, negation, every, some, implies, iff, for_all, for_some, part, no_formula, and_formula}
+use Rattle.typed_formula.specs.Truth.{Meaning, Truth, AreAllTrue, IsRelated, opposite_relation}
+use Rattle.typed_formula.proofs.Values.{value_stable, values_stable}
 
 -- a test that does not fail to be true is true
 pub test_stable : (b : Bool) → ¬ (¬ (b ≡ true)) → b ≡ true

@@ -2,10 +2,10 @@
 -- both be had, and the negation of a property is had where the property is not.
 use Rattle.std.proofs.Common.{ℤ, pos, ◌*ℤ◌, neg_ℤ, List, [], ◌∷◌, unsigned_abs}
 use Rattle.std.specs.Int.{int_min, int_max}
-use Rattle.formula.specs.Formula.{Expression, Expressions, number, name, call, minus, total, product, choice, absolute, lesser, greater, no_expression, and_expression}
-use Rattle.formula.specs.Truth.{Meaning, Truth, HasValue, HaveValues}
+use Rattle.typed_formula.specs.Formula.{Expression, Expressions, number, name, call, minus, total, product, choice, absolute, lesser, greater, no_expression, and_expression}
+use Rattle.typed_formula.specs.Truth.{Meaning, Truth, HasValue, HaveValues}
 use Rattle.integers.specs.Entry.{entry}
-use Rattle.formula.specs.Lists.{sum_of}
+use Rattle.typed_formula.specs.Lists.{sum_of}
 
 mutual
   -- a property that follows from one that the value has is one that it has

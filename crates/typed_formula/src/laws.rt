@@ -2,12 +2,12 @@
 // interpretation, for every formula and term, at every list of integers.
 
 ghost use Rattle.std.specs.Prelude.{◌≡◌, ◌↔◌, ℕ, ℤ, pos, true, false, List, [], ◌∷◌, ◌++◌, map, All};
-ghost use Rattle.formula.specs.Formula.{Formula, Expression, formulas, negation, every, some, implies, iff, for_all, for_some, part};
-ghost use Rattle.formula.specs.Truth.{Meaning, Truth, HasValue, IsRelated, opposite_relation};
-ghost use Rattle.formula.specs.Table.{SaysTruth, SaysValue, is_true_at_row, value_at_row};
-ghost use Rattle.formula.specs.declared.typed.Relation.{Relation};
-ghost use Rattle.formula.specs.declared.world.TruthRow.{TruthRow};
-ghost use Rattle.formula.specs.declared.world.ValueRow.{ValueRow};
+ghost use Rattle.typed_formula.specs.Formula.{Formula, Expression, formulas, negation, every, some, implies, iff, for_all, for_some, part};
+ghost use Rattle.typed_formula.specs.Truth.{Meaning, Truth, HasValue, IsRelated, opposite_relation};
+ghost use Rattle.typed_formula.specs.Table.{SaysTruth, SaysValue, is_true_at_row, value_at_row};
+ghost use Rattle.typed_formula.specs.declared.typed.Relation.{Relation};
+ghost use Rattle.typed_formula.specs.declared.world.TruthRow.{TruthRow};
+ghost use Rattle.typed_formula.specs.declared.world.ValueRow.{ValueRow};
 
 /// What is not false is true, and so a formula is true exactly where its negation is false.
 pub fn stability_law()

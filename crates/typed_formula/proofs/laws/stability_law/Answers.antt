@@ -1,6 +1,6 @@
-use Rattle.formula.proofs.Stability.{truth_stable}
-use Rattle.formula.proofs.Connectives.{double_negation}
-use Rattle.formula.proofs.laws.stability_law.Goals as goal
+use Rattle.typed_formula.proofs.Stability.{truth_stable}
+use Rattle.typed_formula.proofs.Connectives.{double_negation}
+use Rattle.typed_formula.proofs.laws.stability_law.Goals as goal
 
 pub returns-clause-stable : goal.returns-clause-stable
 returns-clause-stable c = truth_stable

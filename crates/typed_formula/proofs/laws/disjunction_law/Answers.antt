@@ -1,5 +1,5 @@
-use Rattle.formula.proofs.Connectives.{disjunction, disjunct, not_some}
-use Rattle.formula.proofs.laws.disjunction_law.Goals as goal
+use Rattle.typed_formula.proofs.Connectives.{disjunction, disjunct, not_some}
+use Rattle.typed_formula.proofs.laws.disjunction_law.Goals as goal
 
 pub returns-clause-members : goal.returns-clause-members
 returns-clause-members c = disjunction

@@ -1,5 +1,5 @@
 use Rattle.std.proofs.Common.{◌≡◌, take}
-use Rattle.formula.proofs.+copy.Given as goal
+use Rattle.typed_formula.proofs.+copy.Given as goal
 
 abbrev pub invariant-copy::copy_formulas-loop-f : goal.invariant-copy::copy_formulas-loop-f
 invariant-copy::copy_formulas-loop-f l = l.out ≡ take l.f-index l.formulas

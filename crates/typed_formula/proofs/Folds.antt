@@ -1,15 +1,15 @@
 -- The tree of each form of a formula and a term: one equation a form, since a fold does not compute by itself.
 use Rattle.std.proofs.Common.{◌≡◌, ℕ, ℤ, Bool, List, ap, ◌∙◌, sym}
-use Rattle.formula.specs.declared.typed.Relation.{Relation}
-use Rattle.formula.specs.declared.typed.Typed.{Typed}
-use Rattle.formula.specs.declared.typed.Typed.TheVariants as f
-use Rattle.formula.specs.declared.typed.Typed.TheVariants.{rolls-Truth, rolls-Rel, rolls-Pred, rolls-Not, rolls-And, rolls-Or, rolls-Implies, rolls-Iff, rolls-Forall, rolls-Exists, rolls-Part}
-use Rattle.formula.specs.declared.typed.TypedTerm.{TypedTerm}
-use Rattle.formula.specs.declared.typed.TypedTerm.TheVariants as e
-use Rattle.formula.specs.declared.typed.TypedTerm.TheVariants.{rolls-Number, rolls-Name, rolls-Apply, rolls-Minus, rolls-Sum, rolls-Product, rolls-If, rolls-Abs, rolls-Min, rolls-Max}
-use Rattle.formula.specs.declared.typed.Typed.TheOpen as o
-use Rattle.formula.specs.declared.typed.Typed.TheFolds.{fold-roll-Typed, fold-roll-TypedTerm}
-use Rattle.formula.specs.Formula.{Formula, Expression, formula, formulas_of, expression, expressions_of, formula_step, expression_step, constant, compares, applies, negation, every, some, implies, iff, for_all, for_some, part, number, name, call, minus, total, product, choice, absolute, lesser, greater}
+use Rattle.typed_formula.specs.declared.typed.Relation.{Relation}
+use Rattle.typed_formula.specs.declared.typed.Typed.{Typed}
+use Rattle.typed_formula.specs.declared.typed.Typed.TheVariants as f
+use Rattle.typed_formula.specs.declared.typed.Typed.TheVariants.{rolls-Truth, rolls-Rel, rolls-Pred, rolls-Not, rolls-And, rolls-Or, rolls-Implies, rolls-Iff, rolls-Forall, rolls-Exists, rolls-Part}
+use Rattle.typed_formula.specs.declared.typed.TypedTerm.{TypedTerm}
+use Rattle.typed_formula.specs.declared.typed.TypedTerm.TheVariants as e
+use Rattle.typed_formula.specs.declared.typed.TypedTerm.TheVariants.{rolls-Number, rolls-Name, rolls-Apply, rolls-Minus, rolls-Sum, rolls-Product, rolls-If, rolls-Abs, rolls-Min, rolls-Max}
+use Rattle.typed_formula.specs.declared.typed.Typed.TheOpen as o
+use Rattle.typed_formula.specs.declared.typed.Typed.TheFolds.{fold-roll-Typed, fold-roll-TypedTerm}
+use Rattle.typed_formula.specs.Formula.{Formula, Expression, formula, formulas_of, expression, expressions_of, formula_step, expression_step, constant, compares, applies, negation, every, some, implies, iff, for_all, for_some, part, number, name, call, minus, total, product, choice, absolute, lesser, greater}
 
 pub formula-Truth : (b : Bool) → formula (f.Truth b) ≡ constant b
 formula-Truth b = ap formula (sym (rolls-Truth b)) ∙ fold-roll-Typed Formula Expression formula_step expression_step (o.Truth b)

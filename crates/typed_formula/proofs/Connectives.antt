@@ -2,11 +2,11 @@
 use Rattle.std.proofs.Common.{◌≡◌, ◌↔◌, ℤ, pos, ◌*ℤ◌, neg_ℤ, List, [], ◌∷◌, ◌++◌, map, All, refl, ap, ◌∙◌, sym, unsigned_abs}
 use Rattle.std.specs.Int.{int_min, int_max}
 use Rattle.std.proofs.lemmas.List.Elements.{All-nil, All-cons, All-head, All-tail}
-use Rattle.formula.specs.Formula.{Formula, Formulas, Expression, Expressions, formulas, negation, every, some, implies, iff, for_all, for_some, no_formula, and_formula, number, name, call, minus, total, product, choice, absolute, lesser, greater, no_expression, and_expression}
-use Rattle.formula.specs.Truth.{Meaning, Truth, AreAllTrue, AreAllFalse, HasValue, HaveValues}
-use Rattle.formula.specs.Lists.{sum_of}
-use Rattle.formula.proofs.Values.{value_more, values_more, value_clash}
-use Rattle.formula.proofs.Stability.{truth_stable, equal_stable}
+use Rattle.typed_formula.specs.Formula.{Formula, Formulas, Expression, Expressions, formulas, negation, every, some, implies, iff, for_all, for_some, no_formula, and_formula, number, name, call, minus, total, product, choice, absolute, lesser, greater, no_expression, and_expression}
+use Rattle.typed_formula.specs.Truth.{Meaning, Truth, AreAllTrue, AreAllFalse, HasValue, HaveValues}
+use Rattle.typed_formula.specs.Lists.{sum_of}
+use Rattle.typed_formula.proofs.Values.{value_more, values_more, value_clash}
+use Rattle.typed_formula.proofs.Stability.{truth_stable, equal_stable}
 
 -- what is not not true is true, and the other way round
 pub double_negation : (w : Meaning) (f : Formula) (e : List ℤ) → Truth w (negation (negation f)) e ↔ Truth w f e

@@ -8,11 +8,11 @@
 -- has the value v where its value has the property of being v.
 use Rattle.std.specs.Prelude.{◌≡◌, ℕ, ℤ, pos, ◌*ℤ◌, neg_ℤ, ◌<ℤ◌, ◌≤ℤ◌, Bool, true, List, [], ◌∷◌, ◌++◌, unsigned_abs}
 use Rattle.std.specs.Int.{int_min, int_max}
-use Rattle.formula.specs.declared.typed.Relation.{Relation}
-use Rattle.formula.specs.declared.typed.Relation.TheVariants.{Eq, Neq, Lt, Leq, Gt, Geq}
-use Rattle.formula.specs.Formula.{Formula, Formulas, Expression, Expressions, constant, compares, applies, negation, every, some, implies, iff, for_all, for_some, part, no_formula, and_formula, number, name, call, minus, total, product, choice, absolute, lesser, greater, no_expression, and_expression}
+use Rattle.typed_formula.specs.declared.typed.Relation.{Relation}
+use Rattle.typed_formula.specs.declared.typed.Relation.TheVariants.{Eq, Neq, Lt, Leq, Gt, Geq}
+use Rattle.typed_formula.specs.Formula.{Formula, Formulas, Expression, Expressions, constant, compares, applies, negation, every, some, implies, iff, for_all, for_some, part, no_formula, and_formula, number, name, call, minus, total, product, choice, absolute, lesser, greater, no_expression, and_expression}
 use Rattle.integers.specs.Entry.{entry}
-use Rattle.formula.specs.Lists.{sum_of}
+use Rattle.typed_formula.specs.Lists.{sum_of}
 
 -- an interpretation: what the predicates and functions, by number, are at lists of integers
 pub record Meaning : Type 0 where

@@ -53,7 +53,7 @@ impl Table {
 }
 
 impl World for Table {
-    ghost use Rattle.formula.specs.Table.{is_true_at_row, value_at_row};
+    ghost use Rattle.typed_formula.specs.Table.{is_true_at_row, value_at_row};
 
     ghost truth = { λ t p xs. is_true_at_row t.truths p xs };
 

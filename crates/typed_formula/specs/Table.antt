@@ -2,8 +2,8 @@
 use Rattle.std.specs.Prelude.{◌≡◌, ℕ, ℤ, Bool, true, false, List, [], ◌∷◌, pos, ◌&&◌, nat_eq, if◌then◌else◌}
 use Rattle.std.specs.Ordering.{int_eq}
 use Rattle.std.specs.Cmp.Lexicographic.{pointwise}
-use Rattle.formula.specs.declared.world.TruthRow.{TruthRow}
-use Rattle.formula.specs.declared.world.ValueRow.{ValueRow}
+use Rattle.typed_formula.specs.declared.world.TruthRow.{TruthRow}
+use Rattle.typed_formula.specs.declared.world.ValueRow.{ValueRow}
 
 -- a row of this number at these integers is one for the number f at xs
 abbrev pub is_row_for : ℕ → List ℤ → ℕ → List ℤ → Bool

@@ -1,5 +1,5 @@
-use Rattle.formula.proofs.Rows.{is_true_at_row-row, is_true_at_row-none, value_at_row-row, value_at_row-none}
-use Rattle.formula.proofs.laws.table_law.Goals as goal
+use Rattle.typed_formula.proofs.Rows.{is_true_at_row-row, is_true_at_row-none, value_at_row-row, value_at_row-none}
+use Rattle.typed_formula.proofs.laws.table_law.Goals as goal
 
 pub returns-clause-row_true : goal.returns-clause-row_true
 returns-clause-row_true c = is_true_at_row-row

@@ -1,5 +1,5 @@
-use Rattle.formula.proofs.Connectives.{one_value, some_value}
-use Rattle.formula.proofs.laws.value_law.Goals as goal
+use Rattle.typed_formula.proofs.Connectives.{one_value, some_value}
+use Rattle.typed_formula.proofs.laws.value_law.Goals as goal
 
 pub returns-clause-one_value : goal.returns-clause-one_value
 returns-clause-one_value c = one_value

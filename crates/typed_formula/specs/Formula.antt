@@ -1,12 +1,12 @@
 -- Formulas and terms as trees of the logic, and the tree that a typed formula or term of the code is. All that is
 -- defined and proved of truth speaks of these trees.
 use Rattle.std.specs.Prelude.{ℕ, ℤ, Bool, List, [], ◌∷◌, map}
-use Rattle.formula.specs.declared.typed.Relation.{Relation}
-use Rattle.formula.specs.declared.typed.Typed.{Typed}
-use Rattle.formula.specs.declared.typed.TypedTerm.{TypedTerm}
-use Rattle.formula.specs.declared.typed.Typed.TheOpen as o
-use Rattle.formula.specs.declared.typed.Typed.TheOpen.{Typed-F, TypedTerm-F}
-use Rattle.formula.specs.declared.typed.Typed.TheFolds.{fold-Typed, fold-TypedTerm}
+use Rattle.typed_formula.specs.declared.typed.Relation.{Relation}
+use Rattle.typed_formula.specs.declared.typed.Typed.{Typed}
+use Rattle.typed_formula.specs.declared.typed.TypedTerm.{TypedTerm}
+use Rattle.typed_formula.specs.declared.typed.Typed.TheOpen as o
+use Rattle.typed_formula.specs.declared.typed.Typed.TheOpen.{Typed-F, TypedTerm-F}
+use Rattle.typed_formula.specs.declared.typed.Typed.TheFolds.{fold-Typed, fold-TypedTerm}
 
 mutual
   -- a formula of first-order integer arithmetic with predicates and functions, names by number
