@@ -1,0 +1,13 @@
+pub mod Stability
+pub mod Anywhere
+pub mod Shifts
+pub mod Overs
+pub mod Duals
+pub mod Sameness
+pub mod Depths
+pub mod Building
+pub mod Making
+pub mod Measuring
+pub mod Negating
+pub mod Raising
+pub mod Shifted

@@ -1,0 +1,6 @@
+pub mod Duals
+pub mod Form
+pub mod Made
+pub mod Shifts
+pub mod Sizes
+pub mod Tree
