@@ -1,0 +1,12 @@
+pub mod Products
+pub mod Extending
+pub mod Cases
+pub mod Keeping
+pub mod Overs
+pub mod Frees
+pub mod Extents
+pub mod Roots
+pub mod Plains
+pub mod PartsFlat
+pub mod Problems
+pub mod Parts

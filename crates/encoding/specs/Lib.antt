@@ -1,0 +1,6 @@
+pub mod Encoding
+pub mod Extent
+pub mod Meaning
+pub mod Plain
+pub mod Problems
+pub mod Root
