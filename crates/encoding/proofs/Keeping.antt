@@ -24,7 +24,8 @@ use Rattle.pri_typing.specs.WellFormed.{is_numeric, are_numeric}
 use Rattle.encoding.specs.Encoding.{named, multiple, related, signed_relation, product_of, junction, quantified, cases, encoded, all_encoded, with_value, with_values, with_sum, with_more}
 use Rattle.encoding.specs.Meaning.{Signed}
 use Rattle.encoding.proofs.Products.{IsFormulaLinear, AreFormulasLinear, IsTermLinear, AreTermsLinear}
-use Rattle.encoding.proofs.Extending.{Extends, extends_refl, extends_trans, extends_more, entry_last, value_extends, values_extend, over_more, over_number, over_name, IsRead, read_extends, read_bound, value_named, over_named}
+use Rattle.formula.proofs.Extending.{Extends, extends_refl, extends_trans, extends_more, entry_last, value_extends, values_extend, over_more, over_number, over_name}
+use Rattle.encoding.proofs.Extending.{IsRead, read_extends, read_bound, value_named, over_named}
 use Rattle.formula.proofs.Stability.{form_stable}
 use Rattle.encoding.proofs.Cases.{iff_trans, moved, call_law, choice_law, absolute_law, lesser_law, greater_law}
 

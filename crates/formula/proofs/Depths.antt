@@ -1,23 +1,15 @@
 -- A formula over n of depth k has its names, bound ones included, below n + k.
-use Rattle.std.proofs.Common.{ℕ, suc, ◌+◌, ◌<◌, ◌≤◌, max, ℤ, List, [], ◌∷◌, All, arith}
+use Rattle.std.proofs.Common.{ℕ, suc, ◌+◌, ◌≤◌, max, List, [], ◌∷◌, All, arith}
 use Rattle.std.proofs.lemmas.List.Elements.{All-nil, All-cons, All-head, All-tail}
 use Rattle.linear_term.specs.Linear.{Linear, IsOver}
 use Rattle.formula.specs.Form.{Form, Forms, equal, unequal, at_least, holds, fails, differs, conjunction, disjunction, universal, existential, no_form, and_form, IsFormOver, AreFormsOver}
+use Rattle.formula.proofs.Extending.{over_more}
 use Rattle.formula.specs.Sizes.{depth, depths}
 use Rattle.formula.specs.Shifts.{IsBelow, AreBelow}
 
-pairs_more : (n m : ℕ) (ps : List (ℕ × ℤ)) → n ≤ m → All (λ (p : ℕ × ℤ). p.0 < n) ps → All (λ (p : ℕ × ℤ). p.0 < m) ps
-pairs_more n m [] le h = All-nil (λ (q : ℕ × ℤ). q.0 < m)
-pairs_more n m (p ∷ ps) le h =
-    let lt : p.0 < n = All-head (λ (q : ℕ × ℤ). q.0 < n) p ps h in
-    All-cons (λ (q : ℕ × ℤ). q.0 < m) p ps (omega (arith, lt, le)) (pairs_more n m ps le (All-tail (λ (q : ℕ × ℤ). q.0 < n) p ps h))
-
-term_more : (n m : ℕ) (t : Linear) → n ≤ m → IsOver n t → IsOver m t
-term_more n m t le h = pairs_more n m t.pairs le h
-
 terms_more : (n m : ℕ) (ts : List Linear) → n ≤ m → All (IsOver n) ts → All (IsOver m) ts
 terms_more n m [] le h = All-nil (IsOver m)
-terms_more n m (t ∷ ts) le h = All-cons (IsOver m) t ts (term_more n m t le (All-head (IsOver n) t ts h)) (terms_more n m ts le (All-tail (IsOver n) t ts h))
+terms_more n m (t ∷ ts) le h = All-cons (IsOver m) t ts (over_more n m t le (All-head (IsOver n) t ts h)) (terms_more n m ts le (All-tail (IsOver n) t ts h))
 
 left_most : (n a c b : ℕ) → n + max a c ≤ b → n + a ≤ b
 left_most n a c b h = grind (arith, h)
@@ -27,12 +19,12 @@ right_most n a c b h = grind (arith, h)
 
 mutual
   pub below_depth : (n b : ℕ) (f : Form) → n + depth f ≤ b → IsFormOver n f → IsBelow b f
-  below_depth n b (equal t) le h = term_more n b t (omega (arith, le)) h
-  below_depth n b (unequal t) le h = term_more n b t (omega (arith, le)) h
-  below_depth n b (at_least t) le h = term_more n b t (omega (arith, le)) h
+  below_depth n b (equal t) le h = over_more n b t (omega (arith, le)) h
+  below_depth n b (unequal t) le h = over_more n b t (omega (arith, le)) h
+  below_depth n b (at_least t) le h = over_more n b t (omega (arith, le)) h
   below_depth n b (holds p ts) le h = terms_more n b ts (omega (arith, le)) h
   below_depth n b (fails p ts) le h = terms_more n b ts (omega (arith, le)) h
-  below_depth n b (differs p ts u) le h = (terms_more n b ts (omega (arith, le)) h.0, term_more n b u (omega (arith, le)) h.1)
+  below_depth n b (differs p ts u) le h = (terms_more n b ts (omega (arith, le)) h.0, over_more n b u (omega (arith, le)) h.1)
   below_depth n b (conjunction fs) le h = below_depths n b fs (omega (arith, le)) h
   below_depth n b (disjunction fs) le h = below_depths n b fs (omega (arith, le)) h
   below_depth n b (universal f) le h = below_depth (suc n) b f (omega (arith, le)) h

@@ -1,9 +1,8 @@
 -- The dual is the negation, and speaks of the same names.
-use Rattle.std.proofs.Common.{◌≡◌, ◌↔◌, ℕ, suc, ◌<◌, ℤ, pos, negsuc, ◌+ℤ◌, ◌*ℤ◌, ◌≤ℤ◌, Bool, true, List, [], ◌∷◌, ◌++◌, arith}
+use Rattle.std.proofs.Common.{◌≡◌, ◌↔◌, ℕ, suc, ℤ, pos, negsuc, ◌+ℤ◌, ◌*ℤ◌, ◌≤ℤ◌, Bool, true, List, [], ◌∷◌, ◌++◌, arith}
 use Rattle.std.proofs.lemmas.Int.{ints}
 use Rattle.std.proofs.lemmas.Bool.{and_parts}
-use Rattle.std.proofs.lemmas.List.Elements.{All-nil}
-use Rattle.linear_term.specs.Linear.{Linear, value_of, number, IsOver}
+use Rattle.linear_term.specs.Linear.{Linear, value_of, number}
 use Rattle.linear_term.specs.Combination.{combination}
 use Rattle.linear_term.proofs.Totals.{value_of-combination, value_of-number}
 use Rattle.linear_term.proofs.Names.{combination-over}
@@ -11,6 +10,7 @@ use Rattle.typed_formula.specs.Truth.{Meaning}
 use Rattle.purse.specs.Trace.{just, step, next}
 use Rattle.formula.specs.Form.{Form, Forms, equal, unequal, at_least, holds, fails, differs, conjunction, disjunction, universal, existential, no_form, and_form, FormTruth, AreFormsTrue, AreFormsFalse, is_pure, are_pure, IsFormOver, AreFormsOver}
 use Rattle.formula.specs.Duals.{dual, duals}
+use Rattle.formula.proofs.Extending.{over_number}
 use Rattle.formula.proofs.Stability.{form_stable}
 
 below_zero : (t : Linear) (e : List ℤ) → value_of (combination (negsuc 0) t (pos 1) (number (negsuc 0))) e ≡ (negsuc 0 *ℤ value_of t e) +ℤ negsuc 0
@@ -24,9 +24,6 @@ equal_stable x y h = grind (arith, ints)
 
 test_stable : (b : Bool) → ¬ (¬ (b ≡ true)) → b ≡ true
 test_stable b h = grind arith
-
-over_number : (n : ℕ) (k : ℤ) → IsOver n (number k)
-over_number n k = All-nil (λ (q : ℕ × ℤ). q.0 < n)
 
 mutual
   unfolding next just step

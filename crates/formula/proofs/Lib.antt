@@ -1,3 +1,4 @@
+pub mod Extending
 pub mod Stability
 pub mod Anywhere
 pub mod Shifts

@@ -1,0 +1,4 @@
+pub mod Clashes
+pub mod Pures
+pub mod Making
+pub mod Leaves

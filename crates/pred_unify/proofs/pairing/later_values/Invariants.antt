@@ -1,0 +1,9 @@
+use Rattle.std.proofs.Common.{map, drop}
+use Rattle.purse.proofs.Charging.{Left}
+use Rattle.pred_unify.specs.Pairs.{function_pairs}
+use Rattle.formula.specs.Tree.{form}
+use Rattle.sequent.specs.Views.{members_of}
+use Rattle.pred_unify.proofs.pairing.later_values.Given as goal
+
+abbrev pub invariant-loop-i : goal.invariant-loop-i
+invariant-loop-i l = Left (function_pairs (members_of (drop l.i l.members)) (map form l.out)) (function_pairs (members_of l.members) (map form l.fn.before))

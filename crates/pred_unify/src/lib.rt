@@ -1,0 +1,9 @@
+// Pairs of members that close a sequent: a predicate that holds and fails at equal arguments, a function with two values
+// at equal arguments. What closes a leaf is one formula without predicates and functions.
+#![tactic(auto)]
+
+mod laws;
+mod pairing;
+
+pub use laws::{closing_law, leaf_law, pure_law};
+pub use pairing::{closing, pairs};

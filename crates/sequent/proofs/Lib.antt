@@ -1,0 +1,11 @@
+pub mod Members
+pub mod Shaping
+pub mod Stepping
+pub mod Fitting
+pub mod Premising
+pub mod Forming
+pub mod Firsts
+pub mod Saturated
+pub mod Covering
+pub mod Lasts
+pub mod Limiting
