@@ -21,3 +21,4 @@ pub mod Intervals
 pub mod Formed
 pub mod Measures
 pub mod Ranges
+pub mod Tables

@@ -15,3 +15,4 @@ pub mod Rules
 pub mod Met
 pub mod Formed
 pub mod Text
+pub mod Table

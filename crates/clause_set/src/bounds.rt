@@ -2,13 +2,16 @@
 
 ghost use Rattle.clause_set.specs.Clauses.{bounds_apart, extent, is_negative, is_void, is_zero, least, same_pairs, slack_of, slack, tightened, with_constant};
 ghost use Rattle.clause_set.specs.Normal.{leads_negative, negated, turned};
+ghost use Rattle.clause_set.specs.Table.{bound_at};
 ghost use Rattle.linear_term.specs.Linear.{IsNormal};
 ghost use Rattle.linear_term.specs.Range.{InRange};
-ghost use Rattle.std.specs.Prelude.{◌≡◌, ◌+ℤ◌, pos, int_lt, neg_ℤ, All, IfOk, IfSome};
+ghost use Rattle.std.specs.Prelude.{◌≡◌, ◌+ℤ◌, pos, int_lt, neg_ℤ, All, IfOk, IfSome, List, ℕ, ℤ};
 
 use super::literal::Literal;
+use super::table::bound_at;
 use linear_term::{Memory, Term};
 use std::alloc::Global;
+use std::collections::BTreeMap;
 
 /// Each coefficient negated.
 pub(crate) fn negated(alloc: Global, pairs: &[(u32, i128)]) -> Result<Vec<(u32, i128)>, Memory>
@@ -122,27 +125,32 @@ fn is_zero(j: Option<i128>, k: Option<i128>) -> bool
 
 /// Whether no value lies between the literals' bounds of the term's coefficients.
 #[tactic(auto, using(crate::proofs::Terms::terms))]
-fn is_void_bound(alloc: Global, literals: &[Literal], t: &Term) -> Result<bool, Memory>
+fn is_void_bound(alloc: Global, table: &BTreeMap<Vec<(u32, i128)>, i128>, literals: &[Literal], t: &Term) -> Result<bool, Memory>
+    requires exact { (q : List (ℕ × ℤ)) → bound_at table.now q ≡ slack literals.now q }
+    requires range { (q : List (ℕ × ℤ)) → IfSome (bound_at table.now q) (λ k. InRange k) }
     ensures { IfOk result (λ b. b ≡ is_negative (extent literals.now t.now.pairs)) }
 {
     t.is_normal();
     let n = negated(alloc, t.pairs())?;
-    let low = slack(literals, t.pairs(), n.as_slice());
-    let high = slack(literals, n.as_slice(), t.pairs());
+    let low = bound_at(table, t.pairs());
+    let high = bound_at(table, n.as_slice());
     Ok(is_negative(low, high))
 }
 
 /// Whether no value lies between the literals' bounds of this one's coefficients.
 pub(crate) fn is_void(
     alloc: Global,
+    table: &BTreeMap<Vec<(u32, i128)>, i128>,
     literals: &[Literal],
     literal: &Literal,
 ) -> Result<bool, Memory>
+    requires exact { (q : List (ℕ × ℤ)) → bound_at table.now q ≡ slack literals.now q }
+    requires range { (q : List (ℕ × ℤ)) → IfSome (bound_at table.now q) (λ k. InRange k) }
     ensures { IfOk result (λ b. b ≡ is_void literals.now literal.now) }
 {
     match literal {
-        Literal::Eq(t) => is_void_bound(alloc, literals, t),
-        Literal::Geq(t) => is_void_bound(alloc, literals, t),
+        Literal::Eq(t) => is_void_bound(alloc, table, literals, t),
+        Literal::Geq(t) => is_void_bound(alloc, table, literals, t),
         Literal::Div(_, _) => Ok(false),
         Literal::NDiv(_, _) => Ok(false),
     }
@@ -166,7 +174,7 @@ pub(crate) fn turned(
     Term::of(alloc, pairs, constant)
 }
 
-fn opposite_of(k: i128) -> i128
+pub(crate) fn opposite_of(k: i128) -> i128
     requires { InRange k }
     ensures { result ≡ neg_ℤ k }
 {
@@ -184,13 +192,15 @@ fn leads_negative(pairs: &[(u32, i128)]) -> bool
 
 /// The bound t ≥ 0 as the tightest one of the literals, as an equation where its coefficients have one value alone.
 #[tactic(auto, using(crate::proofs::Terms::turning))]
-fn tightened_bound(alloc: Global, literals: &[Literal], t: &Term) -> Result<Literal, Memory>
+fn tightened_bound(alloc: Global, table: &BTreeMap<Vec<(u32, i128)>, i128>, literals: &[Literal], t: &Term) -> Result<Literal, Memory>
+    requires exact { (q : List (ℕ × ℤ)) → bound_at table.now q ≡ slack literals.now q }
+    requires range { (q : List (ℕ × ℤ)) → IfSome (bound_at table.now q) (λ k. InRange k) }
     ensures { IfOk result (λ l. l ≡ tightened literals.now (Literal.Geq t.now)) }
 {
     t.is_normal();
     let n = negated(alloc, t.pairs())?;
-    let low = slack(literals, t.pairs(), n.as_slice());
-    let high = slack(literals, n.as_slice(), t.pairs());
+    let low = bound_at(table, t.pairs());
+    let high = bound_at(table, n.as_slice());
     let constant = constant_of(low, t);
     if is_zero(low, high) {
         return Ok(Literal::Eq(turned(alloc, t.pairs(), n.as_slice(), constant)?));
@@ -212,13 +222,16 @@ fn constant_of(k: Option<i128>, t: &Term) -> i128
 /// The literal as the others tighten it.
 pub(crate) fn tightened(
     alloc: Global,
+    table: &BTreeMap<Vec<(u32, i128)>, i128>,
     literals: &[Literal],
     literal: &Literal,
 ) -> Result<Literal, Memory>
+    requires exact { (q : List (ℕ × ℤ)) → bound_at table.now q ≡ slack literals.now q }
+    requires range { (q : List (ℕ × ℤ)) → IfSome (bound_at table.now q) (λ k. InRange k) }
     ensures { IfOk result (λ l. l ≡ tightened literals.now literal.now) }
 {
     match literal {
-        Literal::Geq(t) => tightened_bound(alloc, literals, t),
+        Literal::Geq(t) => tightened_bound(alloc, table, literals, t),
         Literal::Eq(_) => literal.copy(),
         Literal::Div(_, _) => literal.copy(),
         Literal::NDiv(_, _) => literal.copy(),

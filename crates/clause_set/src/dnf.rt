@@ -2,9 +2,10 @@
 
 ghost use Rattle.clause_set.specs.Clause.{IsDnf};
 ghost use Rattle.clause_set.specs.Clauses.{clause_of, clauses_of, found};
-ghost use Rattle.clause_set.specs.Dnfs.{combining, conjunction, denied_clauses, denied_literal, disjunction, joined, joined_with, negated_clause, negated_literal, negation, tidied, tidying, top};
+ghost use Rattle.clause_set.specs.Dnfs.{conjunction, denied_clauses, denied_literal, disjunction, joined, joined_with, negated_clause, negated_literal, negation, tidied, tidying, top};
 ghost use Rattle.clause_set.specs.Literals.{AreLiterals, dnf_truth, HasDivisor};
 ghost use Rattle.linear_term.specs.Linear.{number};
+ghost use Rattle.purse.specs.Trace.{combining};
 ghost use Rattle.purse.specs.Work.{Charged, Worked};
 ghost use Rattle.std.specs.Prelude.{◌≡◌, ◌<◌, ◌++◌, ◌&&◌, ◌||◌, [], ◌∷◌, pos, negsuc, IfOk, length, List, not, OnOk, slice_get, Some, ℤ};
 
@@ -227,7 +228,7 @@ fn found(alloc: Global, c: Option<Clause>) -> Result<Items<Clause>, Memory>
 }
 
 /// −t − 1.
-#[tactic(auto, using(crate::proofs::Charges::combinations))]
+#[tactic(auto, using(purse::proofs::Charging::combinations))]
 fn below(alloc: Global, t: &Term) -> Result<Term, StepFault>
     ensures { Worked (combining (negsuc 0) t.now (pos 1) (number (negsuc 0))) result }
 {
@@ -238,7 +239,7 @@ fn below(alloc: Global, t: &Term) -> Result<Term, StepFault>
 }
 
 /// t − 1.
-#[tactic(auto, using(crate::proofs::Charges::combinations))]
+#[tactic(auto, using(purse::proofs::Charging::combinations))]
 fn above(alloc: Global, t: &Term) -> Result<Term, StepFault>
     ensures { Worked (combining (pos 1) t.now (pos 1) (number (negsuc 0))) result }
 {

@@ -10,6 +10,7 @@ mod laws;
 mod literal;
 mod normal_form;
 mod order;
+mod table;
 mod weight;
 
 pub use clause::{Clause, copy_literals, normal};

@@ -1,3 +1,4 @@
 pub mod Trace
 pub mod Work
 pub mod Runs
+pub mod Followed
