@@ -22,3 +22,9 @@ pub mod Formed
 pub mod Measures
 pub mod Ranges
 pub mod Tables
+pub mod Kept
+pub mod Primitive
+pub mod Owned
+pub mod Points
+pub mod Shapes
+pub mod Tested

@@ -14,5 +14,7 @@ pub mod Shadows
 pub mod Rules
 pub mod Met
 pub mod Formed
+pub mod Primitive
+pub mod Kept
 pub mod Text
 pub mod Table
