@@ -28,3 +28,4 @@ pub mod Owned
 pub mod Points
 pub mod Shapes
 pub mod Tested
+pub mod Putting

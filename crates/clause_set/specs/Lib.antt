@@ -2,6 +2,7 @@ pub mod Literals
 pub mod Normal
 pub mod Content
 pub mod Order
+pub mod Total
 pub mod Clauses
 pub mod Weight
 pub mod Dnfs
