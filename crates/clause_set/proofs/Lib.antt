@@ -29,3 +29,4 @@ pub mod Points
 pub mod Shapes
 pub mod Tested
 pub mod Putting
+pub mod Opposites

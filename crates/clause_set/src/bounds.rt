@@ -5,7 +5,7 @@ ghost use Rattle.clause_set.specs.Normal.{leads_negative, negated, turned};
 ghost use Rattle.clause_set.specs.Table.{bound_at};
 ghost use Rattle.linear_term.specs.Linear.{IsNormal};
 ghost use Rattle.linear_term.specs.Range.{InRange};
-ghost use Rattle.std.specs.Prelude.{◌≡◌, ◌+ℤ◌, pos, int_lt, neg_ℤ, All, IfOk, IfSome, List, ℕ, ℤ};
+ghost use Rattle.std.specs.Prelude.{◌≡◌, ◌↔◌, ◌+ℤ◌, pos, int_lt, neg_ℤ, All, IfOk, IfSome, IsTrue, List, ℕ, ℤ};
 
 use super::literal::Literal;
 use super::table::bound_at;
@@ -26,10 +26,44 @@ pub(crate) fn negated(alloc: Global, pairs: &[(u32, i128)]) -> Result<Vec<(u32, 
 }
 
 /// Whether two lists of coefficients are the same.
+#[tactic(auto, using(crate::proofs::Opposites::opposites))]
 pub(crate) fn same_pairs(p: &[(u32, i128)], q: &[(u32, i128)]) -> bool
     ensures { result ≡ same_pairs p.now q.now }
 {
+    if p.len() != q.len() {
+        return false;
+    }
     p.cmp(&q).is_eq()
+}
+
+/// Whether the coefficients p are the opposite of q.
+#[tactic(auto, using(crate::proofs::Opposites::opposites))]
+fn are_opposite(p: &[(u32, i128)], q: &[(u32, i128)]) -> bool
+    requires { All (λ r. InRange r.1) q.now }
+    ensures { result ≡ same_pairs p.now (negated q.now) }
+{
+    if p.len() != q.len() {
+        return false;
+    }
+    let (mut p, mut q) = (p, q);
+    while let Some((x, p_rest)) = p.split_first() {
+        let Some((y, q_rest)) = q.split_first() else {
+            return false;
+        };
+        if !is_opposite(x, y) {
+            return false;
+        }
+        p = p_rest;
+        q = q_rest;
+    }
+    q.is_empty()
+}
+
+fn is_opposite(x: &(u32, i128), y: &(u32, i128)) -> bool
+    requires { InRange y.now.1 }
+    ensures { IsTrue result ↔ ((x.now.0 ≡ y.now.0) × (x.now.1 ≡ neg_ℤ y.now.1)) }
+{
+    x.0 == y.0 && x.1 == -y.1
 }
 
 /// The lesser of two bounds, where there are any.
@@ -46,14 +80,14 @@ fn least(j: Option<i128>, k: Option<i128>) -> Option<i128>
     Some(first.min(second))
 }
 
-/// The number k of which the literal says p + k ≥ 0, where n is the opposite of p.
-fn slack_of(literal: &Literal, p: &[(u32, i128)], n: &[(u32, i128)]) -> Option<i128>
-    requires { n.now ≡ negated p.now }
+/// The number k of which the literal says p + k ≥ 0.
+fn slack_of(literal: &Literal, p: &[(u32, i128)]) -> Option<i128>
+    requires { All (λ r. InRange r.1) p.now }
     ensures exact { result ≡ slack_of literal.now p.now }
     ensures range { IfSome result (λ k. InRange k) }
 {
     match literal {
-        Literal::Eq(t) => equation_slack(t, p, n),
+        Literal::Eq(t) => equation_slack(t, p),
         Literal::Geq(t) => {
             if same_pairs(t.pairs(), p) {
                 return Some(t.constant());
@@ -65,30 +99,30 @@ fn slack_of(literal: &Literal, p: &[(u32, i128)], n: &[(u32, i128)]) -> Option<i
     }
 }
 
-fn equation_slack(t: &Term, p: &[(u32, i128)], n: &[(u32, i128)]) -> Option<i128>
-    requires { n.now ≡ negated p.now }
+fn equation_slack(t: &Term, p: &[(u32, i128)]) -> Option<i128>
+    requires { All (λ r. InRange r.1) p.now }
     ensures exact { result ≡ slack_of (Literal.Eq t.now) p.now }
     ensures range { IfSome result (λ k. InRange k) }
 {
     if same_pairs(t.pairs(), p) {
         return Some(t.constant());
     }
-    if same_pairs(t.pairs(), n) {
+    if are_opposite(t.pairs(), p) {
         return Some(-t.constant());
     }
     None
 }
 
-/// The least number k of which one of the literals says p + k ≥ 0, where n is the opposite of p.
+/// The least number k of which one of the literals says p + k ≥ 0.
 #[tactic(auto, using(crate::proofs::Slack::slacks))]
-pub(crate) fn slack(literals: &[Literal], p: &[(u32, i128)], n: &[(u32, i128)]) -> Option<i128>
-    requires { n.now ≡ negated p.now }
+pub(crate) fn slack(literals: &[Literal], p: &[(u32, i128)]) -> Option<i128>
+    requires { All (λ r. InRange r.1) p.now }
     ensures exact { result ≡ slack literals.now p.now }
     ensures range { IfSome result (λ k. InRange k) }
 {
     let mut found = None;
     for literal in literals {
-        found = least(found, slack_of(literal, p, n));
+        found = least(found, slack_of(literal, p));
     }
     found
 }
