@@ -26,7 +26,7 @@ use Rattle.clause_set.specs.Normal.{gcd_with, divided, quotient, negated, leads_
 use Rattle.clause_set.specs.Order.{literal_cmp, sorted_once}
 use Rattle.clause_set.specs.Clauses.{slack, extent, is_zero, is_void, with_constant, tightened, compact, is_false, literals_of, clause_of, found, clauses_of}
 use Rattle.clause_set.proofs.Contents.{gcd_with-positive, gcd_with-divides, gcd_with-divides_all, gcd_positive_right, quotient_exact}
-use Rattle.clause_set.proofs.Divisors.{sorted_once-kept, kept-append}
+use Rattle.clause_set.proofs.Kept.{Keeps, normals-kept, clause-kept, clauses-kept}
 
 -- pairs as a reduced term has them
 record AreReduced (n : ℕ) (ps : List (ℕ × ℤ)) : Type 0 where
@@ -51,14 +51,14 @@ divided-not_zero : (g : ℤ) (ps : List (ℕ × ℤ)) → pos 0 <ℤ g → AllBy
 divided-not_zero g [] h d n = tt
 divided-not_zero g (p ∷ ps) h d n = (quotient_not_zero g p.1 h d.0 n.0, divided-not_zero g ps h d.1 n.1)
 
-quotient_positive : (g k : ℤ) → pos 0 <ℤ g → Divides g k → pos 0 <ℤ k → pos 0 <ℤ int_div_euclid k g
+pub quotient_positive : (g k : ℤ) → pos 0 <ℤ g → Divides g k → pos 0 <ℤ k → pos 0 <ℤ int_div_euclid k g
 quotient_positive g k h d n = lt_of_mul_lt (pos 0) (int_div_euclid k g) g (omega (arith, ints)) (omega (arith, ints, quotient_exact g k h d))
 
-divided-positive : (g : ℤ) (ps : List (ℕ × ℤ)) → pos 0 <ℤ g → AllByRecursion (λ p. Divides g p.1) ps → AllByRecursion (λ p. pos 0 <ℤ p.1) ps → AllByRecursion (λ p. pos 0 <ℤ p.1) (divided g ps)
+pub divided-positive : (g : ℤ) (ps : List (ℕ × ℤ)) → pos 0 <ℤ g → AllByRecursion (λ p. Divides g p.1) ps → AllByRecursion (λ p. pos 0 <ℤ p.1) ps → AllByRecursion (λ p. pos 0 <ℤ p.1) (divided g ps)
 divided-positive g [] h d n = tt
 divided-positive g (p ∷ ps) h d n = (quotient_positive g p.1 h d.0 n.0, divided-positive g ps h d.1 n.1)
 
-quotient-reduced : (g : ℤ) (t : Linear) → pos 0 <ℤ g → AllByRecursion (λ p. Divides g p.1) t.pairs → IsReduced t → IsReduced (quotient g t)
+pub quotient-reduced : (g : ℤ) (t : Linear) → pos 0 <ℤ g → AllByRecursion (λ p. Divides g p.1) t.pairs → IsReduced t → IsReduced (quotient g t)
 quotient-reduced g t h d r =
     reduced_from (quotient g t) (record { rising = divided-rising g 0 t.pairs r.rising; not_zero = divided-not_zero g t.pairs h d (reduced_to t r).not_zero })
 
@@ -86,7 +86,7 @@ residues-rising d n (p ∷ ps) h =
     (λ _. (h.0, rest))
     (λ _. rising_weaker n (p.0 + 1) (residues d ps) (omega (arith, h.0)) rest)
 
-residues-positive : (d : ℤ) (ps : List (ℕ × ℤ)) → pos 0 <ℤ d → AllByRecursion (λ p. pos 0 <ℤ p.1) (residues d ps)
+pub residues-positive : (d : ℤ) (ps : List (ℕ × ℤ)) → pos 0 <ℤ d → AllByRecursion (λ p. pos 0 <ℤ p.1) (residues d ps)
 residues-positive d [] h = tt
 residues-positive d (p ∷ ps) h =
     let rest : AllByRecursion (λ p. pos 0 <ℤ p.1) (residues d ps) = residues-positive d ps h in
@@ -98,7 +98,7 @@ positive_not_zero : (ps : List (ℕ × ℤ)) → AllByRecursion (λ p. pos 0 <�
 positive_not_zero [] h = tt
 positive_not_zero (p ∷ ps) h = ((λ z. let lt = h.0 in absurd (omega (arith, ints, z, lt))), positive_not_zero ps h.1)
 
-residue-reduced : (d : ℤ) (t : Linear) → pos 0 <ℤ d → IsReduced t → IsReduced (residue d t)
+pub residue-reduced : (d : ℤ) (t : Linear) → pos 0 <ℤ d → IsReduced t → IsReduced (residue d t)
 residue-reduced d t h r =
     reduced_from (residue d t) (record { rising = residues-rising d 0 t.pairs r.rising; not_zero = positive_not_zero (residues d t.pairs) (residues-positive d t.pairs h) })
 
@@ -166,11 +166,11 @@ normal-formed (Div d t) h = (divisibility-formed d t h.divisor h.term).plain
 normal-formed (NDiv d t) h = (divisibility-formed d t h.divisor h.term).denied
 
 -- ---- the normal form of a conjunction
-with_constant-reduced : (k : Option ℤ) (t : Linear) → IsReduced t → IsReduced (with_constant k t)
+pub with_constant-reduced : (k : Option ℤ) (t : Linear) → IsReduced t → IsReduced (with_constant k t)
 with_constant-reduced None t h = h
 with_constant-reduced (Some k) t h = record { rising = h.rising; not_zero = h.not_zero }
 
-tightened-formed : (ls : List Literal) (l : Literal) → IsFormed l → IsFormed (tightened ls l)
+pub tightened-formed : (ls : List Literal) (l : Literal) → IsFormed l → IsFormed (tightened ls l)
 tightened-formed ls (Eq t) h = h
 tightened-formed ls (Geq t) h =
     let s : Linear = with_constant (slack ls t.pairs) t in
@@ -179,39 +179,19 @@ tightened-formed ls (Geq t) h =
 tightened-formed ls (Div d t) h = h
 tightened-formed ls (NDiv d t) h = h
 
-all_tightened-formed : (ls ms : List Literal) → AllByRecursion IsFormed ms → AllByRecursion IsFormed (map (tightened ls) ms)
-all_tightened-formed ls [] h = tt
-all_tightened-formed ls (m ∷ ms) h = (tightened-formed ls m h.0, all_tightened-formed ls ms h.1)
-
-compact-formed : (ls c : List Literal) → AllByRecursion IsFormed ls → compact ls ≡ Some c → AllByRecursion IsFormed c
-unfolding compact
-compact-formed ls c h =
-    by_test (λ a. a ≡ Some c → AllByRecursion IsFormed c) (list_any (is_void ls) ls) None (Some (sorted_once literal_cmp (map (tightened ls) ls)))
-    (λ _ e. absurd cc)
-    (λ _ e. let same : sorted_once literal_cmp (map (tightened ls) ls) ≡ c = cc in
-    subst (AllByRecursion IsFormed) same (sorted_once-kept IsFormed literal_cmp (map (tightened ls) ls) (all_tightened-formed ls ls h)))
+-- the normal form of literals is formed
+pub formed-keeps : Keeps IsLiteral IsFormed
+formed-keeps = record { normal = normal-formed; tight = tightened-formed }
 
 pub normals-formed : (ls : List Literal) → AllByRecursion IsLiteral ls → AllByRecursion IsFormed (flat_map (λ l. literals_of (normal_of l)) ls)
-normals-formed [] h = tt
-normals-formed (l ∷ ls) h = kept-append IsFormed (literals_of (normal_of l)) _ (normal-formed l h.0) (normals-formed ls h.1)
+normals-formed ls h = normals-kept IsLiteral IsFormed formed-keeps ls h
 
 -- the clause of a conjunction of literals has formed ones
 pub clause-formed : (ls c : List Literal) → AllByRecursion IsLiteral ls → clause_of ls ≡ Some c → AllByRecursion IsFormed c
-unfolding clause_of
-clause-formed ls c h =
-    by_test (λ a. a ≡ Some c → AllByRecursion IsFormed c) (list_any (λ l. is_false (normal_of l)) ls) None (compact (flat_map (λ l. literals_of (normal_of l)) ls))
-    (λ _ e. absurd cc)
-    (λ _ e. compact-formed (flat_map (λ l. literals_of (normal_of l)) ls) c (normals-formed ls h) e)
-
--- ---- the clauses of several conjunctions
-found-formed : (a : Option (List Literal)) → ((c : List Literal) → a ≡ Some c → AllByRecursion IsFormed c) → AllByRecursion (AllByRecursion IsFormed) (found a)
-found-formed None h = tt
-found-formed (Some c) h = (h c refl, tt)
+clause-formed ls c h e = clause-kept IsLiteral IsFormed formed-keeps ls c h e
 
 pub clauses-formed : (cs : List (List Literal)) → AllByRecursion (AllByRecursion IsLiteral) cs → AllByRecursion (AllByRecursion IsFormed) (clauses_of cs)
-clauses-formed [] h = tt
-clauses-formed (c ∷ cs) h =
-    kept-append (AllByRecursion IsFormed) (found (clause_of c)) (clauses_of cs) (found-formed (clause_of c) (λ d e. clause-formed c d h.0 e)) (clauses-formed cs h.1)
+clauses-formed cs h = clauses-kept IsLiteral IsFormed formed-keeps cs h
 
 -- those of a clause are formed
 pub clause-is_formed : (c : List Literal) → IsClause c → All IsFormed c

@@ -30,7 +30,7 @@ use Rattle.clause_set.proofs.Formed.{normals-formed}
 use Rattle.clause_set.proofs.Sorted.{literal_cmp-total, sorted_once-sorted, sorted-same, all_among}
 
 -- ---- opposite coefficients
-negated_twice : (ps : List (ℕ × ℤ)) → negated (negated ps) ≡ ps
+pub negated_twice : (ps : List (ℕ × ℤ)) → negated (negated ps) ≡ ps
 negated_twice [] = refl
 negated_twice (p ∷ ps) = let e : neg_ℤ (neg_ℤ p.1) ≡ p.1 = omega (arith, ints) in λ i. (p.0, e i) ∷ negated_twice ps i
 
@@ -40,11 +40,11 @@ apart_swap None (Some b) = refl
 apart_swap (Some a) None = refl
 apart_swap (Some a) (Some b) = ap Some (let e : a +ℤ b ≡ b +ℤ a = omega (arith, ints) in e)
 
-extent-negated : (ls : List Literal) (p : List (ℕ × ℤ)) → extent ls (negated p) ≡ extent ls p
+pub extent-negated : (ls : List Literal) (p : List (ℕ × ℤ)) → extent ls (negated p) ≡ extent ls p
 extent-negated ls p = ap (λ q. bounds_apart (slack ls (negated p)) (slack ls q)) (negated_twice p) ∙ apart_swap (slack ls (negated p)) (slack ls p)
 
 -- ---- literals that the bounds of ls fit: an equation where these leave one value, a bound where they do not
-Fits : List Literal → Literal → Type 0
+unfoldable pub Fits : List Literal → Literal → Type 0
 Fits ls (Eq t) = (is_zero (extent ls t.pairs) ≡ true) × (slack ls t.pairs ≡ Some t.constant)
 Fits ls (Geq t) = (is_zero (extent ls t.pairs) ≡ false) × (slack ls t.pairs ≡ Some t.constant)
 Fits ls (Div d t) = Unit {0}
@@ -71,13 +71,13 @@ point-bound (Some a) (Some b) k h g n =
     let le : pos 0 ≤ℤ (a +ℤ b) = grind (arith, ints) in
     ap Some (let e : a ≡ k = omega (arith, ints, le, h, g) in e)
 
-slack_of-own : (t : Linear) → slack_of (Eq t) t.pairs ≡ Some t.constant
+pub slack_of-own : (t : Linear) → slack_of (Eq t) t.pairs ≡ Some t.constant
 slack_of-own t = ap (λ b. cond b (Some t.constant) (cond (same_pairs t.pairs (negated t.pairs)) (Some (neg_ℤ t.constant)) None)) (same_pairs-refl t.pairs)
 
-slack_of-bound : (t : Linear) → slack_of (Geq t) t.pairs ≡ Some t.constant
+pub slack_of-bound : (t : Linear) → slack_of (Geq t) t.pairs ≡ Some t.constant
 slack_of-bound t = ap (λ b. cond b (Some t.constant) None) (same_pairs-refl t.pairs)
 
-slack_of-opposite : (t : Linear) → same_pairs t.pairs (negated t.pairs) ≡ false → slack_of (Eq t) (negated t.pairs) ≡ Some (neg_ℤ t.constant)
+pub slack_of-opposite : (t : Linear) → same_pairs t.pairs (negated t.pairs) ≡ false → slack_of (Eq t) (negated t.pairs) ≡ Some (neg_ℤ t.constant)
 slack_of-opposite t n =
     let twice : same_pairs t.pairs (negated (negated t.pairs)) ≡ true = ap (same_pairs t.pairs) (negated_twice t.pairs) ∙ same_pairs-refl t.pairs in
     ap (λ b. cond b (Some t.constant) (cond (same_pairs t.pairs (negated (negated t.pairs))) (Some (neg_ℤ t.constant)) None)) n
@@ -126,11 +126,12 @@ all_tightened-fit ls (m ∷ ms) among two v =
     let not_void : is_void ls m ≡ false = by_no (is_void ls m) (λ y. let any : list_any (is_void ls) ls ≡ true = any_with (is_void ls) m ls here y in cc) in
     (tightened-fits ls m here two.0 not_void, all_tightened-fit ls ms (λ l h. among l (inr h)) two.1 v)
 
--- sorted literals that the bounds of some literals fit
-record AreIntervals (c : List Literal) : Type 0 where
-  bounds : List Literal
-  fit : AllByRecursion (Fits bounds) c
-  sorted : IsStrictlySortedBy literal_cmp c
+-- sorted literals that the bounds of some literals fit, which leave each of their forms a value
+pub record AreIntervals (c : List Literal) : Type 0 where
+  pub bounds : List Literal
+  pub fit : AllByRecursion (Fits bounds) c
+  pub sorted : IsStrictlySortedBy literal_cmp c
+  pub not_void : list_any (is_void bounds) bounds ≡ false
 
 pub compact-sorted : (ls c : List Literal) → compact ls ≡ Some c → IsStrictlySortedBy literal_cmp c
 unfolding compact
@@ -253,15 +254,31 @@ clause-fits ls c h =
     (λ _ e. absurd cc)
     (λ _ e. compact-fits normals c (all_two_sided normals (normals-formed ls h) (normals-pairs ls)) e)
 
-clause-intervals : (c : List Literal) → IsClause c → AreIntervals c
+compact-not_void : (ls c : List Literal) → compact ls ≡ Some c → list_any (is_void ls) ls ≡ false
+unfolding compact
+compact-not_void ls c =
+    by_test (λ a. a ≡ Some c → list_any (is_void ls) ls ≡ false) (list_any (is_void ls) ls) None (Some (sorted_once literal_cmp (map (tightened ls) ls)))
+    (λ _ e. absurd cc)
+    (λ v _. v)
+
+clause-not_void : (ls c : List Literal) → clause_of ls ≡ Some c → list_any (is_void (flat_map (λ l. literals_of (normal_of l)) ls)) (flat_map (λ l. literals_of (normal_of l)) ls) ≡ false
+unfolding clause_of
+clause-not_void ls c =
+    let normals = flat_map (λ l. literals_of (normal_of l)) ls in
+    by_test (λ a. a ≡ Some c → list_any (is_void normals) normals ≡ false) (list_any (λ l. is_false (normal_of l)) ls) None (compact normals)
+    (λ _ e. absurd cc)
+    (λ _ e. compact-not_void normals c e)
+
+pub clause-intervals : (c : List Literal) → IsClause c → AreIntervals c
 clause-intervals c h = record {
   bounds = flat_map (λ l. literals_of (normal_of l)) h.conjunction;
   fit = clause-fits h.conjunction c (recursion_from_All IsLiteral h.conjunction h.of_literals) h.is;
   sorted = clause-sorted h.conjunction c h.is;
+  not_void = clause-not_void h.conjunction c h.is;
 }
 
 -- ---- one interval
-same_linear : (s t : Linear) → s.pairs ≡ t.pairs → s.constant ≡ t.constant → s ≡ t
+pub same_linear : (s t : Linear) → s.pairs ≡ t.pairs → s.constant ≡ t.constant → s ≡ t
 same_linear s t e f = λ i. record { pairs = e i; constant = f i }
 
 same_constant : (ls : List Literal) (s t : Linear) → slack ls s.pairs ≡ Some s.constant → slack ls t.pairs ≡ Some t.constant → s.pairs ≡ t.pairs → s ≡ t
@@ -270,24 +287,24 @@ same_constant ls s t h k e =
     let same : s.constant ≡ t.constant = cc in
     same_linear s t e same
 
-one_bound : (c : List Literal) (s t : Linear) → AreIntervals c → Among (Geq s) c → Among (Geq t) c → s.pairs ≡ t.pairs → s ≡ t
+pub one_bound : (c : List Literal) (s t : Linear) → AreIntervals c → Among (Geq s) c → Among (Geq t) c → s.pairs ≡ t.pairs → s ≡ t
 unfolding Fits
 one_bound c s t h a b e =
     same_constant h.bounds s t (all_among (Fits h.bounds) (Geq s) c h.fit a).1 (all_among (Fits h.bounds) (Geq t) c h.fit b).1 e
 
-one_equation : (c : List Literal) (s t : Linear) → AreIntervals c → Among (Eq s) c → Among (Eq t) c → s.pairs ≡ t.pairs → s ≡ t
+pub one_equation : (c : List Literal) (s t : Linear) → AreIntervals c → Among (Eq s) c → Among (Eq t) c → s.pairs ≡ t.pairs → s ≡ t
 unfolding Fits
 one_equation c s t h a b e =
     same_constant h.bounds s t (all_among (Fits h.bounds) (Eq s) c h.fit a).1 (all_among (Fits h.bounds) (Eq t) c h.fit b).1 e
 
-not_both : (c : List Literal) (s t : Linear) → AreIntervals c → Among (Eq s) c → Among (Geq t) c → s.pairs ≡ t.pairs → ⊥
+pub not_both : (c : List Literal) (s t : Linear) → AreIntervals c → Among (Eq s) c → Among (Geq t) c → s.pairs ≡ t.pairs → ⊥
 unfolding Fits
 not_both c s t h a b e =
     let yes = (all_among (Fits h.bounds) (Eq s) c h.fit a).0 in
     let no = (all_among (Fits h.bounds) (Geq t) c h.fit b).0 in
     let z : true ≡ false = sym yes ∙ ap (λ p. is_zero (extent h.bounds p)) e ∙ no in cc
 
-not_opposite : (c : List Literal) (s t : Linear) → AreIntervals c → Among (Eq s) c → Among (Geq t) c → s.pairs ≡ negated t.pairs → ⊥
+pub not_opposite : (c : List Literal) (s t : Linear) → AreIntervals c → Among (Eq s) c → Among (Geq t) c → s.pairs ≡ negated t.pairs → ⊥
 unfolding Fits
 not_opposite c s t h a b e =
     let yes = (all_among (Fits h.bounds) (Eq s) c h.fit a).0 in
@@ -295,20 +312,20 @@ not_opposite c s t h a b e =
     let z : true ≡ false = sym yes ∙ ap (λ p. is_zero (extent h.bounds p)) e ∙ ap is_zero (extent-negated h.bounds t.pairs) ∙ no in cc
 
 -- ---- clauses that cover each other
-equation-slack : (P : Type 0) (s : Linear) (p : List (ℕ × ℤ)) (j : ℤ) → slack_of (Eq s) p ≡ Some j → (s.pairs ≡ p → P) → (s.pairs ≡ negated p → P) → P
+pub equation-slack : (P : Type 0) (s : Linear) (p : List (ℕ × ℤ)) (j : ℤ) → slack_of (Eq s) p ≡ Some j → (s.pairs ≡ p → P) → (s.pairs ≡ negated p → P) → P
 equation-slack P s p j e f g =
     by_test (λ z. z ≡ Some j → P) (same_pairs s.pairs p) (Some s.constant) (cond (same_pairs s.pairs (negated p)) (Some (neg_ℤ s.constant)) None)
     (λ y _. f (same_pairs-equal s.pairs p y))
     (λ _. by_test (λ z. z ≡ Some j → P) (same_pairs s.pairs (negated p)) (Some (neg_ℤ s.constant)) None (λ y _. g (same_pairs-equal s.pairs (negated p) y)) (λ _ h. absurd cc))
     e
 
-bound-slack : (P : Type 0) (s : Linear) (p : List (ℕ × ℤ)) (j : ℤ) → slack_of (Geq s) p ≡ Some j → (s.pairs ≡ p → s.constant ≡ j → P) → P
+pub bound-slack : (P : Type 0) (s : Linear) (p : List (ℕ × ℤ)) (j : ℤ) → slack_of (Geq s) p ≡ Some j → (s.pairs ≡ p → s.constant ≡ j → P) → P
 bound-slack P s p j e f =
     by_test (λ z. z ≡ Some j → P) (same_pairs s.pairs p) (Some s.constant) None
     (λ y h. let same : s.constant ≡ j = cc in f (same_pairs-equal s.pairs p y) same) (λ _ h. absurd cc) e
 
 -- what bounds the coefficients of a bound of a clause in this clause is that bound
-own_slack : (d : List Literal) (t : Linear) (m : Literal) (j : ℤ) → AreIntervals d → Among (Geq t) d → Among m d → slack_of m t.pairs ≡ Some j → t.constant ≡ j
+pub own_slack : (d : List Literal) (t : Linear) (m : Literal) (j : ℤ) → AreIntervals d → Among (Geq t) d → Among m d → slack_of m t.pairs ≡ Some j → t.constant ≡ j
 own_slack d t (Eq s) j h a b e =
     absurd (equation-slack ⊥ s t.pairs j e (λ q. not_both d s t h b a q) (λ q. not_opposite d s t h b a q))
 own_slack d t (Geq s) j h a b e =
@@ -326,7 +343,7 @@ own_least d t j h a low =
     (λ i e le. let w = slack-witness d t.pairs i e in
     let same : t.constant ≡ i = own_slack d t w.literal i h a w.among w.is in omega (arith, ints, same, le))
 
-held : (c : List Literal) (l : Literal) → list_any (is_literal l) c ≡ true → Among l c
+pub held : (c : List Literal) (l : Literal) → list_any (is_literal l) c ≡ true → Among l c
 held c l t = let w = any_from (is_literal l) c t in subst (λ z. Among z c) (sym (same_literal_test l w.element w.passes)) w.among
 
 held_equation : (c : List Literal) (t : Linear) → is_implied c (Eq t) ≡ true → Among (Eq t) c

@@ -21,3 +21,12 @@ pub mod Intervals
 pub mod Formed
 pub mod Measures
 pub mod Ranges
+pub mod Tables
+pub mod Kept
+pub mod Primitive
+pub mod Owned
+pub mod Points
+pub mod Shapes
+pub mod Tested
+pub mod Putting
+pub mod Opposites

@@ -1,14 +1,14 @@
 -- The answers of charged operations on disjunctions are true where the definitions of their work say so.
 use Rattle.std.proofs.Common.{◌≡◌, ℤ, Bool, not, ◌&&◌, ◌||◌, List, ◌++◌, Result, Ok, Err, IfOk, ◌∙◌, ap}
 use Rattle.purse.specs.declared.fault.StepFault.{StepFault}
-use Rattle.purse.specs.Trace.{At, Traced}
+use Rattle.purse.specs.Trace.{At, Traced, just, step, next}
 use Rattle.purse.specs.Work.{ChargedAt}
 use Rattle.purse.proofs.Charging.{charged_value}
 use Rattle.clause_set.specs.declared.literal.Literal.{Literal}
 use Rattle.clause_set.specs.Literals.{AreLiterals, dnf_truth}
-use Rattle.clause_set.specs.Dnfs.{conjunction, negation, tidied}
+use Rattle.clause_set.specs.Dnfs.{conjunction, disjunction, negation, tidied, tidying}
 use Rattle.clause_set.proofs.Covers.{tidied-truth}
-use Rattle.clause_set.proofs.Operations.{and-truth, or_of_both}
+use Rattle.clause_set.proofs.Operations.{and-truth, or-truth}
 use Rattle.clause_set.proofs.Reduced.{negation-truth}
 
 -- where the work's value is true, there is what the call answers
@@ -28,9 +28,16 @@ not-answer a r h c = answer-truth (negation a) (λ e. not (dnf_truth a e)) r (λ
 pub tidy-answer : (cs d : List (List Literal)) (e : List ℤ) → d ≡ tidied cs → dnf_truth d e ≡ dnf_truth cs e
 tidy-answer cs d e is = ap (λ z. dnf_truth z e) is ∙ tidied-truth cs e
 
-pub or-answer : (a b all : List (List Literal)) (r : Result (List (List Literal)) StepFault) → all ≡ a ++ b
-    → IfOk r (λ d. (e : List ℤ) → dnf_truth d e ≡ dnf_truth all e) → IfOk r (λ d. (e : List ℤ) → dnf_truth d e ≡ (dnf_truth a e || dnf_truth b e))
-or-answer a b all (Ok v) is h = λ e. h e ∙ ap (λ z. dnf_truth z e) is ∙ or_of_both a b e
-or-answer a b all (Err x) is h = tt
+pub or-answer : (a b : List (List Literal)) (r : Result (List (List Literal)) StepFault) {old new : At}
+    → ChargedAt (disjunction a b) old r new → IfOk r (λ d. (e : List ℤ) → dnf_truth d e ≡ (dnf_truth a e || dnf_truth b e))
+or-answer a b r c = answer-truth (disjunction a b) (λ e. dnf_truth a e || dnf_truth b e) r (or-truth a b) c
 
-pub ruleset answers = (and-answer, not-answer, tidy-answer, or-answer)
+tidying-truth : (cs : List (List Literal)) (e : List ℤ) → dnf_truth (tidying cs).value e ≡ dnf_truth cs e
+unfolding next just step
+tidying-truth cs e = tidied-truth cs e
+
+pub tidying-answer : (cs : List (List Literal)) (r : Result (List (List Literal)) StepFault) {old new : At}
+    → ChargedAt (tidying cs) old r new → IfOk r (λ d. (e : List ℤ) → dnf_truth d e ≡ dnf_truth cs e)
+tidying-answer cs r c = answer-truth (tidying cs) (λ e. dnf_truth cs e) r (tidying-truth cs) c
+
+pub ruleset answers = (and-answer, not-answer, tidy-answer, tidying-answer, or-answer)

@@ -7,7 +7,7 @@ use Rattle.purse.specs.Trace.{Traced, just, next, pay, compute, each}
 use Rattle.clause_set.specs.declared.literal.Literal.{Literal}
 use Rattle.clause_set.specs.declared.literal.Literal.TheVariants.{Eq, Geq, Div, NDiv}
 use Rattle.clause_set.specs.Clauses.{clauses_of}
-use Rattle.clause_set.specs.Dnfs.{combining}
+use Rattle.purse.specs.Trace.{combining}
 use Rattle.clause_set.specs.Names.{has, area, product}
 use Rattle.clause_set.specs.Bezout.{Bezout, bezout}
 

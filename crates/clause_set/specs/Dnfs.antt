@@ -1,9 +1,8 @@
 -- Operations on disjunctions of clauses, with their charges.
 use Rattle.std.specs.Prelude.{◌+◌, ◌*◌, ℤ, pos, negsuc, Bool, false, not, ◌&&◌, ◌||◌, int_le, List, [], ◌∷◌, ◌++◌, length, filter, Option, Some, None}
 use Rattle.std.specs.List.{list_all, list_any, flat_map}
-use Rattle.linear_term.specs.Linear.{Linear, number}
-use Rattle.linear_term.specs.Combination.{combination, raw_numbers}
-use Rattle.purse.specs.Trace.{raw, Traced, just, step, next, pay, each}
+use Rattle.linear_term.specs.Linear.{number}
+use Rattle.purse.specs.Trace.{Traced, just, next, pay, combining, each}
 use Rattle.clause_set.specs.declared.literal.Literal.{Literal}
 use Rattle.clause_set.specs.declared.literal.Literal.TheVariants.{Eq, Geq, Div, NDiv}
 use Rattle.clause_set.specs.Order.{is_literal, clause_cmp, sorted_once}
@@ -65,10 +64,6 @@ conjunction a b = next (pay (1 + length b * weight a + length a * weight b)) (λ
 -- the disjunction of a and b
 abbrev pub disjunction : List (List Literal) → List (List Literal) → Traced (List (List Literal))
 disjunction a b = next (pay (1 + weight a + weight b)) (λ _. tidying (a ++ b))
-
--- the term m·s + n·t, after its numbers
-abbrev pub combining : ℤ → Linear → ℤ → Linear → Traced Linear
-combining m s n t = step (raw (raw_numbers m s n t)) (combination m s n t)
 
 -- divisibility by d and its negation change places
 abbrev pub denied_literal : Literal → Literal

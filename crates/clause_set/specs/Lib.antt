@@ -2,6 +2,7 @@ pub mod Literals
 pub mod Normal
 pub mod Content
 pub mod Order
+pub mod Total
 pub mod Clauses
 pub mod Weight
 pub mod Dnfs
@@ -14,4 +15,7 @@ pub mod Shadows
 pub mod Rules
 pub mod Met
 pub mod Formed
+pub mod Primitive
+pub mod Kept
 pub mod Text
+pub mod Table

@@ -9,7 +9,7 @@ use Rattle.clause_set.specs.declared.literal.Literal.{Literal}
 use Rattle.clause_set.specs.declared.literal.Literal.TheVariants.{Eq, Geq}
 use Rattle.clause_set.specs.Literals.{term_of}
 use Rattle.clause_set.specs.Clauses.{clauses_of}
-use Rattle.clause_set.specs.Dnfs.{combining}
+use Rattle.purse.specs.Trace.{combining}
 use Rattle.clause_set.specs.Names.{others, coefficient, remainder, area, is_lower, is_upper, product}
 use Rattle.clause_set.specs.Divisibilities.{numbers_from}
 

@@ -2,13 +2,16 @@
 
 ghost use Rattle.clause_set.specs.Clauses.{bounds_apart, extent, is_negative, is_void, is_zero, least, same_pairs, slack_of, slack, tightened, with_constant};
 ghost use Rattle.clause_set.specs.Normal.{leads_negative, negated, turned};
+ghost use Rattle.clause_set.specs.Table.{bound_at};
 ghost use Rattle.linear_term.specs.Linear.{IsNormal};
 ghost use Rattle.linear_term.specs.Range.{InRange};
-ghost use Rattle.std.specs.Prelude.{◌≡◌, ◌+ℤ◌, pos, int_lt, neg_ℤ, All, IfOk, IfSome};
+ghost use Rattle.std.specs.Prelude.{◌≡◌, ◌↔◌, ◌+ℤ◌, pos, int_lt, neg_ℤ, All, IfOk, IfSome, IsTrue, List, ℕ, ℤ};
 
 use super::literal::Literal;
+use super::table::bound_at;
 use linear_term::{Memory, Term};
 use std::alloc::Global;
+use std::collections::BTreeMap;
 
 /// Each coefficient negated.
 pub(crate) fn negated(alloc: Global, pairs: &[(u32, i128)]) -> Result<Vec<(u32, i128)>, Memory>
@@ -23,10 +26,44 @@ pub(crate) fn negated(alloc: Global, pairs: &[(u32, i128)]) -> Result<Vec<(u32, 
 }
 
 /// Whether two lists of coefficients are the same.
+#[tactic(auto, using(crate::proofs::Opposites::opposites))]
 pub(crate) fn same_pairs(p: &[(u32, i128)], q: &[(u32, i128)]) -> bool
     ensures { result ≡ same_pairs p.now q.now }
 {
+    if p.len() != q.len() {
+        return false;
+    }
     p.cmp(&q).is_eq()
+}
+
+/// Whether the coefficients p are the opposite of q.
+#[tactic(auto, using(crate::proofs::Opposites::opposites))]
+fn are_opposite(p: &[(u32, i128)], q: &[(u32, i128)]) -> bool
+    requires { All (λ r. InRange r.1) q.now }
+    ensures { result ≡ same_pairs p.now (negated q.now) }
+{
+    if p.len() != q.len() {
+        return false;
+    }
+    let (mut p, mut q) = (p, q);
+    while let Some((x, p_rest)) = p.split_first() {
+        let Some((y, q_rest)) = q.split_first() else {
+            return false;
+        };
+        if !is_opposite(x, y) {
+            return false;
+        }
+        p = p_rest;
+        q = q_rest;
+    }
+    q.is_empty()
+}
+
+fn is_opposite(x: &(u32, i128), y: &(u32, i128)) -> bool
+    requires { InRange y.now.1 }
+    ensures { IsTrue result ↔ ((x.now.0 ≡ y.now.0) × (x.now.1 ≡ neg_ℤ y.now.1)) }
+{
+    x.0 == y.0 && x.1 == -y.1
 }
 
 /// The lesser of two bounds, where there are any.
@@ -43,14 +80,14 @@ fn least(j: Option<i128>, k: Option<i128>) -> Option<i128>
     Some(first.min(second))
 }
 
-/// The number k of which the literal says p + k ≥ 0, where n is the opposite of p.
-fn slack_of(literal: &Literal, p: &[(u32, i128)], n: &[(u32, i128)]) -> Option<i128>
-    requires { n.now ≡ negated p.now }
+/// The number k of which the literal says p + k ≥ 0.
+fn slack_of(literal: &Literal, p: &[(u32, i128)]) -> Option<i128>
+    requires { All (λ r. InRange r.1) p.now }
     ensures exact { result ≡ slack_of literal.now p.now }
     ensures range { IfSome result (λ k. InRange k) }
 {
     match literal {
-        Literal::Eq(t) => equation_slack(t, p, n),
+        Literal::Eq(t) => equation_slack(t, p),
         Literal::Geq(t) => {
             if same_pairs(t.pairs(), p) {
                 return Some(t.constant());
@@ -62,30 +99,30 @@ fn slack_of(literal: &Literal, p: &[(u32, i128)], n: &[(u32, i128)]) -> Option<i
     }
 }
 
-fn equation_slack(t: &Term, p: &[(u32, i128)], n: &[(u32, i128)]) -> Option<i128>
-    requires { n.now ≡ negated p.now }
+fn equation_slack(t: &Term, p: &[(u32, i128)]) -> Option<i128>
+    requires { All (λ r. InRange r.1) p.now }
     ensures exact { result ≡ slack_of (Literal.Eq t.now) p.now }
     ensures range { IfSome result (λ k. InRange k) }
 {
     if same_pairs(t.pairs(), p) {
         return Some(t.constant());
     }
-    if same_pairs(t.pairs(), n) {
+    if are_opposite(t.pairs(), p) {
         return Some(-t.constant());
     }
     None
 }
 
-/// The least number k of which one of the literals says p + k ≥ 0, where n is the opposite of p.
+/// The least number k of which one of the literals says p + k ≥ 0.
 #[tactic(auto, using(crate::proofs::Slack::slacks))]
-pub(crate) fn slack(literals: &[Literal], p: &[(u32, i128)], n: &[(u32, i128)]) -> Option<i128>
-    requires { n.now ≡ negated p.now }
+pub(crate) fn slack(literals: &[Literal], p: &[(u32, i128)]) -> Option<i128>
+    requires { All (λ r. InRange r.1) p.now }
     ensures exact { result ≡ slack literals.now p.now }
     ensures range { IfSome result (λ k. InRange k) }
 {
     let mut found = None;
     for literal in literals {
-        found = least(found, slack_of(literal, p, n));
+        found = least(found, slack_of(literal, p));
     }
     found
 }
@@ -122,27 +159,32 @@ fn is_zero(j: Option<i128>, k: Option<i128>) -> bool
 
 /// Whether no value lies between the literals' bounds of the term's coefficients.
 #[tactic(auto, using(crate::proofs::Terms::terms))]
-fn is_void_bound(alloc: Global, literals: &[Literal], t: &Term) -> Result<bool, Memory>
+fn is_void_bound(alloc: Global, table: &BTreeMap<Vec<(u32, i128)>, i128>, literals: &[Literal], t: &Term) -> Result<bool, Memory>
+    requires exact { (q : List (ℕ × ℤ)) → bound_at table.now q ≡ slack literals.now q }
+    requires range { (q : List (ℕ × ℤ)) → IfSome (bound_at table.now q) (λ k. InRange k) }
     ensures { IfOk result (λ b. b ≡ is_negative (extent literals.now t.now.pairs)) }
 {
     t.is_normal();
     let n = negated(alloc, t.pairs())?;
-    let low = slack(literals, t.pairs(), n.as_slice());
-    let high = slack(literals, n.as_slice(), t.pairs());
+    let low = bound_at(table, t.pairs());
+    let high = bound_at(table, n.as_slice());
     Ok(is_negative(low, high))
 }
 
 /// Whether no value lies between the literals' bounds of this one's coefficients.
 pub(crate) fn is_void(
     alloc: Global,
+    table: &BTreeMap<Vec<(u32, i128)>, i128>,
     literals: &[Literal],
     literal: &Literal,
 ) -> Result<bool, Memory>
+    requires exact { (q : List (ℕ × ℤ)) → bound_at table.now q ≡ slack literals.now q }
+    requires range { (q : List (ℕ × ℤ)) → IfSome (bound_at table.now q) (λ k. InRange k) }
     ensures { IfOk result (λ b. b ≡ is_void literals.now literal.now) }
 {
     match literal {
-        Literal::Eq(t) => is_void_bound(alloc, literals, t),
-        Literal::Geq(t) => is_void_bound(alloc, literals, t),
+        Literal::Eq(t) => is_void_bound(alloc, table, literals, t),
+        Literal::Geq(t) => is_void_bound(alloc, table, literals, t),
         Literal::Div(_, _) => Ok(false),
         Literal::NDiv(_, _) => Ok(false),
     }
@@ -166,7 +208,7 @@ pub(crate) fn turned(
     Term::of(alloc, pairs, constant)
 }
 
-fn opposite_of(k: i128) -> i128
+pub(crate) fn opposite_of(k: i128) -> i128
     requires { InRange k }
     ensures { result ≡ neg_ℤ k }
 {
@@ -184,13 +226,15 @@ fn leads_negative(pairs: &[(u32, i128)]) -> bool
 
 /// The bound t ≥ 0 as the tightest one of the literals, as an equation where its coefficients have one value alone.
 #[tactic(auto, using(crate::proofs::Terms::turning))]
-fn tightened_bound(alloc: Global, literals: &[Literal], t: &Term) -> Result<Literal, Memory>
+fn tightened_bound(alloc: Global, table: &BTreeMap<Vec<(u32, i128)>, i128>, literals: &[Literal], t: &Term) -> Result<Literal, Memory>
+    requires exact { (q : List (ℕ × ℤ)) → bound_at table.now q ≡ slack literals.now q }
+    requires range { (q : List (ℕ × ℤ)) → IfSome (bound_at table.now q) (λ k. InRange k) }
     ensures { IfOk result (λ l. l ≡ tightened literals.now (Literal.Geq t.now)) }
 {
     t.is_normal();
     let n = negated(alloc, t.pairs())?;
-    let low = slack(literals, t.pairs(), n.as_slice());
-    let high = slack(literals, n.as_slice(), t.pairs());
+    let low = bound_at(table, t.pairs());
+    let high = bound_at(table, n.as_slice());
     let constant = constant_of(low, t);
     if is_zero(low, high) {
         return Ok(Literal::Eq(turned(alloc, t.pairs(), n.as_slice(), constant)?));
@@ -212,13 +256,16 @@ fn constant_of(k: Option<i128>, t: &Term) -> i128
 /// The literal as the others tighten it.
 pub(crate) fn tightened(
     alloc: Global,
+    table: &BTreeMap<Vec<(u32, i128)>, i128>,
     literals: &[Literal],
     literal: &Literal,
 ) -> Result<Literal, Memory>
+    requires exact { (q : List (ℕ × ℤ)) → bound_at table.now q ≡ slack literals.now q }
+    requires range { (q : List (ℕ × ℤ)) → IfSome (bound_at table.now q) (λ k. InRange k) }
     ensures { IfOk result (λ l. l ≡ tightened literals.now literal.now) }
 {
     match literal {
-        Literal::Geq(t) => tightened_bound(alloc, literals, t),
+        Literal::Geq(t) => tightened_bound(alloc, table, literals, t),
         Literal::Eq(_) => literal.copy(),
         Literal::Div(_, _) => literal.copy(),
         Literal::NDiv(_, _) => literal.copy(),

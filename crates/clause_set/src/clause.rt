@@ -180,8 +180,13 @@ pub fn copy_literals(alloc: Global, ls: &[Literal]) -> Result<Items<Literal>, Me
 
 impl Ordered for Clause {
     ghost use Rattle.clause_set.specs.Order.{clause_cmp};
+    ghost use Rattle.clause_set.specs.Total.{clause_cmp-equal, clause_cmp-total};
 
     ghost cmp = { clause_cmp };
+
+    ghost total = { clause_cmp-total };
+
+    ghost same = { clause_cmp-equal };
 
     /// As lists of literals; a proper prefix is less.
     fn compare(&self, other: &Clause) -> Ordering {

@@ -5,7 +5,7 @@ ghost use Rattle.clause_set.specs.Order.{is_literal};
 ghost use Rattle.std.specs.List.{list_all, list_any};
 ghost use Rattle.std.specs.Prelude.{◌≡◌, ◌++◌, [], ◌∷◌, filter, IfOk, not, OnOk};
 
-use super::bounds::{negated, slack};
+use super::bounds::slack;
 use super::clause::Clause;
 use super::literal::Literal;
 use super::order::Ordered;
@@ -13,13 +13,28 @@ use linear_term::{Memory, Term};
 use sqlite_items::Items;
 use std::alloc::Global;
 
+/// Whether two literals are the same: terms of different lengths or constants are not compared further.
+#[tactic(auto, using(crate::proofs::Opposites::literals_apart))]
+fn is_same(l: &Literal, m: &Literal) -> bool
+    ensures { result ≡ is_literal l.now m.now }
+{
+    let (s, t) = (l.term(), m.term());
+    if s.len() != t.len() {
+        return false;
+    }
+    if s.constant() != t.constant() {
+        return false;
+    }
+    l.compare(m).is_eq()
+}
+
 /// Whether the literal is one of the clause's.
 #[tactic(auto, using(crate::proofs::Walks::walks))]
 fn has_literal(c: &[Literal], l: &Literal) -> bool
     ensures { result ≡ list_any (is_literal l.now) c.now }
 {
     for m in c {
-        if l.compare(m).is_eq() {
+        if is_same(l, m) {
             return true;
         }
     }
@@ -28,72 +43,64 @@ fn has_literal(c: &[Literal], l: &Literal) -> bool
 
 /// Whether the bound t ≥ 0 follows from the clause's bounds.
 #[tactic(auto, using(crate::proofs::Terms::terms))]
-fn follows_bound(alloc: Global, c: &[Literal], t: &Term) -> Result<bool, Memory>
-    ensures { IfOk result (λ b. b ≡ follows c.now (Literal.Geq t.now)) }
+fn follows_bound(c: &[Literal], t: &Term) -> bool
+    ensures { result ≡ follows c.now (Literal.Geq t.now) }
 {
     t.is_normal();
-    let n = negated(alloc, t.pairs())?;
-    match slack(c, t.pairs(), n.as_slice()) {
-        Some(k) => Ok(k <= t.constant()),
-        None => Ok(false),
+    match slack(c, t.pairs()) {
+        Some(k) => k <= t.constant(),
+        None => false,
     }
 }
 
-fn follows(alloc: Global, c: &[Literal], l: &Literal) -> Result<bool, Memory>
-    ensures { IfOk result (λ b. b ≡ follows c.now l.now) }
+fn follows(c: &[Literal], l: &Literal) -> bool
+    ensures { result ≡ follows c.now l.now }
 {
     match l {
-        Literal::Geq(t) => follows_bound(alloc, c, t),
-        Literal::Eq(_) => Ok(false),
-        Literal::Div(_, _) => Ok(false),
-        Literal::NDiv(_, _) => Ok(false),
+        Literal::Geq(t) => follows_bound(c, t),
+        Literal::Eq(_) => false,
+        Literal::Div(_, _) => false,
+        Literal::NDiv(_, _) => false,
     }
 }
 
 /// Whether the literal is in the clause, or follows from its bounds.
-fn is_implied(alloc: Global, c: &[Literal], l: &Literal) -> Result<bool, Memory>
-    ensures { IfOk result (λ b. b ≡ is_implied c.now l.now) }
+fn is_implied(c: &[Literal], l: &Literal) -> bool
+    ensures { result ≡ is_implied c.now l.now }
 {
-    if has_literal(c, l) {
-        return Ok(true);
-    }
-    follows(alloc, c, l)
+    has_literal(c, l) || follows(c, l)
 }
 
 /// Whether the clause d covers the clause c: each literal of d is in c, or follows from its bounds.
 #[tactic(auto, using(crate::proofs::Walks::walks))]
-fn covers(alloc: Global, d: &[Literal], c: &[Literal]) -> Result<bool, Memory>
-    ensures { IfOk result (λ b. b ≡ covers d.now c.now) }
+fn covers(d: &[Literal], c: &[Literal]) -> bool
+    ensures { result ≡ covers d.now c.now }
 {
     for l in d {
-        if !is_implied(alloc, c, l)? {
-            return Ok(false);
+        if !is_implied(c, l) {
+            return false;
         }
     }
-    Ok(true)
+    true
 }
 
 /// Whether d covers c, and is not covered by it.
-fn outdoes(alloc: Global, d: &Clause, c: &Clause) -> Result<bool, Memory>
-    ensures { IfOk result (λ b. b ≡ outdoes d.now c.now) }
+fn outdoes(d: &Clause, c: &Clause) -> bool
+    ensures { result ≡ outdoes d.now c.now }
 {
-    if !covers(alloc, d.literals(), c.literals())? {
-        return Ok(false);
-    }
-    let back = covers(alloc, c.literals(), d.literals())?;
-    Ok(!back)
+    covers(d.literals(), c.literals()) && !covers(c.literals(), d.literals())
 }
 
 #[tactic(auto, using(crate::proofs::Walks::walks))]
-fn is_covered(alloc: Global, cs: &[Clause], c: &Clause) -> Result<bool, Memory>
-    ensures { IfOk result (λ b. b ≡ is_covered cs.now c.now) }
+fn is_covered(cs: &[Clause], c: &Clause) -> bool
+    ensures { result ≡ is_covered cs.now c.now }
 {
     for d in cs {
-        if outdoes(alloc, d, c)? {
-            return Ok(true);
+        if outdoes(d, c) {
+            return true;
         }
     }
-    Ok(false)
+    false
 }
 
 /// Puts a copy of c behind the others, unless another one of the clauses covers it.
@@ -105,7 +112,7 @@ fn push_uncovered(
 ) -> Result<(), Memory>
     ensures { OnOk result (out.new ≡ out.old ++ filter (λ d. not (is_covered cs.now d)) (c.now ∷ [])) }
 {
-    if is_covered(alloc, cs, c)? {
+    if is_covered(cs, c) {
         return Ok(());
     }
     out.push(c.copy(alloc)?)?;

@@ -2,11 +2,13 @@
 
 ghost use Rattle.clause_set.specs.Clause.{IsDnf};
 ghost use Rattle.clause_set.specs.Clauses.{clause_of, clauses_of, found};
-ghost use Rattle.clause_set.specs.Dnfs.{combining, conjunction, denied_clauses, denied_literal, disjunction, joined, joined_with, negated_clause, negated_literal, negation, tidied, tidying, top};
+ghost use Rattle.clause_set.specs.Dnfs.{conjunction, denied_clauses, denied_literal, disjunction, joined, joined_with, negated_clause, negated_literal, negation, tidied, tidying, top};
+ghost use Rattle.linear_term.specs.declared.range.Place.{Place};
 ghost use Rattle.clause_set.specs.Literals.{AreLiterals, dnf_truth, HasDivisor};
 ghost use Rattle.linear_term.specs.Linear.{number};
+ghost use Rattle.purse.specs.Trace.{combining};
 ghost use Rattle.purse.specs.Work.{Charged, Worked};
-ghost use Rattle.std.specs.Prelude.{◌≡◌, ◌<◌, ◌++◌, ◌&&◌, ◌||◌, [], ◌∷◌, pos, negsuc, IfOk, length, List, not, OnOk, slice_get, Some, ℤ};
+ghost use Rattle.std.specs.Prelude.{◌≡◌, ◌≢◌, ◌<◌, ◌++◌, ◌&&◌, ◌||◌, [], ◌∷◌, pos, negsuc, IfOk, length, List, not, OnOk, slice_get, Some, ℤ};
 
 use super::clause::{Clause, copy_literals};
 use super::covering::uncovered;
@@ -102,16 +104,33 @@ impl Dnf {
     }
 
     /// The clauses sorted, each once, without those that another one covers: true where one of them is. It charges the
-    /// square of their number.
-    #[tactic(auto, using(crate::proofs::Charges::charges, crate::proofs::Truths::answers, crate::proofs::Canonical::dnfs))]
+    /// square of their number, and never answers Overflow.
+    #[tactic(auto, using(crate::proofs::Ranges::tidying_never, crate::proofs::Truths::answers))]
     pub fn tidy(alloc: Global, cs: Items<Clause>, purse: &mut Purse) -> Result<Dnf, StepFault>
         ensures charged { Charged (tidying cs) purse.old result purse.new }
+        ensures in_range { (p : Place) → result ≢ Err (StepFault.Overflow p) }
         ensures truth { IfOk result (λ d. (e : List ℤ) → dnf_truth d e ≡ dnf_truth cs e) }
     {
-        purse.step(tidying_charge(cs.len()))?;
+        charged_tidied(alloc, cs, purse)
+    }
+
+    /// The same without a charge, for work that is charged as a whole.
+    #[tactic(auto, using(crate::proofs::Truths::answers, crate::proofs::Canonical::dnfs))]
+    pub fn tidied(alloc: Global, cs: Items<Clause>) -> Result<Dnf, Memory>
+        ensures form { IfOk result (λ d. d ≡ tidied cs) }
+        ensures truth { IfOk result (λ d. (e : List ℤ) → dnf_truth d e ≡ dnf_truth cs e) }
+    {
         let clauses = tidied(alloc, cs)?;
         Ok(Dnf { clauses })
     }
+}
+
+#[tactic(auto, using(crate::proofs::Charges::charges))]
+fn charged_tidied(alloc: Global, cs: Items<Clause>, purse: &mut Purse) -> Result<Dnf, StepFault>
+    ensures { Charged (tidying cs) purse.old result purse.new }
+{
+    purse.step(tidying_charge(cs.len()))?;
+    Ok(Dnf::tidied(alloc, cs)?)
 }
 
 /// The clauses in tidy form.
@@ -144,23 +163,32 @@ fn know_clauses(cs: &[Clause])
     }
 }
 
-/// The disjunction of a and b. It charges 1 and both weights, and then tidies.
-#[tactic(auto, using(crate::proofs::Charges::charges, crate::proofs::Truths::answers))]
+/// The disjunction of a and b. It charges 1 and both weights, and then tidies; it never answers Overflow.
+#[tactic(auto, using(crate::proofs::Ranges::disjunction_never, crate::proofs::Truths::answers))]
 pub fn or(alloc: Global, a: &Dnf, b: &Dnf, purse: &mut Purse) -> Result<Dnf, StepFault>
     ensures charged { Charged (disjunction a.now b.now) purse.old result purse.new }
+    ensures in_range { (p : Place) → result ≢ Err (StepFault.Overflow p) }
     ensures truth { IfOk result (λ d. (e : List ℤ) → dnf_truth d e ≡ (dnf_truth a.now e || dnf_truth b.now e)) }
 {
-    purse.step(disjunction_charge(a.clauses(), b.clauses()))?;
-    let mut all = copy_clauses(alloc, a.clauses())?;
-    all.append(copy_clauses(alloc, b.clauses())?)?;
-    Dnf::tidy(alloc, all, purse)
+    disjoin(alloc, a.clauses(), b.clauses(), purse)
+}
+
+#[tactic(auto, using(crate::proofs::Charges::charges))]
+fn disjoin(alloc: Global, a: &[Clause], b: &[Clause], purse: &mut Purse) -> Result<Dnf, StepFault>
+    ensures { Charged (disjunction a.now b.now) purse.old result purse.new }
+{
+    purse.step(disjunction_charge(a, b))?;
+    let mut all = copy_clauses(alloc, a)?;
+    all.append(copy_clauses(alloc, b)?)?;
+    charged_tidied(alloc, all, purse)
 }
 
 /// The conjunction of a and b. It charges 1, and each weight as often as there are clauses on the other side, and then
-/// tidies.
-#[tactic(auto, using(crate::proofs::Charges::charges, crate::proofs::Truths::answers))]
+/// tidies; it never answers Overflow.
+#[tactic(auto, using(crate::proofs::Ranges::conjunction_never, crate::proofs::Truths::answers))]
 pub fn and(alloc: Global, a: &Dnf, b: &Dnf, purse: &mut Purse) -> Result<Dnf, StepFault>
     ensures charged { Charged (conjunction a.now b.now) purse.old result purse.new }
+    ensures in_range { (p : Place) → result ≢ Err (StepFault.Overflow p) }
     ensures truth { IfOk result (λ d. (e : List ℤ) → dnf_truth d e ≡ (dnf_truth a.now e && dnf_truth b.now e)) }
 {
     know_clauses(a.clauses());
@@ -174,7 +202,7 @@ fn conjoin(alloc: Global, a: &[Clause], b: &[Clause], purse: &mut Purse) -> Resu
 {
     purse.step(conjunction_charge(a, b))?;
     let all = joined(alloc, a, b)?;
-    Dnf::tidy(alloc, all, purse)
+    charged_tidied(alloc, all, purse)
 }
 
 /// The conjunctions of each clause of a with each of b, those of a outermost, without false ones.
@@ -227,7 +255,7 @@ fn found(alloc: Global, c: Option<Clause>) -> Result<Items<Clause>, Memory>
 }
 
 /// −t − 1.
-#[tactic(auto, using(crate::proofs::Charges::combinations))]
+#[tactic(auto, using(purse::proofs::Charging::combinations))]
 fn below(alloc: Global, t: &Term) -> Result<Term, StepFault>
     ensures { Worked (combining (negsuc 0) t.now (pos 1) (number (negsuc 0))) result }
 {
@@ -238,7 +266,7 @@ fn below(alloc: Global, t: &Term) -> Result<Term, StepFault>
 }
 
 /// t − 1.
-#[tactic(auto, using(crate::proofs::Charges::combinations))]
+#[tactic(auto, using(purse::proofs::Charging::combinations))]
 fn above(alloc: Global, t: &Term) -> Result<Term, StepFault>
     ensures { Worked (combining (pos 1) t.now (pos 1) (number (negsuc 0))) result }
 {

@@ -1,9 +1,12 @@
 // Laws of the definitions: they have no body to run, and say what the definitions mean.
 
 ghost use Rattle.clause_set.specs.Clause.{IsClause};
-ghost use Rattle.clause_set.specs.Clauses.{clause_of, clauses_of, same_pairs};
+ghost use Rattle.clause_set.specs.Clauses.{clause_of, clauses_of, is_false, literals_of, same_pairs, tightened};
 ghost use Rattle.clause_set.specs.declared.literal.Literal.{Literal};
 ghost use Rattle.clause_set.specs.declared.literal.Literal.TheVariants.{Eq, Geq};
+ghost use Rattle.clause_set.specs.declared.literal.Norm.TheVariants.{Lit};
+ghost use Rattle.clause_set.specs.Kept.{AreFormed, AreFree};
+ghost use Rattle.clause_set.specs.Primitive.{HasEmptyInterval, IsPrimitive, IsShaped, normals};
 ghost use Rattle.clause_set.specs.Dnfs.{conjunction, covers, disjunction, is_covered, negated_clause, negated_literal, negation, tidied, tidying};
 ghost use Rattle.clause_set.specs.Literals.{answer_truth, AreLiterals, clause_truth, dnf_truth, IsLiteral, literal_truth, norm_truth};
 ghost use Rattle.clause_set.specs.Normal.{negated, normal_of};
@@ -11,9 +14,9 @@ ghost use Rattle.clause_set.specs.Order.{clause_cmp, is_clause, is_literal, lite
 ghost use Rattle.linear_term.specs.declared.range.Place.{Place};
 ghost use Rattle.linear_term.specs.Linear.{Linear};
 ghost use Rattle.purse.specs.Trace.{At, cut, out_of_range};
-ghost use Rattle.std.specs.List.{list_any};
+ghost use Rattle.std.specs.List.{AllByRecursion, list_all, list_any};
 ghost use Rattle.std.specs.List.Sorted.{IsStrictlySortedBy};
-ghost use Rattle.std.specs.Prelude.{◌≡◌, ◌&&◌, ◌||◌, All, false, List, not, Some, true, ℤ};
+ghost use Rattle.std.specs.Prelude.{◌≡◌, ◌↔◌, ◌⊎◌, ◌&&◌, ◌||◌, ◌<ℤ◌, ◌+ℤ◌, All, Bool, false, List, None, not, pos, Some, true, ℕ, ℤ};
 
 /// A clause that covers a true one is true, clauses that cover each other are equal, and the tidy form of clauses is true where one of them is.
 pub fn covers_law()
@@ -71,4 +74,46 @@ pub fn range_law()
     ensures tidy { (cs : List (List Literal)) (a b : At) (ps : List Place) → ¬ (cut (tidying cs).events a ≡ out_of_range ps b) }
     ensures or { (c d : List (List Literal)) (a b : At) (ps : List Place) → ¬ (cut (disjunction c d).events a ≡ out_of_range ps b) }
     ensures and { (c d : List (List Literal)) (a b : At) (ps : List Place) → ¬ (cut (conjunction c d).events a ≡ out_of_range ps b) }
+{}
+
+/// The literals of a clause are in lowest terms, and in shape. A clause is its own form, and so is the normal form of a
+/// literal. Two opposite bounds of a clause leave more than one value. A conjunction has no form only where a literal is
+/// false by itself, or where bounds leave a linear form no value.
+pub fn form_law()
+    ensures primitive { (c : List Literal) → IsClause c → All IsPrimitive c }
+    ensures shaped { (c : List Literal) → IsClause c → All IsShaped c }
+    ensures literal { (l m : Literal) → IsLiteral l → normal_of l ≡ Lit m → normal_of m ≡ Lit m }
+    ensures own { (c : List Literal) → IsClause c → clause_of c ≡ Some c }
+    ensures apart { (c : List Literal) (s t : Linear) → IsClause c → list_any (is_literal (Geq s)) c ≡ true
+        → list_any (is_literal (Geq t)) c ≡ true → s.pairs ≡ negated t.pairs → pos 0 <ℤ (s.constant +ℤ t.constant) }
+    ensures none { (ls : List Literal) → (clause_of ls ≡ None)
+        ↔ ((list_any (λ l. is_false (normal_of l)) ls ≡ true) ⊎ HasEmptyInterval (normals ls)) }
+{}
+
+/// What the normal form of each literal and tightening keep, clauses keep: said of tests p of literals before and q of
+/// literals after.
+pub fn kept_law()
+    ensures clauses { (p q : Literal → Bool) → ((l : Literal) → p l ≡ true → list_all q (literals_of (normal_of l)) ≡ true)
+        → ((ls : List Literal) (l : Literal) → q l ≡ true → q (tightened ls l) ≡ true)
+        → (cs : List (List Literal)) → list_all (list_all p) cs ≡ true → list_all (list_all q) (clauses_of cs) ≡ true }
+    ensures tidy { (p : List Literal → Bool) (cs : List (List Literal)) → list_all p cs ≡ true → list_all p (tidied cs) ≡ true }
+    ensures shaped { (cs : List (List Literal)) → AreLiterals cs → AllByRecursion (All IsShaped) (clauses_of cs) }
+{}
+
+/// Operations on clauses whose literals are as clauses have them leave such ones.
+pub fn formed_law()
+    ensures clauses { (cs : List (List Literal)) → AreLiterals cs → AreFormed (clauses_of cs) }
+    ensures tidy { (cs : List (List Literal)) → AreFormed cs → AreFormed (tidied cs) }
+    ensures and { (a b : List (List Literal)) → AreLiterals a → AreLiterals b → AreFormed (conjunction a b).value }
+    ensures or { (a b : List (List Literal)) → AreFormed a → AreFormed b → AreFormed (disjunction a b).value }
+    ensures not { (d : List (List Literal)) → AreLiterals d → AreFormed (negation d).value }
+{}
+
+/// No operation brings a name in.
+pub fn free_law()
+    ensures clauses { (x : ℕ) (cs : List (List Literal)) → AreFree x cs → AreFree x (clauses_of cs) }
+    ensures tidy { (x : ℕ) (cs : List (List Literal)) → AreFree x cs → AreFree x (tidied cs) }
+    ensures and { (x : ℕ) (a b : List (List Literal)) → AreFree x a → AreFree x b → AreFree x (conjunction a b).value }
+    ensures or { (x : ℕ) (a b : List (List Literal)) → AreFree x a → AreFree x b → AreFree x (disjunction a b).value }
+    ensures not { (x : ℕ) (d : List (List Literal)) → AreFree x d → AreFree x (negation d).value }
 {}

@@ -10,12 +10,14 @@ mod laws;
 mod literal;
 mod normal_form;
 mod order;
+mod table;
 mod weight;
 
 pub use clause::{Clause, copy_literals, normal};
 pub use dnf::{Dnf, and, not, or};
 pub use laws::{
-    canonical_law, covers_law, intervals_law, negation_law, normal_law, operations_law, range_law,
+    canonical_law, covers_law, form_law, formed_law, free_law, intervals_law, kept_law,
+    negation_law, normal_law, operations_law, range_law,
 };
 pub use literal::{Literal, Norm};
 pub use order::{Ordered, sort_once};

@@ -79,8 +79,13 @@ impl Literal {
 
 impl Ordered for Literal {
     ghost use Rattle.clause_set.specs.Order.{literal_cmp};
+    ghost use Rattle.clause_set.specs.Total.{literal_cmp-equal, literal_cmp-total};
 
     ghost cmp = { literal_cmp };
+
+    ghost total = { literal_cmp-total };
+
+    ghost same = { literal_cmp-equal };
 
     /// By kind (Eq, Geq, Div, NDiv), then divisor, then term.
     fn compare(&self, other: &Literal) -> Ordering {

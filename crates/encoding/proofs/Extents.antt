@@ -6,10 +6,9 @@ use Rattle.linear_term.specs.Linear.{Linear}
 use Rattle.typed_formula.specs.declared.typed.Relation.{Relation}
 use Rattle.typed_formula.specs.declared.typed.Relation.TheVariants.{Eq, Neq, Lt, Leq, Gt, Geq}
 use Rattle.typed_formula.specs.Formula.{Formula, Formulas, Expression, Expressions, constant, compares, applies, negation, every, some, implies, iff, for_all, for_some, part, no_formula, and_formula, number, name, call, minus, total, product, choice, absolute, lesser, greater, no_expression, and_expression}
-use Rattle.purse.specs.Trace.{Traced, just, step, next, capped}
+use Rattle.purse.specs.Trace.{Traced, just, step, next, capped, combining}
 use Rattle.formula.specs.Form.{Form, Forms, holds, fails, differs, conjunction, disjunction, no_form, and_form, forms}
 use Rattle.formula.specs.Sizes.{size, sizes, depth, depths}
-use Rattle.purse.specs.Combining.{combining}
 use Rattle.encoding.specs.Extent.{Extent, leaf, nothing, beside, above, above_two, in_both, extent, extents, extent_with, extents_with, measured, all_measured}
 use Rattle.pri_typing.specs.WellFormed.{is_numeric}
 use Rattle.encoding.specs.Encoding.{named, multiple, related, signed_relation, product_of, junction, quantified, cases, encoded, all_encoded, with_value, with_values, with_sum, with_more}

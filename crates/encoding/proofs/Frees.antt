@@ -7,8 +7,7 @@ use Rattle.linear_term.specs.Linear.{Linear}
 use Rattle.typed_formula.specs.declared.typed.Relation.{Relation}
 use Rattle.typed_formula.specs.declared.typed.Relation.TheVariants.{Eq, Neq, Lt, Leq, Gt, Geq}
 use Rattle.typed_formula.specs.Formula.{Formula, Formulas, Expression, Expressions, constant, compares, applies, negation, every, some, implies, iff, for_all, for_some, part, no_formula, and_formula, number, name, call, minus, total, product, choice, absolute, lesser, greater, no_expression, and_expression}
-use Rattle.purse.specs.Trace.{Traced, just, step, next}
-use Rattle.purse.specs.Combining.{combining}
+use Rattle.purse.specs.Trace.{Traced, just, step, next, combining}
 use Rattle.pri_typing.specs.Everywhere.{Property, Everywhere, AllEverywhere, TermEverywhere, TermsEverywhere}
 use Rattle.pri_typing.specs.Problems.{IsNoPredicate, IsNoCall}
 use Rattle.pri_typing.specs.WellFormed.{is_numeric}

@@ -17,9 +17,8 @@ use Rattle.typed_formula.specs.Truth.{Meaning, Truth, AreAllTrue, AreAllFalse, H
 use Rattle.typed_formula.specs.Lists.{sum_of}
 use Rattle.typed_formula.proofs.Values.{value_more, value_clash, value_not, value_stable, values_clash, values_not}
 use Rattle.typed_formula.proofs.Stability.{truth_stable, related_opposite}
-use Rattle.purse.specs.Trace.{Traced, just, step, next}
+use Rattle.purse.specs.Trace.{Traced, just, step, next, combining}
 use Rattle.formula.specs.Form.{Form, Forms, FormTruth, AreFormsTrue, AreFormsFalse, forms, values_of, holds, fails, differs, conjunction, disjunction, universal}
-use Rattle.purse.specs.Combining.{combining}
 use Rattle.pri_typing.specs.WellFormed.{is_numeric, are_numeric}
 use Rattle.encoding.specs.Encoding.{named, multiple, related, signed_relation, product_of, junction, quantified, cases, encoded, all_encoded, with_value, with_values, with_sum, with_more}
 use Rattle.encoding.specs.Meaning.{Signed}

@@ -8,9 +8,8 @@ use Rattle.linear_term.proofs.Names.{combination-over}
 use Rattle.typed_formula.specs.declared.typed.Relation.{Relation}
 use Rattle.typed_formula.specs.declared.typed.Relation.TheVariants.{Eq, Neq, Lt, Leq, Gt, Geq}
 use Rattle.typed_formula.specs.Formula.{Formula, Formulas, Expression, Expressions, constant, compares, applies, negation, every, some, implies, iff, for_all, for_some, part, no_formula, and_formula, number, name, call, minus, total, product, choice, absolute, lesser, greater, no_expression, and_expression}
-use Rattle.purse.specs.Trace.{Traced, just, step, next}
+use Rattle.purse.specs.Trace.{Traced, just, step, next, combining}
 use Rattle.formula.specs.Form.{Form, Forms, IsFormOver, AreFormsOver, holds, fails, differs, universal, disjunction, no_form, forms}
-use Rattle.purse.specs.Combining.{combining}
 use Rattle.pri_typing.specs.WellFormed.{is_numeric}
 use Rattle.encoding.specs.Encoding.{named, multiple, related, signed_relation, product_of, junction, quantified, cases, encoded, all_encoded, with_value, with_values, with_sum, with_more}
 use Rattle.formula.proofs.Extending.{over_number, over_name, over_more}

@@ -3,10 +3,9 @@ use Rattle.std.proofs.Common.{◌≡◌, ℕ, pos, negsuc, List, sym, ◌∙◌}
 use Rattle.linear_term.specs.Linear as linear
 use Rattle.linear_term.specs.Linear.{Linear}
 use Rattle.typed_formula.specs.Formula.{Expression, Expressions, number, name, call, minus, total, product, choice, absolute, lesser, greater, no_expression, and_expression}
-use Rattle.purse.specs.Trace.{Traced, next}
+use Rattle.purse.specs.Trace.{Traced, next, combining}
 use Rattle.purse.proofs.Tracing.{next-just, next-assoc}
 use Rattle.formula.specs.Form.{Form}
-use Rattle.purse.specs.Combining.{combining}
 use Rattle.pri_typing.specs.WellFormed.{is_numeric}
 use Rattle.encoding.specs.Encoding.{named, multiple, product_of, with_value, with_sum, with_more}
 use Rattle.encoding.specs.Plain.{IsPlain, ArePlain, linear_of, linear_sum, linear_more}

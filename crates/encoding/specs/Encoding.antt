@@ -12,10 +12,9 @@ use Rattle.typed_formula.specs.declared.typed.Relation.{Relation}
 use Rattle.typed_formula.specs.declared.typed.Relation.TheVariants.{Eq, Neq, Lt, Leq, Gt, Geq}
 use Rattle.typed_formula.specs.Formula.{Formula, Formulas, Expression, Expressions, constant, compares, applies, negation, every, some, implies, iff, for_all, for_some, part, no_formula, and_formula, number, name, call, minus, total, product, choice, absolute, lesser, greater, no_expression, and_expression}
 use Rattle.typed_formula.specs.Truth.{opposite_relation}
-use Rattle.purse.specs.Trace.{Traced, just, next}
+use Rattle.purse.specs.Trace.{Traced, just, next, combining}
 use Rattle.pri_typing.specs.WellFormed.{is_numeric}
 use Rattle.formula.specs.Form.{Form, Forms, equal, unequal, at_least, holds, fails, differs, conjunction, disjunction, universal, existential, no_form, and_form, forms}
-use Rattle.purse.specs.Combining.{combining}
 
 -- the name that stands for the x-th name; a name that nothing binds is the number 0
 abbrev pub named : List ℕ → ℕ → Linear

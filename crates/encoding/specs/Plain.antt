@@ -3,8 +3,7 @@ use Rattle.std.specs.Prelude.{ℕ, pos, negsuc, List}
 use Rattle.linear_term.specs.Linear as linear
 use Rattle.linear_term.specs.Linear.{Linear}
 use Rattle.typed_formula.specs.Formula.{Expression, Expressions, number, name, minus, total, product, no_expression, and_expression}
-use Rattle.purse.specs.Trace.{Traced, just, next}
-use Rattle.purse.specs.Combining.{combining}
+use Rattle.purse.specs.Trace.{Traced, just, next, combining}
 use Rattle.pri_typing.specs.WellFormed.{is_numeric}
 use Rattle.encoding.specs.Encoding.{named, multiple, product_of}
 

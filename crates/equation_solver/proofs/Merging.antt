@@ -13,7 +13,7 @@ use Rattle.clause_set.specs.declared.literal.Literal.TheVariants.{Div}
 use Rattle.clause_set.specs.Bezout.{Bezout, bezout}
 use Rattle.clause_set.specs.Clauses.{clauses_of}
 use Rattle.clause_set.specs.Divisibilities.{with_name}
-use Rattle.clause_set.specs.Dnfs.{combining}
+use Rattle.purse.specs.Trace.{combining}
 use Rattle.clause_set.specs.Literals.{IsDivisor, term_of}
 use Rattle.clause_set.specs.Names.{product}
 use Rattle.clause_set.specs.Order.{divisor_of}

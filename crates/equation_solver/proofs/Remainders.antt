@@ -13,7 +13,7 @@ use Rattle.clause_set.specs.declared.literal.Literal.{Literal}
 use Rattle.clause_set.specs.declared.literal.Literal.TheVariants.{Div, NDiv}
 use Rattle.clause_set.specs.Clauses.{clauses_of}
 use Rattle.clause_set.specs.Divisibilities.{numbers_from, with_remainder, apart_at, apart}
-use Rattle.clause_set.specs.Dnfs.{combining}
+use Rattle.purse.specs.Trace.{combining}
 use Rattle.clause_set.specs.Literals.{HasDivisor, IsDivisor, term_of}
 use Rattle.clause_set.specs.Names.{area}
 use Rattle.clause_set.specs.Order.{divisor_of}

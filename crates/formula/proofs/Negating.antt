@@ -6,8 +6,7 @@ use Rattle.linear_term.specs.Combination.{combination, raw_numbers}
 use Rattle.linear_term.specs.declared.range.TermFault.{TermFault}
 use Rattle.linear_term.specs.declared.range.TermFault.TheVariants as term_fault
 use Rattle.purse.specs.declared.fault.StepFault.TheVariants as step_fault
-use Rattle.purse.specs.Trace.{Traced, just, next}
-use Rattle.purse.specs.Combining.{combining}
+use Rattle.purse.specs.Trace.{Traced, just, next, combining}
 use Rattle.purse.proofs.Charging.{raw_ok, raw_leaves, work_memory, Left, left_all, drop-item, drop_all}
 use Rattle.purse.proofs.Tracing.{next-assoc, next-just, just-next}
 use Rattle.formula.specs.declared.calculus.Core.{Core}

@@ -6,3 +6,5 @@ pub mod Names
 pub mod Euclid
 pub mod Orders
 pub mod Ranges
+pub mod Small
+pub mod Pushed

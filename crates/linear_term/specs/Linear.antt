@@ -1,5 +1,5 @@
 -- Linear terms over the integers: what they are, their coefficients and their value.
-use Rattle.std.specs.Prelude.{ℕ, ◌+◌, ◌<◌, ◌^◌, ◌≢◌, ℤ, pos, ◌+ℤ◌, ◌*ℤ◌, List, [], ◌∷◌, All, filter, Bool, true, false, not, cond, nat_eq}
+use Rattle.std.specs.Prelude.{ℕ, ◌+◌, ◌<◌, ◌^◌, ◌≢◌, ℤ, pos, ◌+ℤ◌, ◌*ℤ◌, List, [], ◌∷◌, ◌++◌, All, filter, Bool, true, false, not, cond, nat_eq}
 use Rattle.integers.specs.Entry.{entry}
 use Rattle.linear_term.specs.Range.{InRange}
 
@@ -75,3 +75,7 @@ number k = record { pairs = []; constant = k }
 -- the term that is the name x, with coefficient 1
 abbrev pub name : ℕ → Linear
 name x = record { pairs = (x, pos 1) ∷ []; constant = pos 0 }
+
+-- the term t and the monomial k·x behind its others
+abbrev pub with_monomial : Linear → ℕ → ℤ → Linear
+with_monomial t x k = record { pairs = t.pairs ++ (x, k) ∷ []; constant = t.constant }

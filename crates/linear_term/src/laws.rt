@@ -1,6 +1,6 @@
 // What the definitions of this crate mean, each law by a function with an empty body.
 
-ghost use Rattle.linear_term.specs.Linear.{Linear, coef_of, value_of, number, name, mentions, without, IsNormal, IsOver, IsReduced};
+ghost use Rattle.linear_term.specs.Linear.{Linear, coef_of, value_of, number, name, mentions, with_monomial, without, IsNormal, IsOver, IsReduced};
 ghost use Rattle.linear_term.specs.Combination.{combination, raw_numbers};
 ghost use Rattle.integers.specs.Entry.{entry, put};
 ghost use Rattle.linear_term.specs.Range.{InRange, Stays, IsPlace, stays, all_stay};
@@ -8,7 +8,7 @@ ghost use Rattle.linear_term.specs.Order.{linear_cmp};
 ghost use Rattle.linear_term.specs.declared.range.Place.{Place};
 ghost use Rattle.std.specs.Cmp.{IsTotalOrder};
 ghost use Rattle.std.specs.declared.cmp.Ordering.TheVariants.{Equal};
-ghost use Rattle.std.specs.Prelude.{◌≡◌, ℕ, ℤ, List, ◌+ℤ◌, ◌*ℤ◌, ◌≤◌, ◌≢◌, ◌↔◌, All, pos, true, false};
+ghost use Rattle.std.specs.Prelude.{◌≡◌, ℕ, ℤ, List, ◌+ℤ◌, ◌*ℤ◌, ◌<◌, ◌≤◌, ◌≢◌, ◌↔◌, All, pos, true, false};
 
 /// `combination m s n t` is m·s + n·t: so is its value at every list of integers, and so is each coefficient.
 pub fn combination_law()
@@ -53,6 +53,12 @@ pub fn names_law()
     ensures unmentioned { (m : ℤ) (s : Linear) (n : ℤ) (t : Linear) (x : ℕ) → mentions s x ≡ false → mentions t x ≡ false
         → mentions (combination m s n t) x ≡ false }
     ensures over { (k : ℕ) (m : ℤ) (s : Linear) (n : ℤ) (t : Linear) → IsOver k s → IsOver k t → IsOver k (combination m s n t) }
+{}
+
+/// A term with one more monomial: its value is the sum of both, and its names are those of both.
+pub fn monomial_law()
+    ensures value { (t : Linear) (x : ℕ) (k : ℤ) (e : List ℤ) → value_of (with_monomial t x k) e ≡ value_of t e +ℤ (k *ℤ entry e x) }
+    ensures over { (n : ℕ) (t : Linear) (x : ℕ) (k : ℤ) → IsOver n t → x < n → IsOver n (with_monomial t x k) }
 {}
 
 /// A reduced term is determined by its coefficients and its constant.

@@ -1,7 +1,7 @@
 // The range of coefficients, and what a call of this crate refuses with.
 
 ghost use Rattle.linear_term.specs.Range.{InRange, is_in_range, stays};
-ghost use Rattle.std.specs.Prelude.{◌≡◌, IsTrue, ◌↔◌, IfSome, IfNone, IfOk, IfErr, OnOk, ◌+ℤ◌, ◌*ℤ◌, true, false};
+ghost use Rattle.std.specs.Prelude.{◌≡◌, IsTrue, ◌↔◌, IfSome, IfNone, IfOk, IfErr, OnOk, ◌+ℤ◌, ◌*ℤ◌, true, false, ◌<◌, ◌^◌, unsigned_abs};
 
 use std::alloc::{AllocError, AllocFailed};
 
@@ -75,13 +75,16 @@ impl<T: Drop> From<AllocFailed<T>> for TermFault {
 
 impl Place {
     /// The number m·a + n·b, or Overflow with this place where it leaves the range.
-    #[tactic(auto, unfolding(crate::specs::Range::stays))]
+    #[tactic(auto, using(crate::proofs::Small::small), unfolding(crate::specs::Range::stays))]
     pub fn value(&self) -> Result<i128, TermFault>
         ensures exact { IfOk result (λ k. k ≡ (self.now.m *ℤ self.now.a) +ℤ (self.now.n *ℤ self.now.b)) }
         ensures range { IfOk result InRange }
         ensures stays { OnOk result (stays self.now ≡ true) }
         ensures overflow { IfErr result (λ fault. (fault ≡ TermFault.Overflow self.now) × (stays self.now ≡ false)) }
     {
+        if is_small(self.m) && is_small(self.a) && is_small(self.n) && is_small(self.b) {
+            return Ok(small_product(self.m, self.a) + small_product(self.n, self.b));
+        }
         let Some(left) = product(self.m, self.a) else {
             return Err(TermFault::Overflow(*self));
         };
@@ -93,6 +96,23 @@ impl Place {
         };
         Ok(value)
     }
+}
+
+#[tactic(auto, using(crate::proofs::Small::small))]
+fn small_product(a: i128, b: i128) -> i128
+    requires left { unsigned_abs a < 2 ^ 63 }
+    requires right { unsigned_abs b < 2 ^ 63 }
+    ensures exact { result ≡ a *ℤ b }
+    ensures small { unsigned_abs result < 2 ^ 126 }
+{
+    a * b
+}
+
+/// Whether |n| is below 2^63: two products of such numbers, and their sum, are in the range.
+fn is_small(n: i128) -> bool
+    ensures { IsTrue result → unsigned_abs n < 2 ^ 63 }
+{
+    -9223372036854775808 < n && n < 9223372036854775808
 }
 
 fn product(a: i128, b: i128) -> Option<i128>

@@ -1,10 +1,10 @@
 // Linear terms: a list of names with their coefficients, names rising and no coefficient 0, and a constant.
 
 ghost use Rattle.linear_term.specs.Range.{InRange, all_stay, IsCause};
-ghost use Rattle.linear_term.specs.Linear.{coef_of, without, number, name, IsNormal};
+ghost use Rattle.linear_term.specs.Linear.{coef_of, without, number, name, with_monomial, IsCoefficient, IsNormal, IsOver};
 ghost use Rattle.linear_term.specs.Combination.{combination, raw_numbers};
 ghost use Rattle.linear_term.specs.Order.{linear_cmp};
-ghost use Rattle.std.specs.Prelude.{◌≡◌, ◌<◌, IfOk, IfErr, OnOk, length, slice_get, Some, true, option_copied, find, filter, not, nat_eq};
+ghost use Rattle.std.specs.Prelude.{◌≡◌, ◌<◌, IfOk, IfErr, OnErr, OnOk, length, slice_get, Some, true, option_copied, find, filter, not, nat_eq};
 
 use crate::merge::Factors;
 use crate::range::{Memory, Place, TermFault};
@@ -116,6 +116,28 @@ impl Term {
         ensures { slice_get self.now.pairs i ≡ Some result }
     {
         self.pairs.as_slice()[i]
+    }
+
+    /// Appends the monomial k·x, in constant time but for a growth of memory. The name x is above all names of the term,
+    /// and k is in the range and not 0. At want of memory the term stays as it was.
+    #[tactic(auto, using(crate::proofs::Pushed::pushing))]
+    pub fn push(&mut self, x: u32, k: i128) -> Result<(), Memory>
+        requires above { IsOver x self.old }
+        requires coefficient { IsCoefficient k }
+        ensures ok { OnOk result (self.new ≡ with_monomial self.old x k) }
+        ensures err { OnErr result (self.new ≡ self.old) }
+    {
+        self.pairs.push((x, k))?;
+        Ok(())
+    }
+
+    /// Makes k, which is in the range, the constant.
+    #[tactic(auto, using(crate::proofs::Pushed::pushing))]
+    pub fn set_constant(&mut self, k: i128)
+        requires { InRange k }
+        ensures { self.new ≡ record self.old { constant = k } }
+    {
+        self.constant = k;
     }
 
     /// This term without the monomial of x, if it has one.

@@ -23,7 +23,7 @@ use Rattle.clause_set.specs.declared.literal.Literal.{Literal}
 use Rattle.clause_set.specs.declared.literal.Literal.TheVariants.{Eq}
 use Rattle.clause_set.specs.Literals.{term_of}
 use Rattle.clause_set.specs.Names.{product}
-use Rattle.clause_set.specs.Dnfs.{combining}
+use Rattle.purse.specs.Trace.{combining}
 use Rattle.clause_set.specs.Shadows.{difference, factor, splinter, splinter_count, splinters}
 use Rattle.clause_set.specs.Divisibilities.{numbers_from}
 use Rattle.omega_elim.specs.Splinters.{splinter_numbers}

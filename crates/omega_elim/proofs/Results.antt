@@ -29,7 +29,7 @@ use mir.Val.{SFits}
 use Rattle.purse.proofs.Charging.{work_ok, work_err, work_just}
 use Rattle.purse.specs.Trace.{compute}
 use Rattle.linear_term.specs.Linear.{number}
-use Rattle.clause_set.specs.Dnfs.{combining}
+use Rattle.purse.specs.Trace.{combining}
 use Rattle.clause_set.specs.Names.{product}
 use Rattle.clause_set.specs.Shadows.{factor, shadow, dark_pair}
 

@@ -5,7 +5,7 @@ use Rattle.purse.specs.Trace.{Traced, just, next, compute, each}
 use Rattle.clause_set.specs.declared.literal.Literal.{Literal}
 use Rattle.clause_set.specs.declared.literal.Literal.TheVariants.{Geq}
 use Rattle.clause_set.specs.Names.{area, product}
-use Rattle.clause_set.specs.Dnfs.{combining}
+use Rattle.purse.specs.Trace.{combining}
 use Rattle.clause_set.specs.Shadows.{lowers, factor, shadow_length, exact_pair, dark_pair, splinter_count}
 use Rattle.omega_elim.specs.declared.shadow.Shadow.{Shadow}
 use Rattle.omega_elim.specs.declared.shadow.Shadow.TheVariants.{Real, Dark}

@@ -1,6 +1,6 @@
 -- Calls that charge, joined: by these lemmas a function that calls charged functions in the order of its definition is
 -- proved. `charging` serves functions with a purse, `working` those without, `looping` loops, `logging` code that notes.
-use Rattle.std.proofs.Common.{◌≡◌, ℕ, ◌+◌, ◌<◌, ◌≤◌, true, false, List, [], ◌∷◌, ◌++◌, drop, length, get_or, refl, sym, ◌∙◌, ap, subst, append_assoc, Result, Ok, Err, Contains, IsErrAnd}
+use Rattle.std.proofs.Common.{◌≡◌, ℕ, ℤ, ◌+◌, ◌<◌, ◌≤◌, true, false, List, [], ◌∷◌, ◌++◌, drop, length, get_or, refl, sym, ◌∙◌, ap, subst, append_assoc, Result, Ok, Err, Contains, IsErrAnd}
 use Rattle.std.proofs.lemmas.List.{append-nil, drop_more}
 use Rattle.std.proofs.lemmas.Bool.{le-leb, lt-leb, cond-true, cond-false}
 use Rattle.std.proofs.lemmas.List.Folds.{list_all_at}
@@ -8,9 +8,13 @@ use Rattle.std.proofs.Math.ListN.{drop_of_length-le}
 use Rattle.linear_term.specs.declared.range.Place.{Place}
 use Rattle.purse.specs.declared.fault.StepFault.{StepFault}
 use Rattle.purse.specs.declared.fault.StepFault.TheVariants.{Steps, Overflow, Memory}
-use Rattle.linear_term.specs.Range.{all_stay, stays}
-use Rattle.purse.specs.Trace.{Funds, Mark, Event, charge, raw, mark, At, at, after_charge, done, refused, out_of_range, capped, cut, stand, Traced, just, step, next, pay, note}
-use Rattle.purse.specs.Work.{Reaches, ChargedAt, Charged, Worked, Remains}
+use Rattle.linear_term.specs.declared.range.TermFault.{TermFault}
+use Rattle.linear_term.specs.declared.range.TermFault.TheVariants as term_fault
+use Rattle.linear_term.specs.Linear.{Linear}
+use Rattle.linear_term.specs.Combination.{combination, raw_numbers}
+use Rattle.linear_term.specs.Range.{all_stay, stays, IsCause}
+use Rattle.purse.specs.Trace.{Funds, Mark, Event, charge, raw, mark, At, at, after_charge, done, refused, out_of_range, capped, cut, stand, Traced, just, step, next, pay, combining, note}
+use Rattle.purse.specs.Work.{Reaches, ChargedAt, Charged, Worked, Remains, step_fault_of}
 use Rattle.purse.proofs.Cutting.{cut_after, cut_refused, cut_left, behind, end_behind, cut-behind, stand-behind}
 
 -- work after events that all happened
@@ -218,6 +222,16 @@ left_ends inv h = inv.ends _ h
 -- the value of work that a call did
 pub worked_value : {A : Type 0} {m : Traced A} {v : A} → Worked m (Ok v) → v ≡ m.value
 worked_value h = charged_value (h.each (at (record { budget = 0; spent = 0 }) []))
+
+-- one linear combination
+pub combining_ok : (m n : ℤ) (s t r : Linear) → r ≡ combination m s n t → all_stay (raw_numbers m s n t) ≡ true → Worked (combining m s n t) (Ok r)
+combining_ok m n s t r is stay = raw_ok (raw_numbers m s n t) (combination m s n t) r stay is
+
+pub combining_err : (m n : ℤ) (s t : Linear) (fault : TermFault) (r : Result Linear StepFault) → IsErrAnd r (λ e. e ≡ step_fault_of fault) → IsCause fault (raw_numbers m s n t) → Worked (combining m s n t) r
+combining_err m n s t (term_fault.Overflow p) r h c = raw_leaves (raw_numbers m s n t) (combination m s n t) p r h c.0 c.1
+combining_err m n s t term_fault.Memory r h c = work_memory r h
+
+pub ruleset combinations = (combining_ok, combining_err)
 
 pub ruleset charging = (then_ok, then_err, then_fault, then_just, no_memory, free)
 

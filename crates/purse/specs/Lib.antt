@@ -1,4 +1,4 @@
 pub mod Trace
 pub mod Work
 pub mod Runs
-pub mod Combining
+pub mod Followed

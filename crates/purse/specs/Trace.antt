@@ -1,6 +1,8 @@
 -- Mathematics with a trace: a value with the events of its computation, and the cut of the events by a budget and the range.
-use Rattle.std.specs.Prelude.{ℕ, ◌+◌, ◌-◌, ◌^◌, cond, nat_le, min, List, [], ◌∷◌, ◌++◌}
+use Rattle.std.specs.Prelude.{ℕ, ℤ, ◌+◌, ◌-◌, ◌^◌, cond, nat_le, min, List, [], ◌∷◌, ◌++◌}
 use Rattle.linear_term.specs.declared.range.Place.{Place}
+use Rattle.linear_term.specs.Linear.{Linear}
+use Rattle.linear_term.specs.Combination.{combination, raw_numbers}
 use Rattle.linear_term.specs.Range.{all_stay}
 use Rattle.purse.specs.declared.log.Entry.{Entry}
 
@@ -9,9 +11,14 @@ pub record Funds : Type 0 where
   pub budget : ℕ
   pub spent : ℕ
 
--- a note that a run leaves: here an entry of an elimination's log
+-- a note that a run leaves: an entry of the log in progress; a new log begins; the round with this limit begins; the node
+-- with this number is entered; the run is back at the node with this number
 pub data Mark : Type 0 where
   entry : Entry → Mark
+  new_log : Mark
+  round : ℕ → Mark
+  enter : ℕ → Mark
+  back : ℕ → Mark
 
 -- what happens in a run: n steps are charged, raw numbers are computed, a note is left
 pub data Event : Type 0 where
@@ -80,6 +87,10 @@ pay n = step (charge n) tt
 -- raw numbers are computed
 abbrev pub compute : List Place → Traced (Unit {0})
 compute ps = step (raw ps) tt
+
+-- the term m·s + n·t, after its raw numbers
+abbrev pub combining : ℤ → Linear → ℤ → Linear → Traced Linear
+combining m s n t = step (raw (raw_numbers m s n t)) (combination m s n t)
 
 -- a note is left
 abbrev pub note : Mark → Traced (Unit {0})

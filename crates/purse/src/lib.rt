@@ -7,7 +7,7 @@ mod log;
 mod purse;
 
 pub use fault::{ElimFault, StepFault};
-pub use laws::cut_law;
+pub use laws::{cut_law, followed_law};
 pub use log::{ElimLog, Entry};
 pub use purse::{Purse, Spent};
 

@@ -13,7 +13,7 @@ use Rattle.purse.specs.Trace.{Traced, at, next, compute}
 use Rattle.purse.proofs.Charging.{working, raw_ok, raw_leaves, work_ok, work_memory, charged_value, drop-item, drop_all}
 use Rattle.std.proofs.lemmas.List.{drop_more}
 use Rattle.std.proofs.lemmas.List.Elements.{Contains-get_or}
-use Rattle.clause_set.specs.Dnfs.{combining}
+use Rattle.purse.specs.Trace.{combining}
 use Rattle.clause_set.specs.Clauses.{clause_of, clauses_of, found}
 use Rattle.clause_set.specs.declared.literal.Literal.{Literal}
 use Rattle.std.proofs.lemmas.List.{append-nil}

@@ -1,6 +1,6 @@
 // Terms and numbers that a rule computes: each is in the range, or the call names one that is not.
 
-ghost use Rattle.clause_set.specs.Dnfs.{combining};
+ghost use Rattle.purse.specs.Trace.{combining};
 ghost use Rattle.linear_term.specs.Range.{InRange};
 ghost use Rattle.purse.specs.Trace.{compute};
 ghost use Rattle.purse.specs.Work.{Worked};
@@ -11,7 +11,7 @@ use linear_term::{Place, Term};
 use purse::StepFault;
 
 /// The term m·s + n·t, for m and n in the range.
-#[tactic(auto, using(clause_set::proofs::Charges::combinations))]
+#[tactic(auto, using(purse::proofs::Charging::combinations))]
 pub fn combining(m: i128, s: &Term, n: i128, t: &Term) -> Result<Term, StepFault>
     requires m_in_range { InRange m }
     requires n_in_range { InRange n }

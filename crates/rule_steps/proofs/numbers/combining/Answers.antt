@@ -1,7 +1,7 @@
 use Rattle.std.proofs.Common.{to_z-of_z}
 use mir.Syntax.{w128}
 use mir.Val.{SFits}
-use Rattle.clause_set.proofs.Charges.{combining_ok, combining_err}
+use Rattle.purse.proofs.Charging.{combining_ok, combining_err}
 use Rattle.rule_steps.proofs.numbers.combining.Goals as goal
 
 pub returns-in_err-combine : goal.returns-in_err-combine

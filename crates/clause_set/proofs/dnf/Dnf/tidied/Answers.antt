@@ -1,5 +1,5 @@
 use Rattle.clause_set.proofs.Canonical.{dnf_of_tidied}
-use Rattle.clause_set.proofs.dnf.Dnf.tidy.Goals as goal
+use Rattle.clause_set.proofs.dnf.Dnf.tidied.Goals as goal
 
 pub invariant_of-result : goal.invariant_of-result
 invariant_of-result c = dnf_of_tidied _ _ c.in_ok-clauses.ensures

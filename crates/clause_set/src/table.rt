@@ -1,0 +1,91 @@
+// The bounds of all linear forms at once.
+
+ghost use Rattle.clause_set.specs.Clauses.{least, same_pairs, slack, slack_of};
+ghost use Rattle.clause_set.specs.Table.{bound_at};
+ghost use Rattle.linear_term.specs.Range.{InRange};
+ghost use Rattle.std.specs.Prelude.{◌≡◌, IfOk, IfSome, OnOk, Some, None, cond, Vec, ℕ, ℤ, List};
+
+use super::bounds::{negated, opposite_of, same_pairs};
+use super::literal::Literal;
+use linear_term::{Memory, Term};
+use std::alloc::Global;
+use std::collections::BTreeMap;
+
+/// The least number that stands at p.
+pub(crate) fn bound_at(table: &BTreeMap<Vec<(u32, i128)>, i128>, p: &[(u32, i128)]) -> Option<i128>
+    ensures { result ≡ bound_at table.now p.now }
+{
+    table.get(p).copied()
+}
+
+fn lesser(held: Option<i128>, k: i128) -> i128
+    ensures { Some result ≡ least held (Some k) }
+{
+    match held {
+        Some(other) => other.min(k),
+        None => k,
+    }
+}
+
+/// Puts the bound p + k ≥ 0 into a table of the least bounds.
+fn put_bound(table: &mut BTreeMap<Vec<(u32, i128)>, i128>, p: Vec<(u32, i128)>, k: i128) -> Result<(), Memory>
+    ensures { OnOk result ((q : List (ℕ × ℤ)) → bound_at table.new q ≡ least (bound_at table.old q) (cond (same_pairs p.items q) (Some k) None)) }
+{
+    let bound = lesser(bound_at(table, p.as_slice()), k);
+    table.insert(p, bound)?;
+    Ok(())
+}
+
+fn copied(alloc: Global, pairs: &[(u32, i128)]) -> Result<Vec<(u32, i128)>, Memory>
+    ensures { IfOk result (λ v. v.items ≡ pairs.now) }
+{
+    let mut out = Vec::new(alloc);
+    for pair in pairs {
+        out.push(*pair)?;
+    }
+    Ok(out)
+}
+
+/// Puts both bounds of t = 0 into a table.
+#[tactic(auto, using(crate::proofs::Terms::terms))]
+fn put_equation(alloc: Global, table: &mut BTreeMap<Vec<(u32, i128)>, i128>, t: &Term) -> Result<(), Memory>
+    ensures { OnOk result ((q : List (ℕ × ℤ)) → bound_at table.new q ≡ least (bound_at table.old q) (slack_of (Literal.Eq t.now) q)) }
+{
+    t.is_normal();
+    let opposite = negated(alloc, t.pairs())?;
+    let same = same_pairs(t.pairs(), opposite.as_slice());
+    put_bound(table, copied(alloc, t.pairs())?, t.constant())?;
+    if same {
+        return Ok(());
+    }
+    put_bound(table, opposite, opposite_of(t.constant()))?;
+    Ok(())
+}
+
+/// Puts the bounds that a literal sets into a table.
+#[tactic(auto, using(crate::proofs::Tables::tables))]
+fn put_literal(alloc: Global, table: &mut BTreeMap<Vec<(u32, i128)>, i128>, l: &Literal) -> Result<(), Memory>
+    ensures exact { OnOk result ((q : List (ℕ × ℤ)) → bound_at table.new q ≡ least (bound_at table.old q) (slack_of l.now q)) }
+    ensures range { (q : List (ℕ × ℤ)) → IfSome (slack_of l.now q) (λ k. InRange k) }
+{
+    l.term().is_normal();
+    match l {
+        Literal::Eq(t) => put_equation(alloc, table, t),
+        Literal::Geq(t) => put_bound(table, copied(alloc, t.pairs())?, t.constant()),
+        Literal::Div(_, _) => Ok(()),
+        Literal::NDiv(_, _) => Ok(()),
+    }
+}
+
+/// The least bounds that the literals set to each list of coefficients.
+#[tactic(auto, using(crate::proofs::Tables::tables))]
+pub(crate) fn table_of(alloc: Global, literals: &[Literal]) -> Result<BTreeMap<Vec<(u32, i128)>, i128>, Memory>
+    ensures exact { IfOk result (λ m. (q : List (ℕ × ℤ)) → bound_at m q ≡ slack literals.now q) }
+    ensures range { IfOk result (λ m. (q : List (ℕ × ℤ)) → IfSome (bound_at m q) (λ k. InRange k)) }
+{
+    let mut table = BTreeMap::new(alloc);
+    for literal in literals {
+        put_literal(alloc, &mut table, literal)?;
+    }
+    Ok(table)
+}
