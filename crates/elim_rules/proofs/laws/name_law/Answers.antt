@@ -1,0 +1,12 @@
+use Rattle.elim_rules.proofs.Taking.{taken_out-rule, exists_name-out}
+use Rattle.elim_rules.proofs.Names.{exists_name-lacks}
+use Rattle.elim_rules.proofs.laws.name_law.Goals as goal
+
+pub returns-clause-first : goal.returns-clause-first
+returns-clause-first c = taken_out-rule
+
+pub returns-clause-out : goal.returns-clause-out
+returns-clause-out c = exists_name-out
+
+pub returns-clause-names : goal.returns-clause-names
+returns-clause-names c = exists_name-lacks

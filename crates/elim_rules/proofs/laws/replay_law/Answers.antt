@@ -1,0 +1,16 @@
+use Rattle.elim_rules.specs.Elimination.{exists_name}
+use Rattle.elim_rules.specs.Logs.{name_by_log, names_by_log}
+use Rattle.elim_rules.specs.Whole.{names_out}
+use Rattle.elim_rules.proofs.Wholes.{form_log, whole_does}
+use Rattle.elim_rules.proofs.Replays.{name_does}
+use Rattle.elim_rules.proofs.Depth.{names_does}
+use Rattle.elim_rules.proofs.laws.replay_law.Goals as goal
+
+pub returns-clause-formula : goal.returns-clause-formula
+returns-clause-formula c = form_log
+
+pub returns-clause-name : goal.returns-clause-name
+returns-clause-name c = λ x d. whole_does (name_by_log x d) (exists_name x d) (name_does x d)
+
+pub returns-clause-all : goal.returns-clause-all
+returns-clause-all c = λ n d. whole_does (names_by_log n d) (names_out n d) (names_does n d)

@@ -1,0 +1,4 @@
+pub mod Elimination
+pub mod Logs
+pub mod Presburger
+pub mod Whole
