@@ -85,7 +85,7 @@ pub each_place : (parts : List (List ℕ)) (names : List Name) (k : ℕ) → Are
     → Contains (places parts names) k
 each_place parts names k o h g = subst (λ z. Contains (places parts names) z) (place_element parts k o h) (added_place (get_or parts k []) parts [] names refl g)
 
-no_fault : (b : Bool) (at : ℕ) → (if b then Parts at ∷ [] else []) ≡ [] → b ≡ false
+pub no_fault : (b : Bool) (at : ℕ) → (if b then Parts at ∷ [] else []) ≡ [] → b ≡ false
 no_fault true at e = absurd (nil_cons _ _ e)
 no_fault false at e = refl
 

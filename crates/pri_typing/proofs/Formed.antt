@@ -51,7 +51,7 @@ of_parts ds parts = record { of_formula = λ n f h. h.1; of_term = λ n t h. tt 
 -- Cuts.
 
 -- the blocks that ask for cuts, and the formula, have no faults
-cut_free : (parts : List (List ℕ)) (existential : Bool) (blocks : List Block) (p : Phrase) → list_any is_cut blocks ≡ true → parts_faults parts existential blocks p ≡ []
+pub cut_free : (parts : List (List ℕ)) (existential : Bool) (blocks : List Block) (p : Phrase) → list_any is_cut blocks ≡ true → parts_faults parts existential blocks p ≡ []
     → (formula_faults true p ≡ []) × (flat_map (block_faults parts existential) blocks ≡ [])
 cut_free parts existential blocks p e h =
     let of_blocks = flat_map (block_faults parts existential) blocks in
@@ -70,7 +70,7 @@ cuts_divide existential blocks p proper_cuts h = by (list_any is_cut blocks) ref
     by false e = subst (All (IsDivision (length (part_names p)))) (sym (no_cuts (part_names p) blocks e)) (All-nil (IsDivision (length (part_names p))))
 
 -- the blocks ask for a cut where there is one
-some_cut : (parts : List (List ℕ)) (blocks : List Block) → 1 ≤ length (flat_map (cuts_in parts) blocks) → list_any is_cut blocks ≡ true
+pub some_cut : (parts : List (List ℕ)) (blocks : List Block) → 1 ≤ length (flat_map (cuts_in parts) blocks) → list_any is_cut blocks ≡ true
 some_cut parts blocks h = by (list_any is_cut blocks) refl
   where
     by : (b : Bool) → list_any is_cut blocks ≡ b → b ≡ true

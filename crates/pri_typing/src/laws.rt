@@ -1,7 +1,7 @@
 // What typing promises of its refusals and of the problems that it makes, and what a problem means, each the contract of a
 // function with nothing to do.
 
-ghost use Rattle.std.specs.Prelude.{◌≡◌, ◌↔◌, ◌<◌, ◌^◌, ℕ, ℤ, true, false, length, map, List, [], Some, None, All, Contains};
+ghost use Rattle.std.specs.Prelude.{◌≡◌, ◌↔◌, ◌<◌, ◌≤◌, ◌^◌, ℕ, ℤ, true, false, length, map, List, [], ◌∷◌, Some, None, All, Contains};
 ghost use Rattle.typed_formula.specs.Formula.{every, formula, formulas};
 ghost use Rattle.typed_formula.specs.Truth.{Meaning, Truth};
 ghost use Rattle.pri_tokens.specs.declared.terminals.Lexeme.{Lexeme};
@@ -11,9 +11,10 @@ ghost use Rattle.pri_reader.specs.Reading.{file_setting};
 ghost use Rattle.pri_typing.specs.Limits.{IsResolvable};
 ghost use Rattle.pri_typing.specs.Faults.{is_before, least};
 ghost use Rattle.pri_typing.specs.Files.{IsTyped, file_faults, scope_of};
-ghost use Rattle.pri_typing.specs.Problems.{Holds, IsPure, IsRefuted, assumed, scope_of_problem};
+ghost use Rattle.pri_typing.specs.Problems.{Holds, IsPure, IsRefuted, IsPlainlyValid, IsUniversal, assumed, assumed_by, scope_of_problem};
 ghost use Rattle.pri_typing.specs.Scope.{refers};
 ghost use Rattle.pri_typing.specs.WellFormed.{HasDistinctNames, IsWellFormed, components_of};
+ghost use Rattle.pri_typing.specs.declared.problem.Cut.{Cut};
 ghost use Rattle.pri_typing.specs.declared.problem.Problem.{Problem};
 ghost use Rattle.pri_typing.specs.declared.problem.TypeRefusal.{TypeRefusal};
 
@@ -56,4 +57,22 @@ pub fn components_law()
 /// A file of fewer than 2^32 tokens that is read within the limits can be resolved.
 pub fn limits_law()
     ensures { (bytes : List ℕ) (f : File) (tokens : List Lexeme) → length tokens < 2 ^ 32 → IsFile (file_setting bytes) f tokens → IsResolvable f.blocks }
+{}
+
+/// A problem of a file has a first application exactly where it is not pure, and a pure problem is universal.
+pub fn purity_law()
+    ensures applied { (f : File) (p : Problem) → least (file_faults f) ≡ None → IsTyped f p → (p.first_application ≡ None) ↔ IsPure p }
+    ensures universal { (p : Problem) → IsPure p → IsUniversal p }
+{}
+
+/// A problem of a file with a cut has no existential constant. The sets of its cuts divide what its components assume:
+/// where none of these is plainly true, the sets assume together exactly what makes the formula false, so that the two
+/// sides of a cut contradict each other where the problem holds.
+pub fn cuts_law()
+    ensures alone { (f : File) (p : Problem) → least (file_faults f) ≡ None → IsTyped f p → 1 ≤ length p.cuts → p.existentials ≡ [] }
+    ensures sides { (w : Meaning) (p : Problem) (cut : Cut) (e : List ℤ) → IsWellFormed p → Contains p.cuts cut → ¬ (IsPlainlyValid p)
+        → All (λ set. Truth w (assumed_by p set) e) cut.sets ↔ (¬ (Truth w (formula p.formula) e)) }
+    ensures contradict { (w : Meaning) (p : Problem) (cut : Cut) (first second : List ℕ) (e : List ℤ) → IsWellFormed p → Contains p.cuts cut
+        → ¬ (IsPlainlyValid p) → cut.sets ≡ first ∷ second ∷ [] → Holds w p [] → length e ≡ length p.universals
+        → Truth w (assumed_by p first) e → ¬ (Truth w (assumed_by p second) e) }
 {}
