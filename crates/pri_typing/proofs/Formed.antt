@@ -1,6 +1,6 @@
 -- The problem of a file without faults is well formed.
 use Rattle.std.proofs.Common.{◌≡◌, ℕ, ◌<◌, ◌≤◌, Bool, true, false, List, [], ◌∷◌, ◌++◌, length, refl, sym, ap, subst, ◌∙◌, arith, if◌then◌else◌, Contains, All, flat_map}
-use Rattle.std.specs.List.{list_any, IsDistinct}
+use Rattle.std.specs.List.{AllByRecursion, list_any, IsDistinct}
 use Rattle.std.proofs.lemmas.List.Elements.{All-nil, All-cons}
 use Rattle.pri_reader.specs.declared.tree.Block.{Block}
 use Rattle.pri_reader.specs.declared.tree.File.{File}
@@ -16,6 +16,7 @@ use Rattle.pri_typing.specs.Parts.{formula_faults, block_faults, is_cut, cuts_in
 use Rattle.pri_typing.specs.Files.{declaration_faults, problem_of, scope_of, parts_faults, file_faults, has_existential, IsTyped}
 use Rattle.pri_typing.specs.Ranges.{IsRanged}
 use Rattle.pri_typing.specs.Everywhere.{Property, Everywhere}
+use Rattle.pri_typing.specs.Limits.{HasSets}
 use Rattle.pri_typing.specs.WellFormed.{of_formulas, of_terms, IsNumberRanged, IsNameBelow, IsPredicateDeclared, IsFunctionDeclared, HasMember, IsLinear, IsPartBelow, IsPartOrTruth, SignedFormula, components_of, part_numbers, formula_components, IsDivision, IsWellFormed, HasDistinctNames}
 use Rattle.pri_typing.proofs.WellFormed.{nil_split, placed, formula_placed}
 use Rattle.pri_typing.proofs.Everywhere.{Follows, everywhere_more}
@@ -23,7 +24,7 @@ use Rattle.pri_typing.proofs.Declared.{few_symbols, proper}
 use Rattle.pri_typing.proofs.Distinct.{names_among, once_distinct, element_among}
 use Rattle.pri_typing.proofs.Dividing.{AreWhole, splits}
 use Rattle.pri_typing.proofs.Names.{distinct_names, names_same}
-use Rattle.pri_typing.proofs.Divisions.{AreCutsProper, divisions, no_cuts, each_place}
+use Rattle.pri_typing.proofs.Divisions.{divisions, no_cuts, each_place}
 
 -- Each point that is asked of a place follows from all of them.
 
@@ -61,7 +62,7 @@ all_whole : (cs : List SignedFormula) → AreWhole cs → All (λ c. IsPartOrTru
 all_whole [] h = All-nil (λ c. IsPartOrTruth c.what)
 all_whole (c ∷ cs) h = All-cons (λ c. IsPartOrTruth c.what) c cs h.0 (all_whole cs h.1)
 
-cuts_divide : (existential : Bool) (blocks : List Block) (p : Phrase) → AreCutsProper blocks → parts_faults (part_names p) existential blocks p ≡ []
+cuts_divide : (existential : Bool) (blocks : List Block) (p : Phrase) → AllByRecursion HasSets blocks → parts_faults (part_names p) existential blocks p ≡ []
     → All (IsDivision (length (part_names p))) (flat_map (cuts_in (part_names p)) blocks)
 cuts_divide existential blocks p proper_cuts h = by (list_any is_cut blocks) refl
   where
@@ -93,7 +94,7 @@ divisible blocks cs is e =
 
 -- All together.
 
-pub well_formed : (f : File) (p : Problem) → file_faults f ≡ [] → IsTyped f p → IsRanged (problem_of f.blocks) → AreCutsProper f.blocks → IsWellFormed p
+pub well_formed : (f : File) (p : Problem) → file_faults f ≡ [] → IsTyped f p → IsRanged (problem_of f.blocks) → AllByRecursion HasSets f.blocks → IsWellFormed p
 well_formed f p e t ranged proper_cuts =
     let ds = declarations f.blocks in
     let q = problem_of f.blocks in

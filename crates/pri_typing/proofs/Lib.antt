@@ -27,3 +27,5 @@ pub mod Purity
 pub mod Universal
 pub mod Sides
 pub mod CutConstants
+pub mod Saying
+pub mod Identified

@@ -10,7 +10,7 @@ use Rattle.pri_reader.specs.declared.tree.Block.TheVariants as block
 use Rattle.pri_reader.specs.declared.tree.File.{File}
 use Rattle.pri_reader.specs.Grammar.{Setting, Right, equivalence, implication, multiplication, Chain, disjunction, conjunction, Part, expr, join, chained, added, summed, paired, value_of, Derives, right_one, right_two, chain_all, unary_not, unary_bound, unary_grouped, unary_part, unary_rel, rel_one, rel_two, sum_all, factor_minus, factor_primary, number, truth, use_bare, use_empty, use_applied, group, conditional, absolute, pair, parentheses, Members, member_first, member_next, Terms, term_first, term_next, Arguments, argument_first, argument_next, Declaration, block_constants, block_items, block_problem, block_interpolant, Blocks, blocks_none, blocks_next, IsFile}
 use Rattle.pri_typing.specs.Phrase.{Phrase, phrase, phrase_of, phrases_of, addends_of, and_addend}
-use Rattle.pri_typing.specs.Ranges.{IsRanged, AreRanged, AreAddedRanged, IsBlockRanged, AreBlocksRanged}
+use Rattle.pri_typing.specs.Ranges.{IsRanged, AreRanged, AreAddedRanged}
 use Rattle.pri_typing.specs.Files.{problem_of}
 use Rattle.pri_typing.proofs.Folds.{phrase-form, addend-term, phrase-Number, phrase-Truth, phrase-Use, phrase-Group, phrase-If, phrase-Abs, phrase-Min, phrase-Max, phrase-Minus, phrase-Product, phrase-Sum, phrase-Compare, phrase-Not, phrase-Quantified, phrase-Part, phrase-And, phrase-Or, phrase-Implies, phrase-Iff}
 
@@ -92,6 +92,15 @@ mutual
   arguments_ranged : {s : Setting} {d : ℕ} {fs : List Expr} {f : Expr} {tokens rest : List Lexeme} → IsSmall s → Arguments s d fs f tokens rest → AreRanged (phrases_of fs) × IsRanged (phrase f)
   arguments_ranged b (argument_first u) = (tt {0}, derived_ranged b u)
   arguments_ranged b (argument_next {fs = fs} {f = f} m t u) = let both = arguments_ranged b m in (many_ranged fs f both.0 both.1, derived_ranged b u)
+
+abbrev IsBlockRanged : Block → Type 0
+IsBlockRanged (block.Problem at e) = IsRanged (phrase e)
+IsBlockRanged _ = Unit {0}
+
+-- of each block
+abbrev AreBlocksRanged : List Block → Type 0
+AreBlocksRanged [] = Unit {0}
+AreBlocksRanged (b ∷ blocks) = IsBlockRanged b × AreBlocksRanged blocks
 
 block_ranged : {s : Setting} {b : Block} {tokens rest : List Lexeme} → IsSmall s → Declaration s b tokens rest → IsBlockRanged b
 block_ranged b (block_constants true t o n c) = tt {0}

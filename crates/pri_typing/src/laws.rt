@@ -4,16 +4,18 @@
 ghost use Rattle.std.specs.Prelude.{◌≡◌, ◌↔◌, ◌<◌, ◌≤◌, ◌^◌, ℕ, ℤ, true, false, length, map, List, [], ◌∷◌, Some, None, All, Contains};
 ghost use Rattle.typed_formula.specs.Formula.{every, formula, formulas};
 ghost use Rattle.typed_formula.specs.Truth.{Meaning, Truth};
-ghost use Rattle.pri_tokens.specs.declared.terminals.Lexeme.{Lexeme};
 ghost use Rattle.pri_reader.specs.declared.tree.File.{File};
-ghost use Rattle.pri_reader.specs.Grammar.{IsFile, Setting};
+ghost use Rattle.pri_reader.specs.declared.tree.Expr.{Expr};
+ghost use Rattle.pri_reader.specs.Grammar.{Derives, IsFile, whole};
 ghost use Rattle.pri_reader.specs.Reading.{file_setting};
 ghost use Rattle.pri_typing.specs.Limits.{IsResolvable};
 ghost use Rattle.pri_typing.specs.Faults.{is_before, least};
-ghost use Rattle.pri_typing.specs.Files.{IsTyped, file_faults, scope_of};
-ghost use Rattle.pri_typing.specs.Problems.{Holds, IsPure, IsRefuted, IsPlainlyValid, IsUniversal, assumed, assumed_by, scope_of_problem};
+ghost use Rattle.pri_typing.specs.Files.{IsTyped, file_faults, problem_of, scope_of};
+ghost use Rattle.pri_tokens.specs.Lexemes.{lexemes_of};
+ghost use Rattle.pri_typing.specs.Phrase.{phrase};
+ghost use Rattle.pri_typing.specs.Problems.{Holds, IsPure, IsRefuted, IsPlainlyValid, IsUniversal, assumed, assumed_by, scope_of_problem, Says, text_setting};
 ghost use Rattle.pri_typing.specs.Scope.{refers};
-ghost use Rattle.pri_typing.specs.WellFormed.{HasDistinctNames, IsWellFormed, components_of};
+ghost use Rattle.pri_typing.specs.WellFormed.{HasDistinctNames, HasIdentifiers, IsWellFormed, components_of};
 ghost use Rattle.pri_typing.specs.declared.problem.Cut.{Cut};
 ghost use Rattle.pri_typing.specs.declared.problem.Problem.{Problem};
 ghost use Rattle.pri_typing.specs.declared.problem.TypeRefusal.{TypeRefusal};
@@ -25,13 +27,12 @@ pub fn least_law()
     ensures none { (rs : List TypeRefusal) → least rs ≡ None → rs ≡ [] }
 {}
 
-/// The problem of a file without faults is well formed, where the file keeps to the limit on numerals, and its symbols
-/// have different names.
+/// The problem of a file without faults that can be resolved is well formed, and its symbols have different identifiers
+/// as names.
 pub fn well_formed_law()
-    ensures well_formed { (s : Setting) (f : File) (tokens : List Lexeme) (p : Problem)
-        → ((rest : List Lexeme) (n : ℕ) → s.small rest n ≡ true → n < 2 ^ 127)
-        → IsFile s f tokens → least (file_faults f) ≡ None → IsTyped f p → IsWellFormed p }
+    ensures well_formed { (f : File) (p : Problem) → IsResolvable f.blocks → least (file_faults f) ≡ None → IsTyped f p → IsWellFormed p }
     ensures distinct { (f : File) (p : Problem) → least (file_faults f) ≡ None → IsTyped f p → HasDistinctNames p }
+    ensures identifiers { (f : File) (p : Problem) → IsResolvable f.blocks → IsTyped f p → HasIdentifiers p }
 {}
 
 /// Without universal constants a problem holds where its formula is true. A problem without applications holds in one
@@ -48,15 +49,21 @@ pub fn names_law()
         → refers (scope_of_problem p) text ≡ refers (scope_of f.blocks) text }
 {}
 
+/// A text that is derived as the formula of a file's problem says that formula, with the symbols of the problem declared.
+pub fn says_law()
+    ensures { (f : File) (p : Problem) (text : List ℕ) (e : Expr) → least (file_faults f) ≡ None → IsTyped f p → phrase e ≡ problem_of f.blocks
+        → Derives (text_setting text) 0 whole e (lexemes_of text) [] → Says text p (formula p.formula) }
+{}
+
 /// The formula of a problem is false where all that its components assume is true.
 pub fn components_law()
     ensures assumed { (w : Meaning) (p : Problem) (e : List ℤ)
         → Truth w (every (formulas (map assumed (components_of p)))) e ↔ (¬ (Truth w (formula p.formula) e)) }
 {}
 
-/// A file of fewer than 2^32 tokens that is read within the limits can be resolved.
+/// A file that is read of fewer than 2^32 bytes can be resolved.
 pub fn limits_law()
-    ensures { (bytes : List ℕ) (f : File) (tokens : List Lexeme) → length tokens < 2 ^ 32 → IsFile (file_setting bytes) f tokens → IsResolvable f.blocks }
+    ensures { (bytes : List ℕ) (f : File) → length bytes < 2 ^ 32 → IsFile (file_setting bytes) f (lexemes_of bytes) → IsResolvable f.blocks }
 {}
 
 /// A problem of a file has a first application exactly where it is not pure, and a pure problem is universal.

@@ -1,9 +1,8 @@
 // The problem that a file poses, or the least of its faults.
 
-ghost use Rattle.std.specs.Prelude.{◌≡◌, ◌<◌, ◌^◌, ℕ, List, ◌⊎◌, IfOk, IfErr, OnOk, None, Some, [], true};
-ghost use Rattle.pri_reader.specs.Grammar.{IsFile, Setting, has_problem};
-ghost use Rattle.pri_tokens.specs.declared.terminals.Lexeme.{Lexeme};
-ghost use Rattle.pri_typing.specs.WellFormed.{IsWellFormed};
+ghost use Rattle.std.specs.Prelude.{◌≡◌, ◌⊎◌, IfOk, IfErr, OnOk, None, Some, [], true};
+ghost use Rattle.pri_reader.specs.Grammar.{has_problem};
+ghost use Rattle.pri_typing.specs.WellFormed.{HasDistinctNames, HasIdentifiers, IsWellFormed};
 ghost use Rattle.pri_typing.specs.declared.problem.TypeRefusal.{TypeRefusal};
 ghost use Rattle.pri_typing.specs.declared.scope.Sort.{Sort};
 ghost use Rattle.pri_typing.specs.Bounds.{scope_at};
@@ -124,15 +123,16 @@ fn pose(alloc: Global, blocks: &[Block], here: &Place, expr: &Expr) -> Result<Pr
     })
 }
 
-/// The problem that a file poses, or the least of its faults, by their offsets, and at one offset by their numbers. Of a
-/// file of the grammar with numerals up to 2^127 − 1 the problem is well formed.
+/// The problem that a file poses, or the least of its faults, by their offsets, and at one offset by their numbers. The
+/// problem is well formed, and its symbols have different identifiers as names.
 pub fn resolve(alloc: Global, file: &File) -> Result<Problem, TypeRefusal>
     requires { IsResolvable file.now.blocks }
     ensures typed { IfOk result (λ p. IsTyped file.now p) }
     ensures sound { OnOk result (least (file_faults file.now) ≡ None) }
     ensures refused { IfErr result (λ r. (r ≡ TypeRefusal.Memory) ⊎ (least (file_faults file.now) ≡ Some r)) }
-    ensures well_formed { IfOk result (λ p. (s : Setting) (tokens : List Lexeme) → ((rest : List Lexeme) (n : ℕ) → s.small rest n ≡ true → n < 2 ^ 127)
-        → IsFile s file.now tokens → IsWellFormed p) }
+    ensures well_formed { IfOk result IsWellFormed }
+    ensures distinct { IfOk result HasDistinctNames }
+    ensures identifiers { IfOk result HasIdentifiers }
 {
     let blocks = file.blocks.as_slice();
     resolve_problem(alloc, blocks, find_problem(blocks))
