@@ -1,8 +1,9 @@
 -- What a file that can be resolved, without faults, says of its problem.
-use Rattle.std.proofs.Common.{◌≡◌, ℕ, ◌<◌, ◌^◌, List, length, None, Result, Ok, Err, arith}
+use Rattle.std.proofs.Common.{◌≡◌, ℕ, ◌<◌, ◌^◌, List, length, None, Result, Ok, Err, subst, arith}
 use Rattle.std.specs.Result.{IfOk, OnOk}
 use Rattle.std.proofs.lemmas.List.Elements.{All-from_recursion, recursion_from_All}
 use Rattle.pri_tokens.specs.Lexemes.{lexemes_of}
+use Rattle.pri_reader.specs.declared.tree.Block.{Block}
 use Rattle.pri_reader.specs.declared.tree.File.{File}
 use Rattle.pri_reader.specs.Grammar.{IsFile}
 use Rattle.pri_reader.specs.Reading.{file_setting}
@@ -14,7 +15,7 @@ use Rattle.pri_typing.specs.Files.{IsTyped, file_faults}
 use Rattle.pri_typing.specs.Limits.{HasSets, IsResolvable}
 use Rattle.pri_typing.specs.WellFormed.{IsWellFormed, HasDistinctNames, HasIdentifiers}
 use Rattle.pri_typing.proofs.Counted.{file_counted}
-use Rattle.pri_typing.proofs.Declared.{none_least}
+use Rattle.pri_typing.proofs.Least.{least-none}
 use Rattle.pri_typing.proofs.Divisions.{cuts_proper}
 use Rattle.pri_typing.proofs.Formed.{well_formed, names_differ}
 use Rattle.pri_typing.proofs.Identified.{file_identified, names_identified}
@@ -47,15 +48,17 @@ pub record IsProper (p : Problem) : Type 0 where
 
 pub file_proper : (f : File) (p : Problem) → IsResolvable f.blocks → least (file_faults f) ≡ None → IsTyped f p → IsProper p
 file_proper f p h none typed = record {
-  formed = well_formed f p (none_least _ none) typed h.numerals (recursion_from_All HasSets f.blocks h.sets);
-  distinct = names_differ f p (none_least _ none) typed;
+  formed = well_formed f p (least-none _ none) typed h.numerals (recursion_from_All HasSets f.blocks h.sets);
+  distinct = names_differ f p (least-none _ none) typed;
   identifiers = names_identified f p typed h.identifiers;
 }
 
-pub answered : (f : File) (result : Result Problem TypeRefusal) → IsResolvable f.blocks → IfOk result (λ p. IsTyped f p) → OnOk result (least (file_faults f) ≡ None)
-    → IfOk result IsProper
-answered f (Ok p) h typed none = file_proper f p h none typed
-answered f (Err e) h typed none = tt
+-- what is answered for the blocks of a file
+pub answered : (blocks : List Block) (f : File) (result : Result Problem TypeRefusal) → blocks ≡ f.blocks → IsResolvable f.blocks
+    → IfOk result (λ p. IsTyped (record { blocks = blocks }) p) → OnOk result (least (file_faults (record { blocks = blocks })) ≡ None) → IfOk result IsProper
+answered blocks f (Ok p) same h typed none =
+    file_proper f p h (subst (λ z. least (file_faults (record { blocks = z })) ≡ None) same none) (subst (λ z. IsTyped (record { blocks = z }) p) same typed)
+answered blocks f (Err e) same h typed none = tt
 
 pub if_more : {P Q : Problem → Type 0} (result : Result Problem TypeRefusal) → ((p : Problem) → P p → Q p) → IfOk result P → IfOk result Q
 if_more (Ok p) w h = w p h

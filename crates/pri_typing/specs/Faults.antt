@@ -8,6 +8,7 @@ use Rattle.pri_typing.specs.declared.scope.Use.{Use}
 use Rattle.pri_typing.specs.declared.scope.Referent.{Referent}
 use Rattle.pri_typing.specs.declared.scope.Referent.TheVariants as referent
 use Rattle.pri_typing.specs.Phrase.{Phrase, number, truth, used, group, choice, absolute, lesser, greater, minus, product, sum, compared, negation, quantified, part, conjunction, disjunction, implication, equivalence, Phrases, no_phrase, and_phrase, Addends, no_addend, and_addend, first_token, count}
+use Rattle.pri_typing.specs.Least.{earlier_by, least_by}
 use Rattle.pri_typing.specs.Scope.{Scope, inside, refers}
 
 abbrev pub sort_of : Referent → Sort
@@ -114,11 +115,8 @@ abbrev pub is_before : TypeRefusal → TypeRefusal → Bool
 is_before a b = nat_lt (place_of a) (place_of b) || nat_eq (place_of a) (place_of b) && nat_lt (number_of a) (number_of b)
 
 abbrev pub earlier : Option TypeRefusal → Option TypeRefusal → Option TypeRefusal
-earlier None b = b
-earlier (Some a) None = Some a
-earlier (Some a) (Some b) = Some (if is_before b a then b else a)
+earlier = earlier_by is_before
 
 -- the first in that order
 abbrev pub least : List TypeRefusal → Option TypeRefusal
-least [] = None
-least (r ∷ rs) = earlier (Some r) (least rs)
+least = least_by is_before

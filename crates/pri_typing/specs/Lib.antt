@@ -2,6 +2,7 @@ pub mod Bounds
 pub mod Everywhere
 pub mod Faults
 pub mod Files
+pub mod Least
 pub mod Limits
 pub mod Parts
 pub mod Phrase

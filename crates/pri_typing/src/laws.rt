@@ -1,7 +1,7 @@
 // What typing promises of its refusals and of the problems that it makes, and what a problem means, each the contract of a
 // function with nothing to do.
 
-ghost use Rattle.std.specs.Prelude.{◌≡◌, ◌↔◌, ◌<◌, ◌≤◌, ◌^◌, ℕ, ℤ, true, false, length, map, List, [], ◌∷◌, Some, None, All, Contains};
+ghost use Rattle.std.specs.Prelude.{◌≡◌, ◌↔◌, ◌<◌, ◌≤◌, ◌^◌, ℕ, ℤ, Bool, true, false, nat_lt, length, map, List, [], ◌∷◌, Some, None, All, Contains};
 ghost use Rattle.typed_formula.specs.Formula.{every, formula, formulas};
 ghost use Rattle.typed_formula.specs.Truth.{Meaning, Truth};
 ghost use Rattle.pri_reader.specs.declared.tree.File.{File};
@@ -10,6 +10,7 @@ ghost use Rattle.pri_reader.specs.Grammar.{Derives, IsFile, whole};
 ghost use Rattle.pri_reader.specs.Reading.{file_setting};
 ghost use Rattle.pri_typing.specs.Limits.{IsResolvable};
 ghost use Rattle.pri_typing.specs.Faults.{is_before, least};
+ghost use Rattle.pri_typing.specs.Least.{IsStrictWeakOrder, least_by};
 ghost use Rattle.pri_typing.specs.Files.{IsTyped, file_faults, problem_of, scope_of};
 ghost use Rattle.pri_tokens.specs.Lexemes.{lexemes_of};
 ghost use Rattle.pri_typing.specs.Phrase.{phrase};
@@ -18,13 +19,20 @@ ghost use Rattle.pri_typing.specs.Scope.{refers};
 ghost use Rattle.pri_typing.specs.WellFormed.{HasDistinctNames, HasIdentifiers, IsWellFormed, components_of};
 ghost use Rattle.pri_typing.specs.declared.problem.Cut.{Cut};
 ghost use Rattle.pri_typing.specs.declared.problem.Problem.{Problem};
-ghost use Rattle.pri_typing.specs.declared.problem.TypeRefusal.{TypeRefusal};
 
-/// The least fault of a list is in it, and no fault of the list comes before it; only the empty list has none.
-pub fn least_law()
-    ensures among { (rs : List TypeRefusal) (r : TypeRefusal) → least rs ≡ Some r → Contains rs r }
-    ensures first { (rs : List TypeRefusal) (r : TypeRefusal) → least rs ≡ Some r → All (λ s. is_before s r ≡ false) rs }
-    ensures none { (rs : List TypeRefusal) → least rs ≡ None → rs ≡ [] }
+/// The least of a list is in it, and in a strict weak order nothing of the list comes before it; only the empty list has
+/// no least.
+pub fn least_law<T>()
+    ensures among { (before : T → T → Bool) (xs : List T) (x : T) → least_by before xs ≡ Some x → Contains xs x }
+    ensures first { (before : T → T → Bool) (xs : List T) (x : T) → IsStrictWeakOrder before → least_by before xs ≡ Some x
+        → All (λ y. before y x ≡ false) xs }
+    ensures none { (before : T → T → Bool) (xs : List T) → least_by before xs ≡ None → xs ≡ [] }
+{}
+
+/// Offsets come in a strict weak order, and faults: by offset, and at one offset by number.
+pub fn order_law()
+    ensures offsets { IsStrictWeakOrder nat_lt }
+    ensures faults { IsStrictWeakOrder is_before }
 {}
 
 /// The problem of a file without faults that can be resolved is well formed, and its symbols have different identifiers

@@ -11,19 +11,13 @@ returns-clause-refused c = subst (λ blocks. IfErr c.resolve_problem.result (λ 
     c.as_slice-blocks.ensures c.resolve_problem.ensures.refused
 
 pub returns-clause-well_formed : goal.returns-clause-well_formed
-returns-clause-well_formed c =
-    if_more c.resolve_problem.result (λ p h. h.formed) (answered (record { blocks = c.args.file.now.blocks }) c.resolve_problem.result c.requires
-    (subst (λ blocks. IfOk c.resolve_problem.result (λ p. IsTyped (record { blocks = blocks }) p)) c.as_slice-blocks.ensures c.resolve_problem.ensures.typed)
-    (subst (λ blocks. OnOk c.resolve_problem.result (least (file_faults (record { blocks = blocks })) ≡ None)) c.as_slice-blocks.ensures c.resolve_problem.ensures.sound))
+returns-clause-well_formed c = if_more c.resolve_problem.result (λ p h. h.formed)
+    (answered _ c.args.file.now c.resolve_problem.result c.as_slice-blocks.ensures c.requires c.resolve_problem.ensures.typed c.resolve_problem.ensures.sound)
 
 pub returns-clause-distinct : goal.returns-clause-distinct
-returns-clause-distinct c =
-    if_more c.resolve_problem.result (λ p h. h.distinct) (answered (record { blocks = c.args.file.now.blocks }) c.resolve_problem.result c.requires
-    (subst (λ blocks. IfOk c.resolve_problem.result (λ p. IsTyped (record { blocks = blocks }) p)) c.as_slice-blocks.ensures c.resolve_problem.ensures.typed)
-    (subst (λ blocks. OnOk c.resolve_problem.result (least (file_faults (record { blocks = blocks })) ≡ None)) c.as_slice-blocks.ensures c.resolve_problem.ensures.sound))
+returns-clause-distinct c = if_more c.resolve_problem.result (λ p h. h.distinct)
+    (answered _ c.args.file.now c.resolve_problem.result c.as_slice-blocks.ensures c.requires c.resolve_problem.ensures.typed c.resolve_problem.ensures.sound)
 
 pub returns-clause-identifiers : goal.returns-clause-identifiers
-returns-clause-identifiers c =
-    if_more c.resolve_problem.result (λ p h. h.identifiers) (answered (record { blocks = c.args.file.now.blocks }) c.resolve_problem.result c.requires
-    (subst (λ blocks. IfOk c.resolve_problem.result (λ p. IsTyped (record { blocks = blocks }) p)) c.as_slice-blocks.ensures c.resolve_problem.ensures.typed)
-    (subst (λ blocks. OnOk c.resolve_problem.result (least (file_faults (record { blocks = blocks })) ≡ None)) c.as_slice-blocks.ensures c.resolve_problem.ensures.sound))
+returns-clause-identifiers c = if_more c.resolve_problem.result (λ p h. h.identifiers)
+    (answered _ c.args.file.now c.resolve_problem.result c.as_slice-blocks.ensures c.requires c.resolve_problem.ensures.typed c.resolve_problem.ensures.sound)
