@@ -1,8 +1,8 @@
 // What typing promises of its refusals and of the problems that it makes, and what a problem means, each the contract of a
 // function with nothing to do.
 
-ghost use Rattle.std.specs.Prelude.{◌≡◌, ◌↔◌, ◌<◌, ◌≤◌, ◌^◌, ℕ, ℤ, Bool, true, false, nat_lt, length, map, List, [], ◌∷◌, Some, None, All, Contains};
-ghost use Rattle.typed_formula.specs.Formula.{every, formula, formulas};
+ghost use Rattle.std.specs.Prelude.{◌≡◌, ◌↔◌, ◌<◌, ◌≤◌, ◌^◌, ℕ, ℤ, Bool, true, false, nat_lt, length, map, List, [], ◌∷◌, ◌++◌, Some, None, All, Contains};
+ghost use Rattle.typed_formula.specs.Formula.{Formula, every, formula, formulas};
 ghost use Rattle.typed_formula.specs.Truth.{Meaning, Truth};
 ghost use Rattle.pri_reader.specs.declared.tree.File.{File};
 ghost use Rattle.pri_reader.specs.declared.tree.Expr.{Expr};
@@ -14,7 +14,7 @@ ghost use Rattle.pri_typing.specs.Least.{IsStrictWeakOrder, least_by};
 ghost use Rattle.pri_typing.specs.Files.{IsTyped, file_faults, problem_of, scope_of};
 ghost use Rattle.pri_tokens.specs.Lexemes.{lexemes_of};
 ghost use Rattle.pri_typing.specs.Phrase.{phrase};
-ghost use Rattle.pri_typing.specs.Problems.{Holds, IsPure, IsRefuted, IsPlainlyValid, IsUniversal, assumed, assumed_by, scope_of_problem, Says, text_setting};
+ghost use Rattle.pri_typing.specs.Problems.{Holds, IsTrueAt, SpeaksOfExistentials, IsPure, IsRefuted, IsPlainlyValid, IsUniversal, assumed, assumed_by, scope_of_problem, Says, text_setting};
 ghost use Rattle.pri_typing.specs.Scope.{refers};
 ghost use Rattle.pri_typing.specs.WellFormed.{HasDistinctNames, HasIdentifiers, IsWellFormed, components_of};
 ghost use Rattle.pri_typing.specs.declared.problem.Cut.{Cut};
@@ -43,12 +43,21 @@ pub fn well_formed_law()
     ensures identifiers { (f : File) (p : Problem) → IsResolvable f.blocks → IsTyped f p → HasIdentifiers p }
 {}
 
-/// Without universal constants a problem holds where its formula is true. A problem without applications holds in one
-/// interpretation where it holds in another. What is refuted does not hold everywhere.
+/// A problem holds where its formula is true at the values of its existential constants: without universal constants,
+/// where it is true. A problem without applications holds in one interpretation where it holds in another. What is
+/// refuted does not hold everywhere.
 pub fn holds_law()
+    ensures formula { (w : Meaning) (p : Problem) (e : List ℤ) → Holds w p e ↔ IsTrueAt w p (formula p.formula) e }
     ensures alone { (w : Meaning) (p : Problem) (e : List ℤ) → p.universals ≡ [] → length e ≡ length p.existentials → Holds w p e ↔ Truth w (formula p.formula) e }
     ensures pure { (v w : Meaning) (p : Problem) (e : List ℤ) → IsPure p → Holds v p e → Holds w p e }
     ensures refuted { (p : Problem) (e : List ℤ) → IsRefuted p → length e ≡ length p.existentials → ¬ ((w : Meaning) → Holds w p e) }
+{}
+
+/// A formula that speaks of the existential constants alone has one truth at their values, whatever the universal constants
+/// and the interpretation are.
+pub fn existentials_law()
+    ensures { (v w : Meaning) (p : Problem) (f : Formula) (e u d : List ℤ) → SpeaksOfExistentials p f → length e ≡ length p.existentials
+        → length u ≡ length p.universals → length d ≡ length p.universals → Truth v f (e ++ u) → Truth w f (e ++ d) }
 {}
 
 /// With the symbols of the problem of a file declared, each name stands for what it stands for in the file.
