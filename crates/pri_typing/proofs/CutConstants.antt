@@ -7,7 +7,7 @@ use Rattle.pri_reader.specs.declared.tree.Block.{Block}
 use Rattle.pri_reader.specs.declared.tree.Block.TheVariants as block
 use Rattle.pri_typing.specs.declared.problem.Problem.{Problem}
 use Rattle.pri_typing.specs.declared.problem.TypeRefusal.TheVariants.{Parts}
-use Rattle.pri_typing.specs.declared.scope.Sort.TheVariants as sort
+use Rattle.pri_typing.specs.declared.scope.Category.TheVariants as category
 use Rattle.pri_typing.specs.Phrase.{first_token}
 use Rattle.pri_typing.specs.Scope.{declarations, existentials}
 use Rattle.pri_typing.specs.Faults.{faults}
@@ -43,7 +43,7 @@ cut_alone f p e t some =
     let ds = declarations f.blocks in
     let q = problem_of f.blocks in
     let parts = part_names q in
-    let own = faults (scope_of f.blocks) sort.Formula (first_token q) q in
+    let own = faults (scope_of f.blocks) category.Formula (first_token q) q in
     let of_parts = (nil_split (declaration_faults [] ds ++ own) (parts_faults parts (has_existential ds) f.blocks q) e).1 in
     let cuts_are = t.cuts ∙ ap (λ z. flat_map (cuts_in z) f.blocks) t.parts in
     let asks = some_cut parts f.blocks (subst (λ z. 1 ≤ length z) cuts_are some) in

@@ -7,7 +7,7 @@ use Rattle.pri_reader.specs.declared.tree.File.{File}
 use Rattle.typed_formula.specs.Formula.{formula}
 use Rattle.pri_typing.specs.declared.problem.Problem.{Problem}
 use Rattle.pri_typing.specs.declared.declaration.Declaration.{Declaration}
-use Rattle.pri_typing.specs.declared.scope.Sort.TheVariants as sort
+use Rattle.pri_typing.specs.declared.scope.Category.TheVariants as category
 use Rattle.pri_typing.specs.Phrase.{Phrase, first_token}
 use Rattle.pri_typing.specs.Scope.{declarations, functions, predicates, constants, is_text}
 use Rattle.pri_typing.specs.Faults.{faults}
@@ -100,7 +100,7 @@ well_formed f p e t ranged proper_cuts =
     let q = problem_of f.blocks in
     let parts = part_names q in
     let s = scope_of f.blocks in
-    let own = faults s sort.Formula (first_token q) q in
+    let own = faults s category.Formula (first_token q) q in
     let front = nil_split (declaration_faults [] ds ++ own) (parts_faults parts (has_existential ds) f.blocks q) e in
     let both = nil_split (declaration_faults [] ds) own front.0 in
     let all = formula_placed s (first_token q) q (proper f.blocks) both.1 ranged (names_among [] (parts_in q)) in
@@ -133,7 +133,7 @@ pub declarations_free : (f : File) → file_faults f ≡ [] → declaration_faul
 declarations_free f e =
     let ds = declarations f.blocks in
     let q = problem_of f.blocks in
-    let own = faults (scope_of f.blocks) sort.Formula (first_token q) q in
+    let own = faults (scope_of f.blocks) category.Formula (first_token q) q in
     (nil_split (declaration_faults [] ds) own (nil_split (declaration_faults [] ds ++ own) (parts_faults (part_names q) (has_existential ds) f.blocks q) e).0).0
 
 pub names_differ : (f : File) (p : Problem) → file_faults f ≡ [] → IsTyped f p → HasDistinctNames p

@@ -18,7 +18,8 @@ use Rattle.pri_reader.specs.declared.tree.Item.{Item}
 use Rattle.pri_reader.specs.declared.tree.Block.{Block}
 use Rattle.pri_reader.specs.declared.tree.Block.TheVariants as block
 use Rattle.pri_reader.specs.declared.tree.File.{File}
-use Rattle.pri_reader.specs.Grammar.{Setting, Chain, Part, Takes, Bound, bound_first, bound_next, bound_line, Derives, right_one, right_two, chain_all, unary_not, unary_bound, unary_grouped, unary_part, unary_rel, rel_one, rel_two, sum_all, factor_minus, factor_primary, number, truth, use_bare, use_empty, use_applied, group, conditional, absolute, pair, parentheses, Members, member_first, member_next, Terms, term_first, term_next, Arguments, argument_first, argument_next, Names, names_first, names_next, Constants, constants_none, constants_line, Parameter, parameter_bare, parameter_named, Parameters, parameters_first, parameters_next, Declares, item_bare, item_empty, item_applied, Items, items_first, items_next, ItemLines, lines_none, line_function, line_predicate, Sets, sets_first, sets_next, Declaration, block_constants, block_items, block_problem, block_interpolant, Blocks, blocks_none, blocks_next, IsFile}
+use Rattle.pri_reader.specs.Grammar as grammar
+use Rattle.pri_reader.specs.Grammar.{Setting, Chain, Part, Takes, Binding, Derives, Members, Terms, Arguments, Names, Constants, Parameter, Parameters, Declares, Items, ItemLines, Sets, Declaration, Blocks, IsFile}
 use Rattle.pri_typing.specs.declared.declaration.Kind.{Kind}
 use Rattle.pri_typing.specs.declared.declaration.Kind.TheVariants as kind
 use Rattle.pri_typing.specs.declared.declaration.Declaration.{Declaration as Declared}
@@ -38,56 +39,56 @@ IsHanded P = (x : Lexeme) (xs : List Lexeme) → P (x ∷ xs) → P xs
 left : {P : List Lexeme → Type 0} {terminal : Terminal} {x : Lexeme} {tokens rest : List Lexeme} → IsHanded P → Takes terminal x tokens rest → P tokens → P rest
 left {P} {x = x} {rest = rest} h t p = h x rest (subst P t.parts p)
 
-bound_left : {P : List Lexeme → Type 0} {s : Setting} {several : _} {d e : ℕ} {names : List Name} {tokens rest : List Lexeme} → IsHanded P → Bound s several d e names tokens rest → P tokens → P rest
-bound_left h (bound_first i x o) p = left h x (left h i p)
-bound_left h (bound_next m c x o) p = left h x (left h c (bound_left h m p))
-bound_left h (bound_line m c i x o) p = left h x (left h i (left h c (bound_left h m p)))
+bound_left : {P : List Lexeme → Type 0} {s : Setting} {several : _} {d e : ℕ} {names : List Name} {tokens rest : List Lexeme} → IsHanded P → Binding s several d e names tokens rest → P tokens → P rest
+bound_left h (grammar.bound_first i x o) p = left h x (left h i p)
+bound_left h (grammar.bound_next m c x o) p = left h x (left h c (bound_left h m p))
+bound_left h (grammar.bound_line m c i x o) p = left h x (left h i (left h c (bound_left h m p)))
 
 mutual
   derived_left : {P : List Lexeme → Type 0} {s : Setting} {d : ℕ} {part : Part} {e : Expr} {tokens rest : List Lexeme} → IsHanded P → Derives s d part e tokens rest → P tokens → P rest
-  derived_left h (right_one u) p = derived_left h u p
-  derived_left h (right_two u t o v) p = derived_left h v (left h t (derived_left h u p))
-  derived_left h (chain_all m) p = members_left h m p
-  derived_left h (unary_not t o u) p = derived_left h u (left h t p)
-  derived_left h (unary_bound t m c u) p = derived_left h u (left h c (bound_left h m (left h t p)))
-  derived_left h (unary_grouped t o m c u) p = derived_left h u (left h c (bound_left h m (left h o (left h t p))))
-  derived_left h (unary_part t o b m c u) p = derived_left h u (left h c (left h m (left h b (left h t p))))
-  derived_left h (unary_rel u) p = derived_left h u p
-  derived_left h (rel_one u) p = derived_left h u p
-  derived_left h (rel_two u t v) p = derived_left h v (left h t (derived_left h u p))
-  derived_left h (sum_all m) p = terms_left h m p
-  derived_left h (factor_minus t o u) p = derived_left h u (left h t p)
-  derived_left h (factor_primary u) p = derived_left h u p
-  derived_left h (number t small) p = left h t p
-  derived_left h (truth t) p = left h t p
-  derived_left h (use_bare t) p = left h t p
-  derived_left h (use_empty t o b c) p = left h c (left h o (left h t p))
-  derived_left h (use_applied t o b m c) p = left h c (arguments_left h m (left h o (left h t p)))
-  derived_left h (group t u) p = derived_left h u p
-  derived_left h (conditional t u y v z w) p = derived_left h w (left h z (derived_left h v (left h y (derived_left h u (left h t p)))))
-  derived_left h (absolute t u) p = derived_left h u (left h t p)
-  derived_left h (pair max t o b u c v e) p = left h e (derived_left h v (left h c (derived_left h u (left h o (left h t p)))))
-  derived_left h (parentheses o b u c) p = left h c (derived_left h u (left h o p))
+  derived_left h (grammar.right_one u) p = derived_left h u p
+  derived_left h (grammar.right_two u t o v) p = derived_left h v (left h t (derived_left h u p))
+  derived_left h (grammar.chain_all m) p = members_left h m p
+  derived_left h (grammar.unary_not t o u) p = derived_left h u (left h t p)
+  derived_left h (grammar.unary_bound t m c u) p = derived_left h u (left h c (bound_left h m (left h t p)))
+  derived_left h (grammar.unary_grouped t o m c u) p = derived_left h u (left h c (bound_left h m (left h o (left h t p))))
+  derived_left h (grammar.unary_part t o b m c u) p = derived_left h u (left h c (left h m (left h b (left h t p))))
+  derived_left h (grammar.unary_rel u) p = derived_left h u p
+  derived_left h (grammar.rel_one u) p = derived_left h u p
+  derived_left h (grammar.rel_two u t v) p = derived_left h v (left h t (derived_left h u p))
+  derived_left h (grammar.sum_all m) p = terms_left h m p
+  derived_left h (grammar.factor_minus t o u) p = derived_left h u (left h t p)
+  derived_left h (grammar.factor_primary u) p = derived_left h u p
+  derived_left h (grammar.number t small) p = left h t p
+  derived_left h (grammar.truth t) p = left h t p
+  derived_left h (grammar.use_bare t) p = left h t p
+  derived_left h (grammar.use_empty t o b c) p = left h c (left h o (left h t p))
+  derived_left h (grammar.use_applied t o b m c) p = left h c (arguments_left h m (left h o (left h t p)))
+  derived_left h (grammar.group t u) p = derived_left h u p
+  derived_left h (grammar.conditional t u y v z w) p = derived_left h w (left h z (derived_left h v (left h y (derived_left h u (left h t p)))))
+  derived_left h (grammar.absolute t u) p = derived_left h u (left h t p)
+  derived_left h (grammar.pair max t o b u c v e) p = left h e (derived_left h v (left h c (derived_left h u (left h o (left h t p)))))
+  derived_left h (grammar.parentheses o b u c) p = left h c (derived_left h u (left h o p))
 
   members_left : {P : List Lexeme → Type 0} {s : Setting} {d : ℕ} {c : Chain} {fs : List Expr} {f : Expr} {tokens rest : List Lexeme} → IsHanded P → Members s d c fs f tokens rest → P tokens → P rest
-  members_left h (member_first u) p = derived_left h u p
-  members_left h (member_next m t u) p = derived_left h u (left h t (members_left h m p))
+  members_left h (grammar.member_first u) p = derived_left h u p
+  members_left h (grammar.member_next m t u) p = derived_left h u (left h t (members_left h m p))
 
   terms_left : {P : List Lexeme → Type 0} {s : Setting} {d : ℕ} {before : List Added} {sign : _} {f : Expr} {tokens rest : List Lexeme} → IsHanded P → Terms s d before sign f tokens rest → P tokens → P rest
-  terms_left h (term_first u) p = derived_left h u p
-  terms_left h (term_next m t u) p = derived_left h u (left h t (terms_left h m p))
+  terms_left h (grammar.term_first u) p = derived_left h u p
+  terms_left h (grammar.term_next m t u) p = derived_left h u (left h t (terms_left h m p))
 
   arguments_left : {P : List Lexeme → Type 0} {s : Setting} {d : ℕ} {fs : List Expr} {f : Expr} {tokens rest : List Lexeme} → IsHanded P → Arguments s d fs f tokens rest → P tokens → P rest
-  arguments_left h (argument_first u) p = derived_left h u p
-  arguments_left h (argument_next m t u) p = derived_left h u (left h t (arguments_left h m p))
+  arguments_left h (grammar.argument_first u) p = derived_left h u p
+  arguments_left h (grammar.argument_next m t u) p = derived_left h u (left h t (arguments_left h m p))
 
 parameter_left : {P : List Lexeme → Type 0} {tokens rest : List Lexeme} → IsHanded P → Parameter tokens rest → P tokens → P rest
-parameter_left h (parameter_bare i) p = left h i p
-parameter_left h (parameter_named i x) p = left h x (left h i p)
+parameter_left h (grammar.parameter_bare i) p = left h i p
+parameter_left h (grammar.parameter_named i x) p = left h x (left h i p)
 
 parameters_left : {P : List Lexeme → Type 0} {n : ℕ} {tokens rest : List Lexeme} → IsHanded P → Parameters n tokens rest → P tokens → P rest
-parameters_left h (parameters_first i) p = parameter_left h i p
-parameters_left h (parameters_next m c i) p = parameter_left h i (left h c (parameters_left h m p))
+parameters_left h (grammar.parameters_first i) p = parameter_left h i p
+parameters_left h (grammar.parameters_next m c i) p = parameter_left h i (left h c (parameters_left h m p))
 
 -- Names.
 
@@ -112,45 +113,45 @@ join P [] ys h k = k
 join P (x ∷ xs) ys h k = (h.0, join P xs ys h.1 k)
 
 names_told : {s : Setting} {names : List Name} {tokens rest : List Lexeme} → Names s names tokens rest → AreTold s tokens → AreNamed names × AreTold s rest
-names_told {s} (names_first t) k = ((told_name s t k, tt), left (handed s) t k)
-names_told {s} (names_next {names = names} m c t) k =
+names_told {s} (grammar.names_first t) k = ((told_name s t k, tt), left (handed s) t k)
+names_told {s} (grammar.names_next {names = names} m c t) k =
     let before = names_told m k in
     let comma = left (handed s) c before.1 in
     (behind (λ n. IsIdentifier n.text) names _ before.0 (told_name s t comma), left (handed s) t comma)
 
 constants_told : {s : Setting} {names : List Name} {tokens rest : List Lexeme} → Constants s names tokens rest → AreTold s tokens → AreNamed names × AreTold s rest
-constants_told constants_none k = (tt, k)
-constants_told {s} (constants_line {names = names} {more = more} m i n c) k =
+constants_told grammar.constants_none k = (tt, k)
+constants_told {s} (grammar.constants_line {names = names} {more = more} m i n c) k =
     let before = constants_told m k in
     let new = names_told n (left (handed s) i before.1) in
     (join (λ n. IsIdentifier n.text) names more before.0 new.0, left (handed s) c new.1)
 
 item_told : {s : Setting} {i : Item} {tokens rest : List Lexeme} → Declares s i tokens rest → AreTold s tokens → IsIdentifier i.name.text × AreTold s rest
-item_told {s} (item_bare x) k = (told_name s x k, left (handed s) x k)
-item_told {s} (item_empty x o c) k = (told_name s x k, left (handed s) c (left (handed s) o (left (handed s) x k)))
-item_told {s} (item_applied x o m c) k = (told_name s x k, left (handed s) c (parameters_left (handed s) m (left (handed s) o (left (handed s) x k))))
+item_told {s} (grammar.item_bare x) k = (told_name s x k, left (handed s) x k)
+item_told {s} (grammar.item_empty x o c) k = (told_name s x k, left (handed s) c (left (handed s) o (left (handed s) x k)))
+item_told {s} (grammar.item_applied x o m c) k = (told_name s x k, left (handed s) c (parameters_left (handed s) m (left (handed s) o (left (handed s) x k))))
 
 items_told : {s : Setting} {items : List Item} {tokens rest : List Lexeme} → Items s items tokens rest → AreTold s tokens → AreItemsNamed items × AreTold s rest
-items_told (items_first i) k = let one = item_told i k in ((one.0, tt), one.1)
-items_told {s} (items_next {items = items} m c i) k =
+items_told (grammar.items_first i) k = let one = item_told i k in ((one.0, tt), one.1)
+items_told {s} (grammar.items_next {items = items} m c i) k =
     let before = items_told m k in
     let one = item_told i (left (handed s) c before.1) in
     (behind (λ i. IsIdentifier i.name.text) items _ before.0 one.0, one.1)
 
 lines_told : {s : Setting} {typed : _} {items : List Item} {tokens rest : List Lexeme} → ItemLines s typed items tokens rest → AreTold s tokens → AreItemsNamed items × AreTold s rest
-lines_told lines_none k = (tt, k)
-lines_told {s} (line_function {items = items} {more = more} m i n c) k =
+lines_told grammar.lines_none k = (tt, k)
+lines_told {s} (grammar.line_function {items = items} {more = more} m i n c) k =
     let before = lines_told m k in
     let new = items_told n (left (handed s) i before.1) in
     (join (λ i. IsIdentifier i.name.text) items more before.0 new.0, left (handed s) c new.1)
-lines_told {s} (line_predicate {items = items} {more = more} m n c) k =
+lines_told {s} (grammar.line_predicate {items = items} {more = more} m n c) k =
     let before = lines_told m k in
     let new = items_told n before.1 in
     (join (λ i. IsIdentifier i.name.text) items more before.0 new.0, left (handed s) c new.1)
 
 sets_told : {s : Setting} {before : List NameSet} {start : _} {names : List Name} {tokens rest : List Lexeme} → Sets s before start names tokens rest → AreTold s tokens → AreTold s rest
-sets_told (sets_first n) k = (names_told n k).1
-sets_told {s} (sets_next m c n) k = (names_told n (left (handed s) c (sets_told m k))).1
+sets_told (grammar.sets_first n) k = (names_told n k).1
+sets_told {s} (grammar.sets_next m c n) k = (names_told n (left (handed s) c (sets_told m k))).1
 
 -- Declarations.
 
@@ -170,23 +171,23 @@ declared_predicates [] h = tt
 declared_predicates (i ∷ items) h = (h.0, declared_predicates items h.1)
 
 block_told : {s : Setting} {b : Block} {tokens rest : List Lexeme} → Declaration s b tokens rest → AreTold s tokens → AreDeclared (declared_by b) × AreTold s rest
-block_told {s} (block_constants true x o n c) k =
+block_told {s} (grammar.block_constants true x o n c) k =
     let names = constants_told n (left (handed s) o (left (handed s) x k)) in (declared_names kind.Universal _ names.0, left (handed s) c names.1)
-block_told {s} (block_constants false x o n c) k =
+block_told {s} (grammar.block_constants false x o n c) k =
     let names = constants_told n (left (handed s) o (left (handed s) x k)) in (declared_names kind.Existential _ names.0, left (handed s) c names.1)
-block_told {s} (block_items true x o n c) k =
+block_told {s} (grammar.block_items true x o n c) k =
     let items = lines_told n (left (handed s) o (left (handed s) x k)) in (declared_functions _ items.0, left (handed s) c items.1)
-block_told {s} (block_items false x o n c) k =
+block_told {s} (grammar.block_items false x o n c) k =
     let items = lines_told n (left (handed s) o (left (handed s) x k)) in (declared_predicates _ items.0, left (handed s) c items.1)
-block_told {s} (block_problem x o u c) k = (tt, left (handed s) c (derived_left (handed s) u (left (handed s) o (left (handed s) x k))))
-block_told {s} (block_interpolant x o m l c) k = (tt, left (handed s) c (sets_told m (left (handed s) o (left (handed s) x k))))
+block_told {s} (grammar.block_problem x o u c) k = (tt, left (handed s) c (derived_left (handed s) u (left (handed s) o (left (handed s) x k))))
+block_told {s} (grammar.block_interpolant x o m l c) k = (tt, left (handed s) c (sets_told m (left (handed s) o (left (handed s) x k))))
 
 declarations_behind : (blocks : List Block) (b : Block) → declarations (blocks ++ b ∷ []) ≡ declarations blocks ++ declared_by b
 declarations_behind blocks b = flat_map-append declared_by blocks (b ∷ []) ∙ ap (λ z. declarations blocks ++ z) (append-nil (declared_by b))
 
 blocks_told : {s : Setting} {blocks : List Block} {tokens rest : List Lexeme} → Blocks s blocks tokens rest → AreTold s tokens → AreDeclared (declarations blocks) × AreTold s rest
-blocks_told blocks_none k = (tt, k)
-blocks_told (blocks_next {blocks = blocks} {b = b} m d n) k =
+blocks_told grammar.blocks_none k = (tt, k)
+blocks_told (grammar.blocks_next {blocks = blocks} {b = b} m d n) k =
     let before = blocks_told m k in
     let new = block_told d before.1 in
     (subst AreDeclared (sym (declarations_behind blocks b)) (join (λ d. IsIdentifier d.text) (declarations blocks) (declared_by b) before.0 new.0), new.1)

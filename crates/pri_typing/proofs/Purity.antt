@@ -5,7 +5,7 @@ use Rattle.pri_reader.specs.declared.tree.File.{File}
 use Rattle.typed_formula.specs.Formula.{Formula, Expression, Expressions, formula}
 use Rattle.pri_typing.specs.declared.problem.Problem.{Problem}
 use Rattle.pri_typing.specs.declared.problem.TypeRefusal.TheVariants.{Undeclared, Arity, Kind}
-use Rattle.pri_typing.specs.declared.scope.Sort.TheVariants as sort
+use Rattle.pri_typing.specs.declared.scope.Category.TheVariants as category
 use Rattle.pri_typing.specs.declared.scope.Referent.{Referent}
 use Rattle.pri_typing.specs.declared.scope.Referent.TheVariants as referent
 use Rattle.pri_typing.specs.Phrase.{Phrase, number, truth, used, group, choice, absolute, lesser, greater, minus, product, sum, compared, negation, quantified, part, conjunction, disjunction, implication, equivalence, Phrases, no_phrase, and_phrase, Addends, no_addend, and_addend, first_token, count}
@@ -121,14 +121,14 @@ no_arguments : (s : Scope) (ps : Phrases) → count ps ≡ 0 → all_application
 no_arguments s no_phrase e = refl
 no_arguments s (and_phrase p ps) e = absurd (omega (arith, e))
 
-formula_used : (s : Scope) (at n : ℕ) (x : Name) (ps : Phrases) (r : Option Referent) → use_faults sort.Formula at x.at (count ps) r ≡ []
+formula_used : (s : Scope) (at n : ℕ) (x : Name) (ps : Phrases) (r : Option Referent) → use_faults category.Formula at x.at (count ps) r ≡ []
     → Everywhere unapplied n (use_says r (terms s ps)) → use_applies x.at r ++ all_applications s ps ≡ []
 formula_used s at n x ps None e h = absurd (nil_cons _ _ e)
 formula_used s at n x ps (Some (referent.Name y)) e h = absurd (nil_cons _ _ (nil_split (if nat_eq (count ps) 0 then [] else Arity x.at ∷ []) _ e).1)
 formula_used s at n x ps (Some (referent.Function f m)) e h = absurd (nil_cons _ _ (nil_split (if nat_eq (count ps) m then [] else Arity x.at ∷ []) _ e).1)
 formula_used s at n x ps (Some (referent.Predicate p m)) e h = absurd h.0
 
-term_used : (s : Scope) (at n : ℕ) (x : Name) (ps : Phrases) (r : Option Referent) → use_faults sort.Term at x.at (count ps) r ≡ []
+term_used : (s : Scope) (at n : ℕ) (x : Name) (ps : Phrases) (r : Option Referent) → use_faults category.Term at x.at (count ps) r ≡ []
     → TermEverywhere unapplied n (use_value r (terms s ps)) → use_applies x.at r ++ all_applications s ps ≡ []
 term_used s at n x ps None e h = absurd (nil_cons _ _ e)
 term_used s at n x ps (Some (referent.Name y)) e h = no_arguments s ps (right_count (count ps) 0 x.at (nil_split (if nat_eq (count ps) 0 then [] else Arity x.at ∷ []) [] e).0)
@@ -136,11 +136,11 @@ term_used s at n x ps (Some (referent.Function f m)) e h = absurd h.0
 term_used s at n x ps (Some (referent.Predicate p m)) e h = absurd (nil_cons _ _ (nil_split (if nat_eq (count ps) m then [] else Arity x.at ∷ []) _ e).1)
 
 mutual
-  applied : (s : Scope) (at n : ℕ) (p : Phrase) → faults s sort.Formula at p ≡ [] → Everywhere unapplied n (says s p) → applications s p ≡ []
+  applied : (s : Scope) (at n : ℕ) (p : Phrase) → faults s category.Formula at p ≡ [] → Everywhere unapplied n (says s p) → applications s p ≡ []
   applied s at n (number _ v) e h = refl
   applied s at n (truth _ b) e h = refl
   applied s at n (used _ x ps) e h =
-      let free = nil_split (use_faults sort.Formula at x.at (count ps) (refers s x.text)) (all_faults s sort.Term ps) e in
+      let free = nil_split (use_faults category.Formula at x.at (count ps) (refers s x.text)) (all_faults s category.Term ps) e in
       formula_used s at n x ps (refers s x.text) free.0 h
   applied s at n (group _ p) e h = applied s at n p e h
   applied s at n (choice _ c p q) e h = absurd (nil_cons _ _ e)
@@ -151,7 +151,7 @@ mutual
   applied s at n (product _ p sign q) e h = absurd (nil_cons _ _ e)
   applied s at n (sum _ p more) e h = absurd (nil_cons _ _ e)
   applied s at n (compared _ c p q) e h =
-      let free = nil_split (faults s sort.Term (first_token p) p) (faults s sort.Term (first_token q) q) e in
+      let free = nil_split (faults s category.Term (first_token p) p) (faults s category.Term (first_token q) q) e in
       nil_join (applications s p) (applications s q) (term_applied s (first_token p) n p free.0 h.1) (term_applied s (first_token q) n q free.1 h.2)
   applied s at n (negation _ p) e h = applied s (first_token p) n p e h.1
   applied s at n (quantified _ all names p) e h =
@@ -160,39 +160,39 @@ mutual
   applied s at n (conjunction _ ps) e h = members_applied s n ps e h.1
   applied s at n (disjunction _ ps) e h = members_applied s n ps e h.1
   applied s at n (implication _ p q) e h =
-      let free = nil_split (faults s sort.Formula (first_token p) p) (faults s sort.Formula (first_token q) q) e in
+      let free = nil_split (faults s category.Formula (first_token p) p) (faults s category.Formula (first_token q) q) e in
       nil_join (applications s p) (applications s q) (applied s (first_token p) n p free.0 h.1) (applied s (first_token q) n q free.1 h.2)
   applied s at n (equivalence _ p q) e h =
-      let free = nil_split (faults s sort.Formula (first_token p) p) (faults s sort.Formula (first_token q) q) e in
+      let free = nil_split (faults s category.Formula (first_token p) p) (faults s category.Formula (first_token q) q) e in
       nil_join (applications s p) (applications s q) (applied s (first_token p) n p free.0 h.1) (applied s (first_token q) n q free.1 h.2)
 
-  term_applied : (s : Scope) (at n : ℕ) (p : Phrase) → faults s sort.Term at p ≡ [] → TermEverywhere unapplied n (value s p) → applications s p ≡ []
+  term_applied : (s : Scope) (at n : ℕ) (p : Phrase) → faults s category.Term at p ≡ [] → TermEverywhere unapplied n (value s p) → applications s p ≡ []
   term_applied s at n (number _ v) e h = refl
   term_applied s at n (truth _ b) e h = refl
   term_applied s at n (used _ x ps) e h =
-      let free = nil_split (use_faults sort.Term at x.at (count ps) (refers s x.text)) (all_faults s sort.Term ps) e in
+      let free = nil_split (use_faults category.Term at x.at (count ps) (refers s x.text)) (all_faults s category.Term ps) e in
       term_used s at n x ps (refers s x.text) free.0 h
   term_applied s at n (group _ p) e h = term_applied s at n p e h
   term_applied s at n (choice _ c p q) e h =
-      let free = nil_split (faults s sort.Formula (first_token c) c ++ faults s sort.Term (first_token p) p) (faults s sort.Term (first_token q) q) e in
-      let front = nil_split (faults s sort.Formula (first_token c) c) (faults s sort.Term (first_token p) p) free.0 in
+      let free = nil_split (faults s category.Formula (first_token c) c ++ faults s category.Term (first_token p) p) (faults s category.Term (first_token q) q) e in
+      let front = nil_split (faults s category.Formula (first_token c) c) (faults s category.Term (first_token p) p) free.0 in
       nil_join (applications s c ++ applications s p) (applications s q)
       (nil_join (applications s c) (applications s p) (applied s (first_token c) n c front.0 h.1) (term_applied s (first_token p) n p front.1 h.2))
       (term_applied s (first_token q) n q free.1 h.3)
   term_applied s at n (absolute _ p) e h = term_applied s (first_token p) n p e h.1
   term_applied s at n (lesser _ p q) e h =
-      let free = nil_split (faults s sort.Term (first_token p) p) (faults s sort.Term (first_token q) q) e in
+      let free = nil_split (faults s category.Term (first_token p) p) (faults s category.Term (first_token q) q) e in
       nil_join (applications s p) (applications s q) (term_applied s (first_token p) n p free.0 h.1) (term_applied s (first_token q) n q free.1 h.2)
   term_applied s at n (greater _ p q) e h =
-      let free = nil_split (faults s sort.Term (first_token p) p) (faults s sort.Term (first_token q) q) e in
+      let free = nil_split (faults s category.Term (first_token p) p) (faults s category.Term (first_token q) q) e in
       nil_join (applications s p) (applications s q) (term_applied s (first_token p) n p free.0 h.1) (term_applied s (first_token q) n q free.1 h.2)
   term_applied s at n (minus _ p) e h = term_applied s (first_token p) n p e h.1
   term_applied s at n (product _ p sign q) e h =
-      let free = nil_split (product_faults p sign q ++ faults s sort.Term (first_token p) p) (faults s sort.Term (first_token q) q) e in
-      let front = nil_split (product_faults p sign q) (faults s sort.Term (first_token p) p) free.0 in
+      let free = nil_split (product_faults p sign q ++ faults s category.Term (first_token p) p) (faults s category.Term (first_token q) q) e in
+      let front = nil_split (product_faults p sign q) (faults s category.Term (first_token p) p) free.0 in
       nil_join (applications s p) (applications s q) (term_applied s (first_token p) n p front.1 h.1) (term_applied s (first_token q) n q free.1 h.2)
   term_applied s at n (sum _ p more) e h =
-      let free = nil_split (faults s sort.Term (first_token p) p) (addend_faults s more) e in
+      let free = nil_split (faults s category.Term (first_token p) p) (addend_faults s more) e in
       nil_join (applications s p) (addend_applications s more) (term_applied s (first_token p) n p free.0 h.1.0) (addends_applied s n more free.1 h.1.1)
   term_applied s at n (compared _ c p q) e h = absurd (nil_cons _ _ e)
   term_applied s at n (negation _ p) e h = absurd (nil_cons _ _ e)
@@ -203,16 +203,16 @@ mutual
   term_applied s at n (implication _ p q) e h = absurd (nil_cons _ _ e)
   term_applied s at n (equivalence _ p q) e h = absurd (nil_cons _ _ e)
 
-  members_applied : (s : Scope) (n : ℕ) (ps : Phrases) → all_faults s sort.Formula ps ≡ [] → AllEverywhere unapplied n (members s ps) → all_applications s ps ≡ []
+  members_applied : (s : Scope) (n : ℕ) (ps : Phrases) → all_faults s category.Formula ps ≡ [] → AllEverywhere unapplied n (members s ps) → all_applications s ps ≡ []
   members_applied s n no_phrase e h = refl
   members_applied s n (and_phrase p ps) e h =
-      let free = nil_split (faults s sort.Formula (first_token p) p) (all_faults s sort.Formula ps) e in
+      let free = nil_split (faults s category.Formula (first_token p) p) (all_faults s category.Formula ps) e in
       nil_join (applications s p) (all_applications s ps) (applied s (first_token p) n p free.0 h.0) (members_applied s n ps free.1 h.1)
 
   addends_applied : (s : Scope) (n : ℕ) (more : Addends) → addend_faults s more ≡ [] → TermsEverywhere unapplied n (signed_terms s more) → addend_applications s more ≡ []
   addends_applied s n no_addend e h = refl
   addends_applied s n (and_addend sign p more) e h =
-      let free = nil_split (faults s sort.Term (first_token p) p) (addend_faults s more) e in
+      let free = nil_split (faults s category.Term (first_token p) p) (addend_faults s more) e in
       nil_join (applications s p) (addend_applications s more)
       (term_applied s (first_token p) n p free.0 (without_sign unapplied n sign (value s p) h.0)) (addends_applied s n more free.1 h.1)
 
@@ -228,7 +228,7 @@ first_pure f p e t =
     let q = problem_of f.blocks in
     let s = scope_of f.blocks in
     let ds = declarations f.blocks in
-    let own = faults s sort.Formula (first_token q) q in
+    let own = faults s category.Formula (first_token q) q in
     let front = nil_split (declaration_faults [] ds ++ own) (parts_faults (part_names q) (has_existential ds) f.blocks q) e in
     let free = nil_split (declaration_faults [] ds) own front.0 in (
       λ none. subst (Everywhere unapplied 0) (sym t.formula) (pure s 0 q (first_none (applications s q) (sym t.first_application ∙ none))),

@@ -8,8 +8,8 @@ use Rattle.pri_reader.specs.Grammar.{Derives, whole}
 use Rattle.typed_formula.specs.Formula as logic
 use Rattle.pri_typing.specs.declared.problem.Problem.{Problem}
 use Rattle.pri_typing.specs.declared.problem.TypeRefusal.{TypeRefusal}
-use Rattle.pri_typing.specs.declared.scope.Sort.{Sort}
-use Rattle.pri_typing.specs.declared.scope.Sort.TheVariants as sort
+use Rattle.pri_typing.specs.declared.scope.Category.{Category}
+use Rattle.pri_typing.specs.declared.scope.Category.TheVariants as category
 use Rattle.pri_typing.specs.declared.scope.Referent.TheVariants as referent
 use Rattle.pri_typing.specs.Phrase.{Phrase, phrase, number, truth, used, group, choice, absolute, lesser, greater, minus, product, sum, compared, negation, quantified, part, conjunction, disjunction, implication, equivalence, Phrases, no_phrase, and_phrase, Addends, no_addend, and_addend, first_token, count}
 use Rattle.pri_typing.specs.Scope.{Scope, inside, bind, refers, constants, place, declarations, depth_of, declared_from, bound_or_declared}
@@ -41,43 +41,43 @@ both : {A : Type 0} {a b c d : List A} → a ≡ b → c ≡ d → a ++ c ≡ b 
 both {b = b} {c = c} p q = ap (λ z. z ++ c) p ∙ ap (λ z. b ++ z) q
 
 mutual
-  same_faults : (s t : Scope) → AreAlike s t → (want : Sort) (at : ℕ) (p : Phrase) → faults s want at p ≡ faults t want at p
+  same_faults : (s t : Scope) → AreAlike s t → (want : Category) (at : ℕ) (p : Phrase) → faults s want at p ≡ faults t want at p
   same_faults s t a want at (number _ n) = refl
   same_faults s t a want at (truth _ b) = refl
-  same_faults s t a want at (used _ x ps) = both (ap (use_faults want at x.at (count ps)) (refers_alike s t a x.text)) (all_same s t a sort.Term ps)
+  same_faults s t a want at (used _ x ps) = both (ap (use_faults want at x.at (count ps)) (refers_alike s t a x.text)) (all_same s t a category.Term ps)
   same_faults s t a want at (group _ p) = same_faults s t a want at p
   same_faults s t a want at (choice _ c p q) =
-      both (both (ap (λ z. needs want sort.Term at ++ z) (same_faults s t a sort.Formula (first_token c) c)) (same_faults s t a sort.Term (first_token p) p)) (same_faults s t a sort.Term (first_token q) q)
-  same_faults s t a want at (absolute _ p) = ap (λ z. needs want sort.Term at ++ z) (same_faults s t a sort.Term (first_token p) p)
+      both (both (ap (λ z. needs want category.Term at ++ z) (same_faults s t a category.Formula (first_token c) c)) (same_faults s t a category.Term (first_token p) p)) (same_faults s t a category.Term (first_token q) q)
+  same_faults s t a want at (absolute _ p) = ap (λ z. needs want category.Term at ++ z) (same_faults s t a category.Term (first_token p) p)
   same_faults s t a want at (lesser _ p q) =
-      both (ap (λ z. needs want sort.Term at ++ z) (same_faults s t a sort.Term (first_token p) p)) (same_faults s t a sort.Term (first_token q) q)
+      both (ap (λ z. needs want category.Term at ++ z) (same_faults s t a category.Term (first_token p) p)) (same_faults s t a category.Term (first_token q) q)
   same_faults s t a want at (greater _ p q) =
-      both (ap (λ z. needs want sort.Term at ++ z) (same_faults s t a sort.Term (first_token p) p)) (same_faults s t a sort.Term (first_token q) q)
-  same_faults s t a want at (minus _ p) = ap (λ z. needs want sort.Term at ++ z) (same_faults s t a sort.Term (first_token p) p)
+      both (ap (λ z. needs want category.Term at ++ z) (same_faults s t a category.Term (first_token p) p)) (same_faults s t a category.Term (first_token q) q)
+  same_faults s t a want at (minus _ p) = ap (λ z. needs want category.Term at ++ z) (same_faults s t a category.Term (first_token p) p)
   same_faults s t a want at (product _ p sign q) =
-      both (ap (λ z. needs want sort.Term at ++ product_faults p sign q ++ z) (same_faults s t a sort.Term (first_token p) p)) (same_faults s t a sort.Term (first_token q) q)
+      both (ap (λ z. needs want category.Term at ++ product_faults p sign q ++ z) (same_faults s t a category.Term (first_token p) p)) (same_faults s t a category.Term (first_token q) q)
   same_faults s t a want at (sum _ p more) =
-      both (ap (λ z. needs want sort.Term at ++ z) (same_faults s t a sort.Term (first_token p) p)) (added_same s t a more)
+      both (ap (λ z. needs want category.Term at ++ z) (same_faults s t a category.Term (first_token p) p)) (added_same s t a more)
   same_faults s t a want at (compared _ c p q) =
-      both (ap (λ z. needs want sort.Formula at ++ z) (same_faults s t a sort.Term (first_token p) p)) (same_faults s t a sort.Term (first_token q) q)
-  same_faults s t a want at (negation _ p) = ap (λ z. needs want sort.Formula at ++ z) (same_faults s t a sort.Formula (first_token p) p)
+      both (ap (λ z. needs want category.Formula at ++ z) (same_faults s t a category.Term (first_token p) p)) (same_faults s t a category.Term (first_token q) q)
+  same_faults s t a want at (negation _ p) = ap (λ z. needs want category.Formula at ++ z) (same_faults s t a category.Formula (first_token p) p)
   same_faults s t a want at (quantified _ all names p) =
-      ap (λ z. needs want sort.Formula at ++ z) (same_faults (inside names s) (inside names t) (inside_alike names s t a) sort.Formula (first_token p) p)
-  same_faults s t a want at (part _ x p) = ap (λ z. needs want sort.Formula at ++ z) (same_faults s t a sort.Formula (first_token p) p)
-  same_faults s t a want at (conjunction _ ps) = ap (λ z. needs want sort.Formula at ++ z) (all_same s t a sort.Formula ps)
-  same_faults s t a want at (disjunction _ ps) = ap (λ z. needs want sort.Formula at ++ z) (all_same s t a sort.Formula ps)
+      ap (λ z. needs want category.Formula at ++ z) (same_faults (inside names s) (inside names t) (inside_alike names s t a) category.Formula (first_token p) p)
+  same_faults s t a want at (part _ x p) = ap (λ z. needs want category.Formula at ++ z) (same_faults s t a category.Formula (first_token p) p)
+  same_faults s t a want at (conjunction _ ps) = ap (λ z. needs want category.Formula at ++ z) (all_same s t a category.Formula ps)
+  same_faults s t a want at (disjunction _ ps) = ap (λ z. needs want category.Formula at ++ z) (all_same s t a category.Formula ps)
   same_faults s t a want at (implication _ p q) =
-      both (ap (λ z. needs want sort.Formula at ++ z) (same_faults s t a sort.Formula (first_token p) p)) (same_faults s t a sort.Formula (first_token q) q)
+      both (ap (λ z. needs want category.Formula at ++ z) (same_faults s t a category.Formula (first_token p) p)) (same_faults s t a category.Formula (first_token q) q)
   same_faults s t a want at (equivalence _ p q) =
-      both (ap (λ z. needs want sort.Formula at ++ z) (same_faults s t a sort.Formula (first_token p) p)) (same_faults s t a sort.Formula (first_token q) q)
+      both (ap (λ z. needs want category.Formula at ++ z) (same_faults s t a category.Formula (first_token p) p)) (same_faults s t a category.Formula (first_token q) q)
 
-  all_same : (s t : Scope) → AreAlike s t → (want : Sort) (ps : Phrases) → all_faults s want ps ≡ all_faults t want ps
+  all_same : (s t : Scope) → AreAlike s t → (want : Category) (ps : Phrases) → all_faults s want ps ≡ all_faults t want ps
   all_same s t a want no_phrase = refl
   all_same s t a want (and_phrase p ps) = both (same_faults s t a want (first_token p) p) (all_same s t a want ps)
 
   added_same : (s t : Scope) → AreAlike s t → (more : Addends) → addend_faults s more ≡ addend_faults t more
   added_same s t a no_addend = refl
-  added_same s t a (and_addend sign p more) = both (same_faults s t a sort.Term (first_token p) p) (added_same s t a more)
+  added_same s t a (and_addend sign p more) = both (same_faults s t a category.Term (first_token p) p) (added_same s t a more)
 
 two : {A B C : Type 0} (f : A → B → C) {a b : A} {c d : B} → a ≡ b → c ≡ d → f a c ≡ f b d
 two f {b = b} {c = c} p q = ap (λ z. f z c) p ∙ ap (f b) q
@@ -147,13 +147,13 @@ pub file_says : (f : File) (p : Problem) (text : List ℕ) (e : Expr) → file_f
 file_says f p text e none t is d =
     let ds = declarations f.blocks in
     let q = problem_of f.blocks in
-    let own = faults (scope_of f.blocks) sort.Formula (first_token q) q in
+    let own = faults (scope_of f.blocks) category.Formula (first_token q) q in
     let front = nil_split (declaration_faults [] ds ++ own) (parts_faults (part_names q) (has_existential ds) f.blocks q) none in
     let free = nil_split (declaration_faults [] ds) own front.0 in
     let a = alike f p free.0 t in
     record {
       expression = e;
       derived = d;
-      typed = ap (λ z. faults (scope_of_problem p) sort.Formula (first_token z) z) is ∙ same_faults (scope_of_problem p) (scope_of f.blocks) a sort.Formula (first_token q) q ∙ free.1;
+      typed = ap (λ z. faults (scope_of_problem p) category.Formula (first_token z) z) is ∙ same_faults (scope_of_problem p) (scope_of f.blocks) a category.Formula (first_token q) q ∙ free.1;
       is = ap (says (scope_of_problem p)) is ∙ same_says (scope_of_problem p) (scope_of f.blocks) a q ∙ sym t.formula;
     }

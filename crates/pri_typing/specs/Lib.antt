@@ -1,4 +1,3 @@
-pub mod Bounds
 pub mod Everywhere
 pub mod Faults
 pub mod Files
@@ -10,6 +9,7 @@ pub mod Posed
 pub mod Problems
 pub mod Ranges
 pub mod Scope
+pub mod Sites
 pub mod Symbols
 pub mod Typing
 pub mod WellFormed

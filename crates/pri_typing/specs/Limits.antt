@@ -5,14 +5,14 @@ use Rattle.pri_reader.specs.declared.tree.Block.{Block}
 use Rattle.pri_reader.specs.declared.tree.Block.TheVariants as block
 use Rattle.pri_reader.specs.declared.tree.Name.{Name}
 use Rattle.pri_reader.specs.declared.tree.NameSet.{NameSet}
-use Rattle.pri_typing.specs.declared.scope.Place.{Place}
+use Rattle.pri_typing.specs.declared.scope.Site.{Site}
 use Rattle.pri_typing.specs.Phrase.{Phrase, number, truth, used, group, choice, absolute, lesser, greater, minus, product, sum, compared, negation, quantified, part, conjunction, disjunction, implication, equivalence, Phrases, no_phrase, and_phrase, Addends, no_addend, and_addend}
 use Rattle.pri_reader.specs.Grammar.{has_problem}
 use Rattle.pri_typing.specs.Files.{problem_of}
 use Rattle.pri_typing.specs.Ranges.{IsRanged}
 use Rattle.pri_typing.specs.Scope.{declarations}
 use Rattle.pri_typing.specs.Typing.{part_names}
-use Rattle.pri_typing.specs.Bounds.{bound_texts, most_bound, IsFit}
+use Rattle.pri_typing.specs.Sites.{bound_texts, most_bound, IsFit}
 
 abbrev mutual
   -- where n names are bound around the phrase, at most 200 are bound at each place inside it
@@ -46,20 +46,20 @@ abbrev mutual
   AddendsAreShallow n (and_addend is_minus p more) = IsShallow n p × AddendsAreShallow n more
 
 -- a phrase at a place where all numbers of its names fit
-pub record IsReady (here : Place) (p : Phrase) : Type 0 where
+pub record IsReady (here : Site) (p : Phrase) : Type 0 where
   pub fit : IsFit here
   pub shallow : IsShallow (length (bound_texts here.bound.now)) p
 
-pub record AreReady (here : Place) (ps : Phrases) : Type 0 where
+pub record AreReady (here : Site) (ps : Phrases) : Type 0 where
   pub fit : IsFit here
   pub shallow : AreShallow (length (bound_texts here.bound.now)) ps
 
-pub record AddendsAreReady (here : Place) (more : Addends) : Type 0 where
+pub record AddendsAreReady (here : Site) (more : Addends) : Type 0 where
   pub fit : IsFit here
   pub shallow : AddendsAreShallow (length (bound_texts here.bound.now)) more
 
 -- a phrase that stands under a quantifier for these names
-pub record IsReadyUnder (here : Place) (names : List Name) (p : Phrase) : Type 0 where
+pub record IsReadyUnder (here : Site) (names : List Name) (p : Phrase) : Type 0 where
   pub fit : IsFit here
   pub bindable : length names + length (bound_texts here.bound.now) ≤ most_bound
   pub shallow : IsShallow (length names + length (bound_texts here.bound.now)) p

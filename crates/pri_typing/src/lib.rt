@@ -15,8 +15,6 @@ mod refusals;
 mod resolution;
 mod scope;
 mod symbols;
-#[cfg(test)]
-mod tests;
 mod texts;
 
 pub use laws::{

@@ -1,6 +1,6 @@
 // Files that are read and files that are refused, with offsets counted by hand.
 
-use crate::{
+use pri_reader::{
     Block, File, Form, ReadRefusal, completion_law, first_refusal_law, machine_law, one_file_law,
     read,
 };
