@@ -4,7 +4,7 @@ use Rattle.pri_tokens.specs.declared.terminals.Lexeme.{Lexeme}
 use Rattle.pri_reader.specs.declared.tree.ReadRefusal.{ReadRefusal}
 use Rattle.pri_reader.specs.declared.tree.ReadRefusal.TheVariants as refusal
 use Rattle.pri_reader.specs.declared.classes.Heading.{Heading}
-use Rattle.pri_reader.specs.Machine.{Want}
+use Rattle.pri_reader.specs.MachineStates.{Want}
 use Rattle.pri_reader.specs.BlockReading.{IsNoBlock, Stops}
 
 -- want of memory says nothing of the file

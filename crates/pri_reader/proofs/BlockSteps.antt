@@ -13,10 +13,11 @@ use Rattle.pri_reader.specs.declared.classes.Heading.{Heading}
 use Rattle.pri_reader.specs.declared.classes.Heading.TheVariants as h
 use Rattle.pri_reader.specs.Classes.{heading_of}
 use Rattle.pri_reader.specs.Grammar.{name_of, Takes, constants_block, items_block, with_set, has_problem, equivalence}
-use Rattle.pri_reader.specs.Machine.{problem_of, Want, gives, a_unary, a_block, a_brace, a_line, a_name, names_more, NamesFor, for_constants, for_set, ItemsFor, items_for, with_item, an_item_line, an_item, behind_item, a_first_parameter, a_parameter, behind_int, parameters_more, items_more, under_right, bad, on, block_moves, brace_moves, line_moves, name_moves, names_more_moves, item_line_moves, item_moves, behind_item_moves, first_parameter_moves, parameter_moves, behind_int_moves, parameters_more_moves, items_more_moves, problem_follows, follows, moves, limited, goes_on, ends, run}
+use Rattle.pri_reader.specs.MachineStates.{problem_of, Want, gives, a_unary, a_block, a_brace, a_line, a_name, names_more, NamesFor, for_constants, for_set, ItemsFor, an_item_line, an_item, behind_item, a_first_parameter, a_parameter, behind_int, parameters_more, items_more, under_right, bad, on}
+use Rattle.pri_reader.specs.Machine.{items_for, with_item, block_moves, brace_moves, line_moves, name_moves, names_more_moves, item_line_moves, item_moves, behind_item_moves, first_parameter_moves, parameter_moves, behind_int_moves, parameters_more_moves, items_more_moves, problem_follows, follows, moves, limited, goes_on, ends, run}
 use Rattle.pri_reader.specs.Reading.{file_setting, reads, place, NotNext}
 use Rattle.pri_reader.proofs.Moves.{taken}
-use Rattle.pri_reader.proofs.Steps.{it, stuck, refused, refused_both, goes}
+use Rattle.pri_reader.proofs.TokenSteps.{it, stuck, refused, refused_both, goes}
 
 -- a token that is not of this terminal does the same in another state
 passes : (b : List ℕ) (terminal : Terminal) (tokens : List Lexeme) (want new : Want) → NotNext terminal tokens → ends (length b) want ≡ ends (length b) new

@@ -8,10 +8,11 @@ use Rattle.pri_reader.specs.declared.tree.Form.TheVariants as form
 use Rattle.pri_reader.specs.declared.tree.ReadRefusal.{ReadRefusal}
 use Rattle.pri_reader.specs.declared.tree.ReadRefusal.TheVariants as refusal
 use Rattle.pri_reader.specs.Grammar.{expr, name_of, Takes}
-use Rattle.pri_reader.specs.Machine.{Want, a_binder, a_bound, a_unary, bound_at, wrap}
+use Rattle.pri_reader.specs.MachineStates.{Want, a_binder, a_bound, a_unary, bound_at, wrap}
 use Rattle.pri_reader.specs.Reading.{file_setting, Binds, BindsEnd, BindsMore, BindsNoMore, BindsNone, IsRead, IsRefused, LeadsBound, NoRoom, NotNext, Opened, Unwanted}
 use Rattle.pri_reader.proofs.Exits.{through}
-use Rattle.pri_reader.proofs.Steps.{plain_step, grouped_step, binder_bad, bound_int_bad, bound_int_step, bound_bad, bound_step, bound_deep, bound_comma_step, bound_line_step, bound_plain_end_step, bound_grouped_end_step, plain_more_bad, grouped_more_bad, gives_wrap}
+use Rattle.pri_reader.proofs.BinderSteps.{plain_step, grouped_step, binder_bad, bound_int_bad, bound_int_step, bound_bad, bound_step, bound_deep, bound_comma_step, bound_line_step, bound_plain_end_step, bound_grouped_end_step, plain_more_bad, grouped_more_bad}
+use Rattle.pri_reader.proofs.TokenSteps.{gives_wrap}
 
 -- Behind a bound name.
 

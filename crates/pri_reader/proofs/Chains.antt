@@ -6,10 +6,10 @@ use Rattle.pri_reader.specs.declared.tree.Expr.{Expr}
 use Rattle.pri_reader.specs.declared.tree.Form.TheVariants as form
 use Rattle.pri_reader.specs.declared.tree.ReadRefusal.{ReadRefusal}
 use Rattle.pri_reader.specs.Grammar.{disjunction, conjunction, expr, chained, Takes}
-use Rattle.pri_reader.specs.Machine.{chain_of, a_unary, gives, under_chain}
+use Rattle.pri_reader.specs.MachineStates.{chain_of, a_unary, gives, under_chain}
 use Rattle.pri_reader.specs.Reading.{NotNext, Leads, IsRead, IsRefused, reads}
 use Rattle.pri_reader.proofs.Exits.{through}
-use Rattle.pri_reader.proofs.Steps.{and_pass, and_step, or_pass, or_step}
+use Rattle.pri_reader.proofs.LineSteps.{and_pass, and_step, or_pass, or_step}
 
 -- the members begin with an expression at this offset
 pub record BeginsAt (at : ℕ) (fs : List Expr) : Type 0 where

@@ -8,9 +8,10 @@ use Rattle.pri_reader.specs.declared.tree.Form.TheVariants as form
 use Rattle.pri_reader.specs.declared.tree.Added.{Added}
 use Rattle.pri_reader.specs.declared.tree.Name.{Name}
 use Rattle.pri_reader.specs.Classes.{prefix_of, opening_of}
-use Rattle.pri_reader.specs.Grammar.{Right, equivalence, implication, multiplication, Chain, Part, right, chain, unary, rel, sum, factor, primary, parenthesized, whole, operand, member, quantifier, truth_word, pair_word, expr, join, added, Setting, name_of, Takes, Bound, bound_first, bound_next, bound_line, Derives, right_one, right_two, chain_all, unary_not, unary_bound, unary_grouped, unary_part, unary_rel, rel_one, rel_two, sum_all, factor_minus, factor_primary, number, truth, use_bare, use_empty, use_applied, group, conditional, absolute, pair, parentheses, Members, member_first, member_next, Terms, term_first, term_next, Arguments, argument_first, argument_next}
-use Rattle.pri_reader.specs.Machine.{Frame, right_of, chain_of, rel_of, sum_of, wrap, parenthesis_of, test_of, branch_of, arguments_of, pair_left, pair_right, second, not_at, minus_at, bound_at, part_at, compared, grouped_at, absolute_at, branches, Want, a_unary, a_minus, a_parenthesis, an_argument, a_pair, a_binder, a_bound_int, a_bound, bound_more, gives, under, under_sum, under_rel, under_chain, under_right, wants, unary_moves, argument_moves, follows, moves, limited, goes_on, run}
-use Rattle.pri_reader.proofs.Moves.{taken, step_on, step_level, step_numeral, rank, Stops, stops_at, operand_rank, member_rank, right_joins, chain_joins, comparison_joins, adding_joins, pass_right, pass_chain, pass_rel, pass_sum, pass_wrap, pass_name, follow_right, follow_chain, follow_rel, follow_sum, begin_right, begin_member, begin_chain}
+use Rattle.pri_reader.specs.Grammar.{Right, equivalence, implication, multiplication, Chain, Part, right, chain, unary, rel, sum, factor, primary, parenthesized, whole, operand, member, quantifier, truth_word, pair_word, expr, join, added, Setting, name_of, Takes, Binding, bound_first, bound_next, bound_line, Derives, right_one, right_two, chain_all, unary_not, unary_bound, unary_grouped, unary_part, unary_rel, rel_one, rel_two, sum_all, factor_minus, factor_primary, number, truth, use_bare, use_empty, use_applied, group, conditional, absolute, pair, parentheses, Members, member_first, member_next, Terms, term_first, term_next, Arguments, argument_first, argument_next}
+use Rattle.pri_reader.specs.MachineStates.{Frame, right_of, chain_of, rel_of, sum_of, wrap, parenthesis_of, test_of, branch_of, arguments_of, pair_left, pair_right, second, not_at, minus_at, bound_at, part_at, compared, grouped_at, absolute_at, branches, Want, a_unary, a_minus, a_parenthesis, an_argument, a_pair, a_binder, a_bound_int, a_bound, bound_more, gives, under_sum, under_rel, under_chain, under_right}
+use Rattle.pri_reader.specs.Machine.{unary_moves, argument_moves, follows, moves, limited, goes_on, run}
+use Rattle.pri_reader.proofs.Moves.{under, wants, taken, step_on, step_level, step_numeral, rank, Stops, stops_at, operand_rank, member_rank, right_joins, chain_joins, comparison_joins, adding_joins, pass_right, pass_chain, pass_rel, pass_sum, pass_wrap, pass_name, follow_right, follow_chain, follow_rel, follow_sum, begin_right, begin_member, begin_chain}
 
 -- How a part begins.
 
@@ -128,7 +129,7 @@ whole_argument s end tokens name n frames u =
     ∙ ap (λ z. goes_on (run s end u.behind) (limited (s.small u.behind) (s.shallow u.behind) u.first.at z)) (argument_as_whole s u.first u.first.terminal name n frames u.opens)
     ∙ sym (taken s end e (a_unary n) (under_right equivalence n (arguments_of name n [] ∷ frames)))
 
--- Bound names.
+-- Binding names.
 
 abbrev begins_bound : Bool → ℕ → Bool → ℕ → Want
 begins_bound false at all d = a_binder at all d
@@ -140,7 +141,7 @@ unfolding moves
 begin_bound s end true e at all d frames = step_on s end e _ _ refl
 begin_bound s end false e at all d frames = step_on s end e _ _ refl
 
-bound_complete : {s : Setting} {several : Bool} {d e : ℕ} {names : List Name} {tokens rest : List Lexeme} (end : ℕ) → Bound s several d e names tokens rest
+bound_complete : {s : Setting} {several : Bool} {d e : ℕ} {names : List Name} {tokens rest : List Lexeme} (end : ℕ) → Binding s several d e names tokens rest
     → (at : ℕ) (all : Bool) (frames : List Frame)
     → run s end tokens (begins_bound several at all d) frames ≡ run s end rest (bound_more at all several e names) frames
 unfolding moves

@@ -12,7 +12,8 @@ use Rattle.pri_reader.specs.declared.tree.Block.TheVariants as block
 use Rattle.pri_reader.specs.declared.tree.ReadRefusal.TheVariants as refusal
 use Rattle.pri_reader.specs.declared.classes.Heading.TheVariants as h
 use Rattle.pri_reader.specs.Grammar.{Setting, name_of, Takes, constants_word, items_word, with_set, is_problem, has_problem, Names, names_first, names_next, Constants, constants_none, constants_line, Parameter, parameter_bare, parameter_named, Parameters, parameters_first, parameters_next, Declares, item_bare, item_empty, item_applied, Items, items_first, items_next, ItemLines, lines_none, line_function, line_predicate, Sets, sets_first, sets_next, Declaration, block_constants, block_items, block_problem, block_interpolant, Blocks, blocks_none, blocks_next, IsFile}
-use Rattle.pri_reader.specs.Machine.{problem_of, NamesFor, for_constants, for_set, ItemsFor, items_for, with_item, a_block, a_brace, a_line, a_name, names_more, an_item_line, an_item, behind_item, a_first_parameter, a_parameter, behind_int, parameters_more, items_more, on, behind_item_moves, items_more_moves, behind_int_moves, parameters_more_moves, sets_end, block_moves, moves, follows, limited, goes_on, run}
+use Rattle.pri_reader.specs.MachineStates.{problem_of, NamesFor, for_constants, for_set, ItemsFor, a_block, a_brace, a_line, a_name, names_more, an_item_line, an_item, behind_item, a_first_parameter, a_parameter, behind_int, parameters_more, items_more, on}
+use Rattle.pri_reader.specs.Machine.{items_for, with_item, behind_item_moves, items_more_moves, behind_int_moves, parameters_more_moves, sets_end, block_moves, moves, follows, limited, goes_on, run}
 use Rattle.pri_reader.proofs.Moves.{taken, step_on, joins, Stops, stops_at}
 use Rattle.pri_reader.proofs.Complete.{complete}
 

@@ -6,7 +6,7 @@ use Rattle.pri_reader.specs.declared.tree.Name.{Name}
 use Rattle.pri_reader.specs.declared.tree.ReadRefusal.{ReadRefusal}
 use Rattle.pri_reader.specs.declared.classes.Heading.TheVariants as h
 use Rattle.pri_reader.specs.Grammar.{Takes, constants_block, is_problem}
-use Rattle.pri_reader.specs.Machine.{a_brace, a_line, a_name, names_more, for_constants}
+use Rattle.pri_reader.specs.MachineStates.{a_brace, a_line, a_name, names_more, for_constants}
 use Rattle.pri_reader.specs.Reading.{NotNext, Unwanted}
 use Rattle.pri_reader.specs.BlockReading.{IsBlock, IsNoBlock, Passes, Stops}
 use Rattle.pri_reader.proofs.Exits.{through}

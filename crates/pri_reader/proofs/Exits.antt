@@ -8,7 +8,7 @@ use Rattle.pri_reader.specs.declared.tree.File.{File}
 use Rattle.pri_reader.specs.declared.tree.ReadRefusal.{ReadRefusal}
 use Rattle.pri_reader.specs.declared.tree.ReadRefusal.TheVariants as refusal
 use Rattle.pri_reader.specs.Grammar.{Takes}
-use Rattle.pri_reader.specs.Machine.{Want, Frame}
+use Rattle.pri_reader.specs.MachineStates.{Want, Frame}
 use Rattle.pri_reader.specs.declared.tree.Comparison.{Comparison}
 use Rattle.pri_reader.specs.declared.classes.Prefix.{Prefix}
 use Rattle.pri_reader.specs.declared.classes.Heading.{Heading}

@@ -8,7 +8,7 @@ use Rattle.pri_reader.specs.declared.tree.ReadRefusal.TheVariants as refusal
 use Rattle.pri_reader.specs.declared.classes.Heading.{Heading}
 use Rattle.pri_reader.specs.declared.classes.Heading.TheVariants as h
 use Rattle.pri_reader.specs.Grammar.{is_problem, has_problem}
-use Rattle.pri_reader.specs.Machine.{a_block}
+use Rattle.pri_reader.specs.MachineStates.{a_block}
 use Rattle.pri_reader.specs.Reading.{FailsWith, Heads, HeadsNone, place, reads}
 use Rattle.pri_reader.specs.BlockReading.{IsBlock, IsNoBlock, IsSecond, heads_problem}
 use Rattle.pri_reader.proofs.Exits.{through}

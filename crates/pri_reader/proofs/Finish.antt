@@ -15,7 +15,8 @@ use Rattle.pri_reader.specs.declared.tree.ReadRefusal.TheVariants as refusal
 use Rattle.pri_reader.specs.declared.classes.Heading.{Heading}
 use Rattle.pri_reader.specs.declared.classes.Heading.TheVariants as h
 use Rattle.pri_reader.specs.Grammar.{Right, equivalence, implication, multiplication, Chain, disjunction, conjunction, expr, chained, summed, paired, Setting, value_of, name_of, name_set, set_at, constants_block, items_block, is_problem, has_problem, with_set}
-use Rattle.pri_reader.specs.Machine.{bad, branches, bound_at, part_at, with_item, items_for, under_right, Frame, right_of, chain_of, rel_of, sum_of, wrap, wrapped, parenthesis_of, test_of, branch_of, arguments_of, pair_left, pair_right, problem_of, Want, a_unary, a_minus, a_parenthesis, behind_name, an_argument, a_pair, a_binder, a_bound_int, a_bound, bound_more, a_part_bracket, a_part_name, a_part_close, gives, a_block, a_brace, a_line, a_name, names_more, an_item_line, an_item, behind_item, a_first_parameter, a_parameter, behind_int, parameters_more, items_more, NamesFor, for_constants, for_set, ItemsFor, on, block_moves, applied, under_rel, follows, moves, limited, goes_on, run}
+use Rattle.pri_reader.specs.MachineStates.{bad, branches, bound_at, part_at, under_right, Frame, right_of, chain_of, rel_of, sum_of, wrap, wrapped, parenthesis_of, test_of, branch_of, arguments_of, pair_left, pair_right, problem_of, Want, a_unary, a_minus, a_parenthesis, behind_name, an_argument, a_pair, a_binder, a_bound_int, a_bound, bound_more, a_part_bracket, a_part_name, a_part_close, gives, a_block, a_brace, a_line, a_name, names_more, an_item_line, an_item, behind_item, a_first_parameter, a_parameter, behind_int, parameters_more, items_more, NamesFor, for_constants, for_set, ItemsFor, on, applied, under_rel}
+use Rattle.pri_reader.specs.Machine.{with_item, items_for, block_moves, follows, moves, limited, goes_on, run}
 use Rattle.pri_reader.specs.First.{unlimited, Completes}
 use Rattle.pri_reader.proofs.Moves.{Stops, stops_less, right_rank, chain_rank, pass_right, pass_chain, pass_rel, pass_sum, pass_wrap, pass_name}
 

@@ -9,7 +9,8 @@ use Rattle.pri_reader.specs.declared.tree.File.{File}
 use Rattle.pri_reader.specs.declared.tree.ReadRefusal.{ReadRefusal}
 use Rattle.pri_reader.specs.declared.tree.ReadRefusal.TheVariants as refusal
 use Rattle.pri_reader.specs.Grammar.{Limit, Setting, value_of}
-use Rattle.pri_reader.specs.Machine.{Frame, Want, a_block, Move, bad, on, numeral, level, moves, limited, goes_on, ends, run}
+use Rattle.pri_reader.specs.MachineStates.{Frame, Want, a_block, Move, bad, on, numeral, level}
+use Rattle.pri_reader.specs.Machine.{moves, limited, goes_on, ends, run}
 use Rattle.pri_reader.specs.First.{with_limits, AsksNumber}
 use Rattle.pri_reader.specs.First.{any, unlimited, asked_before, in_front_of, Begins}
 use Rattle.pri_reader.proofs.CompleteBlocks.{file_complete}

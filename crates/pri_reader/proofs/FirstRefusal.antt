@@ -7,7 +7,8 @@ use Rattle.pri_reader.specs.declared.tree.Block.{Block}
 use Rattle.pri_reader.specs.declared.tree.ReadRefusal.{ReadRefusal}
 use Rattle.pri_reader.specs.declared.tree.ReadRefusal.TheVariants as refusal
 use Rattle.pri_reader.specs.Grammar.{Setting, value_of, has_problem, IsFile}
-use Rattle.pri_reader.specs.Machine.{Frame, Want, a_block, Move, bad, on, numeral, level, moves, limited, goes_on, ends, run}
+use Rattle.pri_reader.specs.MachineStates.{Frame, Want, a_block, Move, bad, on, numeral, level}
+use Rattle.pri_reader.specs.Machine.{moves, limited, goes_on, ends, run}
 use Rattle.pri_reader.specs.First.{AsksNumber}
 use Rattle.pri_reader.specs.First.{any, opens_level, unlimited, without_levels, Begins, FirstAt, IsFirstRefusal, first_syntax, first_literal, first_deep, first_end}
 use Rattle.pri_reader.proofs.CompleteBlocks.{file_complete}

@@ -6,7 +6,8 @@ use Rattle.pri_reader.specs.declared.tree.Item.{Item}
 use Rattle.pri_reader.specs.declared.tree.ReadRefusal.{ReadRefusal}
 use Rattle.pri_reader.specs.declared.classes.Heading.TheVariants as h
 use Rattle.pri_reader.specs.Grammar.{Takes, items_block, is_problem}
-use Rattle.pri_reader.specs.Machine.{a_brace, items_for, an_item_line, an_item}
+use Rattle.pri_reader.specs.MachineStates.{a_brace, an_item_line, an_item}
+use Rattle.pri_reader.specs.Machine.{items_for}
 use Rattle.pri_reader.specs.Reading.{NotNext, Unwanted}
 use Rattle.pri_reader.specs.BlockReading.{BeginsLine, IsBlock, IsNoBlock, NoLine, Passes, Stops, with_items}
 use Rattle.pri_reader.proofs.Exits.{through}

@@ -6,7 +6,8 @@ use Rattle.pri_reader.specs.declared.tree.Name.{Name}
 use Rattle.pri_reader.specs.declared.tree.Item.{Item}
 use Rattle.pri_reader.specs.declared.tree.ReadRefusal.{ReadRefusal}
 use Rattle.pri_reader.specs.Grammar.{name_of, Takes}
-use Rattle.pri_reader.specs.Machine.{ItemsFor, items_for, with_item, an_item_line, an_item, behind_item, a_parameter, behind_int, parameters_more, items_more}
+use Rattle.pri_reader.specs.MachineStates.{ItemsFor, an_item_line, an_item, behind_item, a_parameter, behind_int, parameters_more, items_more}
+use Rattle.pri_reader.specs.Machine.{items_for, with_item}
 use Rattle.pri_reader.specs.Reading.{file_setting, reads, NotNext, Unwanted}
 use Rattle.pri_reader.specs.BlockReading.{MayTake, Passes, Stops, with_items}
 use Rattle.pri_reader.proofs.Exits.{through}

@@ -16,9 +16,16 @@ pub mod Parentheses
 pub mod Primaries
 pub mod ProblemBlock
 pub mod Sets
+pub mod States
+pub mod Following
+pub mod Beginning
+pub mod BlockMoves
 pub mod Sound
 pub mod SourceFiles
-pub mod Steps
+pub mod TokenSteps
+pub mod LineSteps
+pub mod PrimarySteps
+pub mod BinderSteps
 pub mod Sums
 pub mod Finish
 pub mod FinishMoves

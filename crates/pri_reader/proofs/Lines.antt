@@ -7,10 +7,11 @@ use Rattle.pri_reader.specs.declared.tree.Form.TheVariants as form
 use Rattle.pri_reader.specs.declared.tree.Comparison.{Comparison}
 use Rattle.pri_reader.specs.declared.tree.ReadRefusal.{ReadRefusal}
 use Rattle.pri_reader.specs.Grammar.{equivalence, implication, multiplication, disjunction, expr, join, Takes}
-use Rattle.pri_reader.specs.Machine.{right_of, rel_of, wrap, second, compared, a_unary, a_minus, under_product, under_sum, under_rel, under_chain, under_right}
+use Rattle.pri_reader.specs.MachineStates.{right_of, rel_of, wrap, second, compared, a_unary, a_minus, under_product, under_sum, under_rel, under_chain, under_right}
 use Rattle.pri_reader.specs.Reading.{NotNext, Compares, ComparesNone, Opened, NoRoom, IsRead, IsRefused}
 use Rattle.pri_reader.proofs.Exits.{through}
-use Rattle.pri_reader.proofs.Steps.{gives_wrap, iff_deep, iff_pass, iff_step, implies_deep, implies_pass, implies_step, relation_pass, relation_step, times_deep, times_pass, times_step}
+use Rattle.pri_reader.proofs.TokenSteps.{gives_wrap}
+use Rattle.pri_reader.proofs.LineSteps.{iff_deep, iff_pass, iff_step, implies_deep, implies_pass, implies_step, relation_pass, relation_step, times_deep, times_pass, times_step}
 
 pub iff_one : {b : List ℕ} {d : ℕ} {f : Expr} {t0 t1 : List Lexeme}
     → IsRead b (a_unary d) (under_right implication d []) (f) t0 t1 → NotNext t.Iff t1 → IsRead b (a_unary d) (under_right equivalence d []) (f) t0 t1

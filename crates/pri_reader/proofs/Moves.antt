@@ -12,7 +12,24 @@ use Rattle.pri_reader.specs.declared.tree.Comparison.TheVariants as compare
 use Rattle.pri_reader.specs.declared.tree.ReadRefusal.TheVariants as refusal
 use Rattle.pri_reader.specs.Classes.{comparison_of, adding_of}
 use Rattle.pri_reader.specs.Grammar.{Right, equivalence, implication, multiplication, Chain, disjunction, conjunction, Part, right, chain, unary, rel, sum, factor, primary, parenthesized, operand, member, right_sign, chain_sign, comparison_sign, adding_sign, expr, chained, added, summed, Setting, Takes}
-use Rattle.pri_reader.specs.Machine.{Frame, right_of, chain_of, rel_of, sum_of, wrap, Wrap, second, compared, wrapped, Want, a_unary, a_minus, behind_name, gives, on, numeral, level, under, under_product, under_sum, under_chain, under_right, under_member, wants, wants_right, takes_right, takes_chain, behind_name_moves, rel_goes_on, sum_goes_on, follows, moves, limited, goes_on, run}
+use Rattle.pri_reader.specs.MachineStates.{Frame, right_of, chain_of, rel_of, sum_of, wrap, Wrap, second, compared, wrapped, Want, a_unary, a_minus, behind_name, gives, on, numeral, level, under_product, under_sum, under_chain, under_right, under_member, wants_right, under_rel, a_parenthesis}
+use Rattle.pri_reader.specs.Machine.{takes_right, takes_chain, behind_name_moves, rel_goes_on, sum_goes_on, follows, moves, limited, goes_on, run}
+
+-- What begins a part below n open levels.
+
+abbrev pub under : Part → ℕ → List Frame → List Frame
+under (right r) n frames = under_right r n frames
+under (chain c) n frames = under_chain c n frames
+under rel n frames = under_rel n frames
+under sum n frames = under_sum n frames
+under _ n frames = frames
+
+abbrev pub wants : Part → ℕ → Want
+wants (right r) n = wants_right r n
+wants (chain c) n = a_unary n
+wants unary n = a_unary n
+wants parenthesized n = a_parenthesis n
+wants _ n = a_minus n
 
 -- a token is taken
 pub taken : (s : Setting) (end : ℕ) {k : Terminal} {x : Lexeme} {tokens inner : List Lexeme} → Takes k x tokens inner

@@ -5,7 +5,7 @@ use Rattle.pri_tokens.specs.declared.terminals.Lexeme.{Lexeme}
 use Rattle.pri_reader.specs.declared.tree.Name.{Name}
 use Rattle.pri_reader.specs.declared.tree.ReadRefusal.{ReadRefusal}
 use Rattle.pri_reader.specs.Grammar.{name_of, Takes}
-use Rattle.pri_reader.specs.Machine.{a_name, names_more}
+use Rattle.pri_reader.specs.MachineStates.{a_name, names_more}
 use Rattle.pri_reader.specs.Reading.{file_setting, Unwanted}
 use Rattle.pri_reader.specs.BlockReading.{Passes, Stops}
 use Rattle.pri_reader.proofs.BlockSteps.{name_here_bad, name_here_step, names_comma}

@@ -7,10 +7,11 @@ use Rattle.pri_reader.specs.declared.tree.Form.TheVariants as form
 use Rattle.pri_reader.specs.declared.tree.Name.{Name}
 use Rattle.pri_reader.specs.declared.tree.ReadRefusal.{ReadRefusal}
 use Rattle.pri_reader.specs.Grammar.{equivalence, expr, paired, Takes}
-use Rattle.pri_reader.specs.Machine.{wrap, branches, parenthesis_of, test_of, branch_of, arguments_of, pair_left, pair_right, a_unary, a_parenthesis, behind_name, a_pair, applied, under_right}
+use Rattle.pri_reader.specs.MachineStates.{wrap, branches, parenthesis_of, test_of, branch_of, arguments_of, pair_left, pair_right, a_unary, a_parenthesis, behind_name, a_pair, applied, under_right}
 use Rattle.pri_reader.specs.Reading.{NotNext, Opened, NoRoom, Unwanted, Leads, IsRead, IsRefused}
 use Rattle.pri_reader.proofs.Exits.{through}
-use Rattle.pri_reader.proofs.Steps.{argument_pass, arguments_bad, arguments_step, close_bad, close_step, comma_step, else_bad, else_step, empty_step, gives_wrap, left_bad, left_step, name_deep, name_pass, name_step, open_bad, open_deep, open_step, pair_close_bad, pair_close_step, pair_open_bad, pair_open_deep, pair_open_step, then_bad, then_step}
+use Rattle.pri_reader.proofs.PrimarySteps.{argument_pass, arguments_bad, arguments_step, comma_step, else_bad, else_step, empty_step, left_bad, left_step, name_deep, name_pass, name_step, pair_close_bad, pair_close_step, pair_open_bad, pair_open_deep, pair_open_step, then_bad, then_step}
+use Rattle.pri_reader.proofs.TokenSteps.{close_bad, close_step, gives_wrap, open_bad, open_deep, open_step}
 
 pub name_bare : {b : List ℕ} {d : ℕ} {name : Name} {t0 : List Lexeme}
     → NotNext t.OpenParenthesis t0 → IsRead b (behind_name name d) ([]) (applied name []) t0 t0

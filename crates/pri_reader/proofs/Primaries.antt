@@ -10,10 +10,12 @@ use Rattle.pri_reader.specs.declared.tree.ReadRefusal.TheVariants as refusal
 use Rattle.pri_reader.specs.declared.classes.Prefix.TheVariants as p
 use Rattle.pri_reader.specs.declared.classes.Opening.TheVariants as o
 use Rattle.pri_reader.specs.Grammar.{expr, name_of, Takes}
-use Rattle.pri_reader.specs.Machine.{wrap, not_at, minus_at, part_at, grouped_at, absolute_at, test_of, a_unary, a_minus, a_parenthesis, behind_name, a_pair, a_binder, a_part_bracket, under_rel}
+use Rattle.pri_reader.specs.MachineStates.{wrap, not_at, minus_at, part_at, grouped_at, absolute_at, test_of, a_unary, a_minus, a_parenthesis, behind_name, a_pair, a_binder, a_part_bracket, under_rel}
 use Rattle.pri_reader.specs.Reading.{file_setting, Begins, BeginsNone, Opened, Prefixes, PrefixesNone, NoRoom, Unwanted, IsRead, IsRefused, place}
 use Rattle.pri_reader.proofs.Exits.{through}
-use Rattle.pri_reader.proofs.Steps.{abs_step, bracket_bad, bracket_close_bad, bracket_close_step, bracket_step, factor_bad, gives_wrap, group_step, identifier_step, if_step, minus_deep, minus_step, not_deep, not_step, number_great, number_step, pair_begin, part_deep, part_name_bad, part_name_step, part_step, quantifier_step, relation_of_unary, truth_step}
+use Rattle.pri_reader.proofs.PrimarySteps.{abs_step, factor_bad, group_step, identifier_step, if_step, minus_deep, minus_step, not_deep, not_step, number_great, number_step, pair_begin, part_deep, part_step, quantifier_step, relation_of_unary, truth_step}
+use Rattle.pri_reader.proofs.BinderSteps.{bracket_bad, bracket_close_bad, bracket_close_step, bracket_step, part_name_bad, part_name_step}
+use Rattle.pri_reader.proofs.TokenSteps.{gives_wrap}
 
 pub not_no_room : {b : List ℕ} {d : ℕ} {x : Lexeme} {e : ReadRefusal} {t0 t1 : List Lexeme}
     → Prefixes p.Not x t0 t1 → NoRoom d x.at e → IsRefused b (a_unary d) ([]) t0 e

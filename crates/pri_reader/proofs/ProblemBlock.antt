@@ -7,7 +7,7 @@ use Rattle.pri_reader.specs.declared.tree.Block.TheVariants as block
 use Rattle.pri_reader.specs.declared.tree.ReadRefusal.{ReadRefusal}
 use Rattle.pri_reader.specs.declared.classes.Heading.TheVariants as h
 use Rattle.pri_reader.specs.Grammar.{Takes, equivalence}
-use Rattle.pri_reader.specs.Machine.{problem_of, a_unary, under_right}
+use Rattle.pri_reader.specs.MachineStates.{problem_of, a_unary, under_right}
 use Rattle.pri_reader.specs.Reading.{IsRead, IsRefused, Unwanted}
 use Rattle.pri_reader.specs.BlockReading.{IsBlock, IsNoBlock}
 use Rattle.pri_reader.proofs.Exits.{through}

@@ -10,7 +10,7 @@ use Rattle.pri_reader.specs.declared.tree.ReadRefusal.{ReadRefusal}
 use Rattle.pri_reader.specs.declared.tree.ReadRefusal.TheVariants as refusal
 use Rattle.pri_reader.specs.declared.classes.Heading.TheVariants as h
 use Rattle.pri_reader.specs.Grammar.{Takes, with_set}
-use Rattle.pri_reader.specs.Machine.{a_block, a_brace, a_name, names_more, for_set}
+use Rattle.pri_reader.specs.MachineStates.{a_block, a_brace, a_name, names_more, for_set}
 use Rattle.pri_reader.specs.Reading.{reads, NotNext, Unwanted}
 use Rattle.pri_reader.specs.BlockReading.{IsBlock, IsNoBlock, Passes, Stops}
 use Rattle.pri_reader.proofs.Exits.{through}

@@ -7,7 +7,7 @@ use Rattle.pri_reader.specs.declared.tree.File.{File}
 use Rattle.pri_reader.specs.declared.tree.ReadRefusal.{ReadRefusal}
 use Rattle.pri_reader.specs.declared.tree.ReadRefusal.TheVariants as refusal
 use Rattle.pri_reader.specs.Grammar.{IsFile}
-use Rattle.pri_reader.specs.Machine.{a_block}
+use Rattle.pri_reader.specs.MachineStates.{a_block}
 use Rattle.pri_reader.specs.Reading.{Answers, AnswersRefusal, FailsWith, file_setting, reads}
 use Rattle.pri_reader.specs.First.{Refuses, AsksNumber, IsFirstRefusal}
 use Rattle.std.specs.Result.{IfErr, IfOk}

@@ -6,10 +6,10 @@ use Rattle.pri_reader.specs.declared.tree.Form.TheVariants as form
 use Rattle.pri_reader.specs.declared.tree.Added.{Added}
 use Rattle.pri_reader.specs.declared.tree.ReadRefusal.{ReadRefusal}
 use Rattle.pri_reader.specs.Grammar.{expr, added}
-use Rattle.pri_reader.specs.Machine.{sum_of, a_minus, under_product, under_sum}
+use Rattle.pri_reader.specs.MachineStates.{sum_of, a_minus, under_product, under_sum}
 use Rattle.pri_reader.specs.Reading.{Adds, AddsNone, Leads, IsRead, IsRefused}
 use Rattle.pri_reader.proofs.Exits.{through}
-use Rattle.pri_reader.proofs.Steps.{sum_pass, sum_step}
+use Rattle.pri_reader.proofs.LineSteps.{sum_pass, sum_step}
 
 pub sum_part1 : {b : List ℕ} {d : ℕ} {e : ReadRefusal} {t0 : List Lexeme}
     → IsRefused b (a_minus d) (under_product d []) t0 e → IsRefused b (a_minus d) (under_sum d []) t0 e

@@ -9,7 +9,8 @@ use Rattle.pri_reader.specs.declared.tree.ReadRefusal.TheVariants as refusal
 use Rattle.pri_reader.specs.declared.classes.Heading.{Heading}
 use Rattle.pri_reader.specs.declared.classes.Heading.TheVariants as h
 use Rattle.pri_reader.specs.Grammar.{Takes, is_problem}
-use Rattle.pri_reader.specs.Machine.{Want, a_block, a_brace, an_item, an_item_line, ItemsFor, items_for}
+use Rattle.pri_reader.specs.MachineStates.{Want, a_block, a_brace, an_item, an_item_line, ItemsFor}
+use Rattle.pri_reader.specs.Machine.{items_for}
 use Rattle.pri_reader.specs.Reading.{FailsWith, NotNext, reads}
 
 -- the tokens lead from each of these states to one of those

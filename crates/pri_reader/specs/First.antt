@@ -8,7 +8,8 @@ use Rattle.pri_reader.specs.declared.tree.File.{File}
 use Rattle.pri_reader.specs.declared.tree.ReadRefusal.{ReadRefusal}
 use Rattle.pri_reader.specs.declared.tree.ReadRefusal.TheVariants as refusal
 use Rattle.pri_reader.specs.Grammar.{Limit, Setting, value_of, IsFile}
-use Rattle.pri_reader.specs.Machine.{Frame, Want, a_block, Move, on, numeral, level, moves, run}
+use Rattle.pri_reader.specs.MachineStates.{Frame, Want, a_block, Move, on, numeral, level}
+use Rattle.pri_reader.specs.Machine.{moves, run}
 
 -- the same bytes with other limits
 abbrev pub with_limits : Setting → Limit → Limit → Setting

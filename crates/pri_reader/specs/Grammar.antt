@@ -150,17 +150,17 @@ Opens s rest d = s.shallow rest d ≡ true
 
 -- The names that a quantifier binds, each of which opens a level: below d levels before them, e behind them. They are
 -- int identifier { , identifier }, and in parentheses also { ; int identifier { , identifier } }.
-pub data Bound (s : Setting) : Bool → ℕ → ℕ → List Name → List Lexeme → List Lexeme → Type 0 where
+pub data Binding (s : Setting) : Bool → ℕ → ℕ → List Name → List Lexeme → List Lexeme → Type 0 where
   bound_first : {several : Bool} {d : ℕ} {i x : Lexeme} {tokens inner rest : List Lexeme}
       → Takes t.Int i tokens inner → Takes t.Identifier x inner rest → Opens s rest d
-      → Bound s several d (suc d) (name_of s x ∷ []) tokens rest
+      → Binding s several d (suc d) (name_of s x ∷ []) tokens rest
   bound_next : {several : Bool} {d e : ℕ} {names : List Name} {c x : Lexeme} {tokens comma inner rest : List Lexeme}
-      → Bound s several d e names tokens comma → Takes t.Comma c comma inner → Takes t.Identifier x inner rest → Opens s rest e
-      → Bound s several d (suc e) (names ++ name_of s x ∷ []) tokens rest
+      → Binding s several d e names tokens comma → Takes t.Comma c comma inner → Takes t.Identifier x inner rest → Opens s rest e
+      → Binding s several d (suc e) (names ++ name_of s x ∷ []) tokens rest
   bound_line : {d e : ℕ} {names : List Name} {c i x : Lexeme} {tokens semicolon int inner rest : List Lexeme}
-      → Bound s true d e names tokens semicolon → Takes t.Semicolon c semicolon int → Takes t.Int i int inner
+      → Binding s true d e names tokens semicolon → Takes t.Semicolon c semicolon int → Takes t.Int i int inner
       → Takes t.Identifier x inner rest → Opens s rest e
-      → Bound s true d (suc e) (names ++ name_of s x ∷ []) tokens rest
+      → Binding s true d (suc e) (names ++ name_of s x ∷ []) tokens rest
 
 mutual
   pub data Derives (s : Setting) : ℕ → Part → Expr → List Lexeme → List Lexeme → Type 0 where
@@ -179,11 +179,11 @@ mutual
         → Derives s d unary (expr x.at (form.Not f)) tokens rest
     -- unary = quantifier unary, quantifier = (\forall or \exists) binder, binder = int identifier { , identifier } ;
     unary_bound : {d e : ℕ} {all : Bool} {names : List Name} {f : Expr} {x c : Lexeme} {tokens inner semicolon body rest : List Lexeme}
-        → Takes (quantifier all) x tokens inner → Bound s false d e names inner semicolon → Takes t.Semicolon c semicolon body
+        → Takes (quantifier all) x tokens inner → Binding s false d e names inner semicolon → Takes t.Semicolon c semicolon body
         → Derives s e unary f body rest → Derives s d unary (expr x.at (form.Quantified all names f)) tokens rest
     -- binder = ( int identifier { , identifier } { ; int identifier { , identifier } } )
     unary_grouped : {d e : ℕ} {all : Bool} {names : List Name} {f : Expr} {x o c : Lexeme} {tokens after inner close body rest : List Lexeme}
-        → Takes (quantifier all) x tokens after → Takes t.OpenParenthesis o after inner → Bound s true d e names inner close
+        → Takes (quantifier all) x tokens after → Takes t.OpenParenthesis o after inner → Binding s true d e names inner close
         → Takes t.CloseParenthesis c close body → Derives s e unary f body rest
         → Derives s d unary (expr x.at (form.Quantified all names f)) tokens rest
     -- unary = \part [ identifier ] unary
@@ -266,8 +266,7 @@ mutual
 
   -- iff { , iff }: all but the last, and the last
   pub data Arguments (s : Setting) : ℕ → List Expr → Expr → List Lexeme → List Lexeme → Type 0 where
-    argument_first : {d : ℕ} {f : Expr} {tokens rest : List Lexeme}
-        → Derives s d whole f tokens rest → Arguments s d [] f tokens rest
+    argument_first : {d : ℕ} {f : Expr} {tokens rest : List Lexeme} → Derives s d whole f tokens rest → Arguments s d [] f tokens rest
     argument_next : {d : ℕ} {fs : List Expr} {f g : Expr} {x : Lexeme} {tokens comma inner rest : List Lexeme}
         → Arguments s d fs f tokens comma → Takes t.Comma x comma inner → Derives s d whole g inner rest
         → Arguments s d (fs ++ f ∷ []) g tokens rest

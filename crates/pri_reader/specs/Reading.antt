@@ -15,7 +15,8 @@ use Rattle.pri_reader.specs.declared.classes.Heading.{Heading}
 use Rattle.pri_reader.specs.declared.classes.Opening.{Opening}
 use Rattle.pri_reader.specs.Classes.{adding_of, comparison_of, heading_of, opening_of, prefix_of}
 use Rattle.pri_reader.specs.Grammar.{Setting}
-use Rattle.pri_reader.specs.Machine.{Want, a_bound, a_unary, bound_more, gives, Frame, bound_at, wrap, run}
+use Rattle.pri_reader.specs.MachineStates.{Want, a_bound, a_unary, bound_more, gives, Frame, bound_at, wrap}
+use Rattle.pri_reader.specs.Machine.{run}
 
 -- the bytes of a file, with numerals below 2^127 and at most 200 levels
 abbrev pub file_setting : List ℕ → Setting

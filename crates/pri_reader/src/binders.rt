@@ -1,6 +1,6 @@
 // The names that a quantifier binds, each of which opens a level.
 
-ghost use Rattle.pri_reader.specs.Machine.{a_binder, a_bound};
+ghost use Rattle.pri_reader.specs.MachineStates.{a_binder, a_bound};
 ghost use Rattle.pri_reader.specs.Reading.{Binds, BindsNext, BindsNoMore, BindsNone};
 ghost use Rattle.std.specs.Prelude.{◌≤◌, ◌<◌, [], IfErr, IfOk, length};
 

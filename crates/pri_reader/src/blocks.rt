@@ -2,7 +2,7 @@
 
 ghost use Rattle.pri_reader.specs.BlockReading.{IsBlock, IsNoBlock, IsSecond, heads_problem};
 ghost use Rattle.pri_reader.specs.Grammar.{equivalence, has_problem};
-ghost use Rattle.pri_reader.specs.Machine.{a_block};
+ghost use Rattle.pri_reader.specs.MachineStates.{a_block};
 ghost use Rattle.pri_reader.specs.Reading.{FailsWith, HeadsNone, reads};
 ghost use Rattle.std.specs.Prelude.{◌≡◌, ◌<◌, ◌^◌, ◌||◌, true, false, [], Ok, IfErr, IfOk, length};
 

@@ -2,7 +2,7 @@
 // tokens are taken, and fails at the first token that no file has there.
 
 ghost use Rattle.pri_reader.specs.Grammar.{conjunction, disjunction, equivalence, expr, implication, paired};
-ghost use Rattle.pri_reader.specs.Machine.{a_binder, a_minus, a_pair, a_parenthesis, a_part_bracket, a_unary, arguments_of, behind_name, test_of, under_chain, under_product, under_rel, under_right, under_sum};
+ghost use Rattle.pri_reader.specs.MachineStates.{a_binder, a_minus, a_pair, a_parenthesis, a_part_bracket, a_unary, arguments_of, behind_name, test_of, under_chain, under_product, under_rel, under_right, under_sum};
 ghost use Rattle.pri_reader.specs.Reading.{IsRead, IsRefused};
 ghost use Rattle.std.specs.Prelude.{◌≡◌, ℕ, ◌≤◌, ◌<◌, ◌∷◌, [], IfErr, IfOk, length};
 

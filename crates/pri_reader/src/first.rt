@@ -2,7 +2,8 @@
 
 ghost use Rattle.pri_reader.specs.First.{AsksNumber, Completes, IsFirstRefusal, Reaches};
 ghost use Rattle.pri_reader.specs.Grammar.{IsFile, Setting};
-ghost use Rattle.pri_reader.specs.Machine.{Frame, Want, a_block, run};
+ghost use Rattle.pri_reader.specs.MachineStates.{Frame, Want, a_block};
+ghost use Rattle.pri_reader.specs.Machine.{run};
 ghost use Rattle.pri_reader.specs.declared.tree.File.{File};
 ghost use Rattle.pri_reader.specs.declared.tree.ReadRefusal.{ReadRefusal};
 ghost use Rattle.pri_tokens.specs.declared.terminals.Lexeme.{Lexeme};

@@ -3,7 +3,8 @@
 
 ghost use Rattle.pri_reader.specs.BlockReading.{MayTake, Passes, Stops, with_items};
 ghost use Rattle.pri_tokens.specs.declared.terminals.Terminal.TheVariants as t;
-ghost use Rattle.pri_reader.specs.Machine.{ItemsFor, a_parameter, an_item, an_item_line, behind_item, items_more, with_item};
+ghost use Rattle.pri_reader.specs.MachineStates.{ItemsFor, a_parameter, an_item, an_item_line, behind_item, items_more};
+ghost use Rattle.pri_reader.specs.Machine.{with_item};
 ghost use Rattle.pri_reader.specs.declared.tree.Name.{Name};
 ghost use Rattle.std.specs.Prelude.{◌≤◌, ◌<◌, ◌^◌, IfErr, IfOk, length};
 

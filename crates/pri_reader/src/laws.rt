@@ -1,7 +1,8 @@
 // What the grammar and the machine that reads it have to do with each other.
 
 ghost use Rattle.pri_reader.specs.Grammar.{IsFile, Setting};
-ghost use Rattle.pri_reader.specs.Machine.{a_block, run};
+ghost use Rattle.pri_reader.specs.MachineStates.{a_block};
+ghost use Rattle.pri_reader.specs.Machine.{run};
 ghost use Rattle.pri_reader.specs.declared.tree.File.{File};
 ghost use Rattle.pri_tokens.specs.declared.terminals.Lexeme.{Lexeme};
 ghost use Rattle.std.specs.Prelude.{◌≡◌, List, [], ℕ};

@@ -1,6 +1,6 @@
 // Lists of names: identifier { `,` identifier }
 
-ghost use Rattle.pri_reader.specs.Machine.{NamesFor, a_name, names_more};
+ghost use Rattle.pri_reader.specs.MachineStates.{NamesFor, a_name, names_more};
 ghost use Rattle.pri_reader.specs.BlockReading.{Passes, Stops};
 ghost use Rattle.pri_reader.specs.Reading.{NotNext};
 ghost use Rattle.pri_tokens.specs.declared.terminals.Terminal.TheVariants as t;

@@ -1,3 +1,9 @@
 pub mod Digits
-pub mod Longest
 pub mod Scan
+pub mod Tests
+pub mod Longest
+pub mod Spelled
+pub mod Comments
+pub mod Pieces
+pub mod Once
+pub mod Writing

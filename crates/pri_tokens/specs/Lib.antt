@@ -1,5 +1,7 @@
-pub mod Cuts
+pub mod Kinds
 pub mod Lexemes
 pub mod Numerals
 pub mod Spellings
 pub mod Terminals
+pub mod Tokenization
+pub mod Written

@@ -7,10 +7,8 @@ mod numerals;
 mod scanner;
 mod spellings;
 mod terminals;
-#[cfg(test)]
-mod tests;
 
-pub use laws::tokens_law;
+pub use laws::{spelling_law, tokens_law};
 pub use numerals::{numeral, spelling};
 pub use scanner::{lexemes, tokens};
 pub use terminals::{Lexeme, Terminal, Token, TokenKind, kind_of};

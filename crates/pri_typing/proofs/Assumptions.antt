@@ -8,7 +8,7 @@ use Rattle.pri_typing.specs.WellFormed.{SignedFormula, formula_components, all_f
 use Rattle.pri_typing.specs.Problems.{assumed}
 
 -- all that these components assume is true
-abbrev AreAssumed : Meaning → List SignedFormula → List ℤ → Type 0
+abbrev pub AreAssumed : Meaning → List SignedFormula → List ℤ → Type 0
 AreAssumed w cs e = AreAllTrue w (formulas (map assumed cs)) e
 
 -- the formula has the truth that its sign asks for

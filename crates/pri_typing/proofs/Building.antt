@@ -6,8 +6,8 @@ use Rattle.pri_reader.specs.declared.tree.Added.{Added}
 use Rattle.pri_reader.specs.declared.tree.Name.{Name}
 use Rattle.typed_formula.specs.declared.typed.Typed.{Typed}
 use Rattle.typed_formula.specs.declared.typed.TypedTerm.{TypedTerm}
-use Rattle.pri_typing.specs.declared.scope.Place.{Place}
-use Rattle.pri_typing.specs.Bounds.{bound_texts, most_bound}
+use Rattle.pri_typing.specs.declared.scope.Site.{Site}
+use Rattle.pri_typing.specs.Sites.{bound_texts, most_bound}
 use Rattle.pri_typing.specs.Files.{most_symbols}
 use Rattle.pri_typing.specs.Limits.{IsShallow, AreShallow, AddendsAreShallow, IsReady, AreReady, AddendsAreReady, IsReadyUnder}
 use Rattle.pri_typing.proofs.Scopes.{length-bind}
@@ -58,7 +58,7 @@ shallow_member n [] i d h k = absurd (omega (arith, k))
 shallow_member n (e ∷ es) zero d h k = h.0
 shallow_member n (e ∷ es) (suc i) d h k = shallow_member n es i d h.1 (omega (arith, k))
 
-pub ready_member : (here : Place) (es : List Expr) (i : ℕ) (d : Expr) → AreReady here (phrases_of es) → i < length es → IsReady here (phrase (get_or es i d))
+pub ready_member : (here : Site) (es : List Expr) (i : ℕ) (d : Expr) → AreReady here (phrases_of es) → i < length es → IsReady here (phrase (get_or es i d))
 ready_member here es i d h k = record { fit = h.fit; shallow = shallow_member (length (bound_texts here.bound.now)) es i d h.shallow k }
 
 shallow_addend : (n : ℕ) (more : List Added) (i : ℕ) (d : Added) → AddendsAreShallow n (addends_of more) → i < length more → IsShallow n (phrase (get_or more i d).term)
@@ -66,11 +66,11 @@ shallow_addend n [] i d h k = absurd (omega (arith, k))
 shallow_addend n (a ∷ more) zero d h k = subst (λ b. IsShallow n b.term) (addend-term a) h.0
 shallow_addend n (a ∷ more) (suc i) d h k = shallow_addend n more i d h.1 (omega (arith, k))
 
-pub ready_addend : (here : Place) (more : List Added) (i : ℕ) (d : Added) → AddendsAreReady here (addends_of more) → i < length more → IsReady here (phrase (get_or more i d).term)
+pub ready_addend : (here : Site) (more : List Added) (i : ℕ) (d : Added) → AddendsAreReady here (addends_of more) → i < length more → IsReady here (phrase (get_or more i d).term)
 ready_addend here more i d h k = record { fit = h.fit; shallow = shallow_addend (length (bound_texts here.bound.now)) more i d h.shallow k }
 
 -- a body is ready under its quantifier
-pub ready_body : (here inner : Place) (names : List Name) (p : Phrase) → IsReadyUnder here names p
+pub ready_body : (here inner : Site) (names : List Name) (p : Phrase) → IsReadyUnder here names p
     → inner.symbols.now ≡ here.symbols.now → inner.parts.now ≡ here.parts.now → bound_texts inner.bound.now ≡ bind names (bound_texts here.bound.now) → IsReady inner p
 ready_body here inner names p h e f g =
     let deeper = ap length g ∙ length-bind names (bound_texts here.bound.now) in

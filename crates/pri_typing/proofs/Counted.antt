@@ -13,7 +13,8 @@ use Rattle.pri_reader.specs.declared.tree.NameSet.{NameSet}
 use Rattle.pri_reader.specs.declared.tree.Block.{Block}
 use Rattle.pri_reader.specs.declared.tree.Block.TheVariants as block
 use Rattle.pri_reader.specs.declared.tree.File.{File}
-use Rattle.pri_reader.specs.Grammar.{Setting, Right, equivalence, implication, multiplication, Chain, disjunction, conjunction, Part, expr, join, chained, added, summed, paired, name_of, value_of, Takes, Bound, bound_first, bound_next, bound_line, Derives, right_one, right_two, chain_all, unary_not, unary_bound, unary_grouped, unary_part, unary_rel, rel_one, rel_two, sum_all, factor_minus, factor_primary, number, truth, use_bare, use_empty, use_applied, group, conditional, absolute, pair, parentheses, Members, member_first, member_next, Terms, term_first, term_next, Arguments, argument_first, argument_next, Names, names_first, names_next, Constants, constants_none, constants_line, Parameter, parameter_bare, parameter_named, Parameters, parameters_first, parameters_next, Declares, item_bare, item_empty, item_applied, Items, items_first, items_next, ItemLines, lines_none, line_function, line_predicate, Sets, sets_first, sets_next, Declaration, block_constants, block_items, block_problem, block_interpolant, Blocks, blocks_none, blocks_next, IsFile}
+use Rattle.pri_reader.specs.Grammar as grammar
+use Rattle.pri_reader.specs.Grammar.{Setting, Right, Chain, Part, expr, join, chained, added, summed, paired, name_of, value_of, Takes, Binding, Derives, Members, Terms, Arguments, Names, Constants, Parameter, Parameters, Declares, Items, ItemLines, Sets, Declaration, Blocks, IsFile}
 use Rattle.pri_typing.specs.Phrase.{Phrase, phrase, phrase_of, phrases_of, addends_of, and_addend}
 use Rattle.pri_typing.specs.Typing.{parts_in, all_parts, addend_parts, distinct_from, part_names}
 use Rattle.pri_typing.specs.Scope.{is_among, with_text}
@@ -52,14 +53,14 @@ two : (e g : Expr) → length (parts_in (phrase e) ++ parts_in (phrase g)) ≡ c
 two e g = length-append (parts_in (phrase e)) (parts_in (phrase g))
 
 joined : (r : Right) (f : Expr) (at : ℕ) (g : Expr) → count (join r f at g) ≡ count f + count g
-joined equivalence f at g = at_form f.at (form.Iff f g) _ _ (phrase-Iff f g f.at) (two f g)
-joined implication f at g = at_form f.at (form.Implies f g) _ _ (phrase-Implies f g f.at) (two f g)
-joined multiplication f at g = at_form f.at (form.Product f at g) _ _ (phrase-Product f at g f.at) (two f g)
+joined grammar.equivalence f at g = at_form f.at (form.Iff f g) _ _ (phrase-Iff f g f.at) (two f g)
+joined grammar.implication f at g = at_form f.at (form.Implies f g) _ _ (phrase-Implies f g f.at) (two f g)
+joined grammar.multiplication f at g = at_form f.at (form.Product f at g) _ _ (phrase-Product f at g f.at) (two f g)
 
 chained-count : (c : Chain) (fs : List Expr) (f : Expr) → count (chained c fs f) ≡ all_count fs + count f
 chained-count c [] f = omega arith
-chained-count disjunction (g ∷ gs) f = at_form g.at (form.Or ((g ∷ gs) ++ f ∷ [])) _ _ (phrase-Or ((g ∷ gs) ++ f ∷ []) g.at) (all_more (g ∷ gs) f)
-chained-count conjunction (g ∷ gs) f = at_form g.at (form.And ((g ∷ gs) ++ f ∷ [])) _ _ (phrase-And ((g ∷ gs) ++ f ∷ []) g.at) (all_more (g ∷ gs) f)
+chained-count grammar.disjunction (g ∷ gs) f = at_form g.at (form.Or ((g ∷ gs) ++ f ∷ [])) _ _ (phrase-Or ((g ∷ gs) ++ f ∷ []) g.at) (all_more (g ∷ gs) f)
+chained-count grammar.conjunction (g ∷ gs) f = at_form g.at (form.And ((g ∷ gs) ++ f ∷ [])) _ _ (phrase-And ((g ∷ gs) ++ f ∷ []) g.at) (all_more (g ∷ gs) f)
 
 sum-count : (p : Expr) (terms : List Added) (at : ℕ) → count (expr at (form.Sum p terms)) ≡ count p + added_count terms
 sum-count p terms at = at_form at (form.Sum p terms) _ _ (phrase-Sum p terms at) (length-append (parts_in (phrase p)) (addend_parts (addends_of terms)))
@@ -89,90 +90,90 @@ none at g x is h = at_form at g x 0 is (ap length h)
 taken : {t : Terminal} {x : Lexeme} {tokens rest : List Lexeme} → Takes t x tokens rest → length tokens ≡ suc (length rest)
 taken h = ap length h.parts
 
-bound_tokens : {s : Setting} {several : Bool} {d e : ℕ} {names : List Name} {tokens rest : List Lexeme} → Bound s several d e names tokens rest → length rest ≤ length tokens
-bound_tokens (bound_first i x o) = let a = taken i in let b = taken x in omega (arith, a, b)
-bound_tokens (bound_next m c x o) = let h = bound_tokens m in let a = taken c in let b = taken x in omega (arith, h, a, b)
-bound_tokens (bound_line m c i x o) = let h = bound_tokens m in let a = taken c in let b = taken i in let k = taken x in omega (arith, h, a, b, k)
+bound_tokens : {s : Setting} {several : Bool} {d e : ℕ} {names : List Name} {tokens rest : List Lexeme} → Binding s several d e names tokens rest → length rest ≤ length tokens
+bound_tokens (grammar.bound_first i x o) = let a = taken i in let b = taken x in omega (arith, a, b)
+bound_tokens (grammar.bound_next m c x o) = let h = bound_tokens m in let a = taken c in let b = taken x in omega (arith, h, a, b)
+bound_tokens (grammar.bound_line m c i x o) = let h = bound_tokens m in let a = taken c in let b = taken i in let k = taken x in omega (arith, h, a, b, k)
 
 mutual
   derived : {s : Setting} {d : ℕ} {part : Part} {e : Expr} {tokens rest : List Lexeme} → Derives s d part e tokens rest → count e + length rest ≤ length tokens
-  derived (right_one u) = derived u
-  derived (right_two {r = r} {f = f} {g = g} {x = x} u t o v) = let i = joined r f x.at g in let a = derived u in let b = taken t in let k = derived v in omega (arith, i, a, b, k)
-  derived (chain_all {c = c} {fs = fs} {f = f} m) = let i = chained-count c fs f in let a = members m in omega (arith, i, a)
-  derived (unary_not {f = f} {x = x} t o u) = let i = one x.at (form.Not f) f _ (phrase-Not f x.at) refl in let a = taken t in let b = derived u in omega (arith, i, a, b)
-  derived (unary_bound {all = all} {names = names} {f = f} {x = x} t m c u) =
+  derived (grammar.right_one u) = derived u
+  derived (grammar.right_two {r = r} {f = f} {g = g} {x = x} u t o v) = let i = joined r f x.at g in let a = derived u in let b = taken t in let k = derived v in omega (arith, i, a, b, k)
+  derived (grammar.chain_all {c = c} {fs = fs} {f = f} m) = let i = chained-count c fs f in let a = members m in omega (arith, i, a)
+  derived (grammar.unary_not {f = f} {x = x} t o u) = let i = one x.at (form.Not f) f _ (phrase-Not f x.at) refl in let a = taken t in let b = derived u in omega (arith, i, a, b)
+  derived (grammar.unary_bound {all = all} {names = names} {f = f} {x = x} t m c u) =
       let i = one x.at (form.Quantified all names f) f _ (phrase-Quantified all names f x.at) refl in
       let a = taken t in let b = bound_tokens m in let k = taken c in let h = derived u in omega (arith, i, a, b, k, h)
-  derived (unary_grouped {all = all} {names = names} {f = f} {x = x} t o m c u) =
+  derived (grammar.unary_grouped {all = all} {names = names} {f = f} {x = x} t o m c u) =
       let i = one x.at (form.Quantified all names f) f _ (phrase-Quantified all names f x.at) refl in
       let a = taken t in let p = taken o in let b = bound_tokens m in let k = taken c in let h = derived u in omega (arith, i, a, p, b, k, h)
-  derived {s} (unary_part {f = f} {x = x} {n = n} t o p m c u) =
+  derived {s} (grammar.unary_part {f = f} {x = x} {n = n} t o p m c u) =
       let i = at_form x.at (form.Part (name_of s n) f) _ (suc (count f)) (phrase-Part (name_of s n) f x.at) refl in
       let a = taken t in let b = taken p in let k = taken m in let l = taken c in let h = derived u in omega (arith, i, a, b, k, l, h)
-  derived (unary_rel u) = derived u
-  derived (rel_one u) = derived u
-  derived (rel_two {c = c} {f = f} {g = g} u t v) =
+  derived (grammar.unary_rel u) = derived u
+  derived (grammar.rel_one u) = derived u
+  derived (grammar.rel_two {c = c} {f = f} {g = g} u t v) =
       let i = at_form f.at (form.Compare c f g) _ _ (phrase-Compare c f g f.at) (two f g) in let a = derived u in let b = taken t in let k = derived v in omega (arith, i, a, b, k)
-  derived (sum_all {before = before} {sign = sign} {f = f} m) = let i = summed-count before sign f in let a = terms m in omega (arith, i, a)
-  derived (factor_minus {f = f} {x = x} t o u) = let i = one x.at (form.Minus f) f _ (phrase-Minus f x.at) refl in let a = taken t in let b = derived u in omega (arith, i, a, b)
-  derived (factor_primary u) = derived u
-  derived {s} (number {x = x} t small) = let i = none x.at (form.Number (pos (value_of s x))) _ (phrase-Number (pos (value_of s x)) x.at) refl in let a = taken t in omega (arith, i, a)
-  derived (truth {b = v} {x = x} t) = let i = none x.at (form.Truth v) _ (phrase-Truth v x.at) refl in let a = taken t in omega (arith, i, a)
-  derived {s} (use_bare {x = x} t) = let i = none x.at (form.Use (name_of s x) []) _ (phrase-Use (name_of s x) [] x.at) refl in let a = taken t in omega (arith, i, a)
-  derived {s} (use_empty {x = x} t o p c) =
+  derived (grammar.sum_all {before = before} {sign = sign} {f = f} m) = let i = summed-count before sign f in let a = terms m in omega (arith, i, a)
+  derived (grammar.factor_minus {f = f} {x = x} t o u) = let i = one x.at (form.Minus f) f _ (phrase-Minus f x.at) refl in let a = taken t in let b = derived u in omega (arith, i, a, b)
+  derived (grammar.factor_primary u) = derived u
+  derived {s} (grammar.number {x = x} t small) = let i = none x.at (form.Number (pos (value_of s x))) _ (phrase-Number (pos (value_of s x)) x.at) refl in let a = taken t in omega (arith, i, a)
+  derived (grammar.truth {b = v} {x = x} t) = let i = none x.at (form.Truth v) _ (phrase-Truth v x.at) refl in let a = taken t in omega (arith, i, a)
+  derived {s} (grammar.use_bare {x = x} t) = let i = none x.at (form.Use (name_of s x) []) _ (phrase-Use (name_of s x) [] x.at) refl in let a = taken t in omega (arith, i, a)
+  derived {s} (grammar.use_empty {x = x} t o p c) =
       let i = none x.at (form.Use (name_of s x) []) _ (phrase-Use (name_of s x) [] x.at) refl in let a = taken t in let b = taken o in let k = taken c in omega (arith, i, a, b, k)
-  derived {s} (use_applied {fs = fs} {f = f} {x = x} t o p m c) =
+  derived {s} (grammar.use_applied {fs = fs} {f = f} {x = x} t o p m c) =
       let i = at_form x.at (form.Use (name_of s x) (fs ++ f ∷ [])) _ (all_count fs + count f) (phrase-Use (name_of s x) (fs ++ f ∷ []) x.at) (all_more fs f) in
       let a = taken t in let b = taken o in let h = arguments m in let k = taken c in omega (arith, i, a, b, h, k)
-  derived (group {f = f} {x = x} t u) = let i = one x.at (form.Group f) f _ (phrase-Group f x.at) refl in let h = derived u in omega (arith, i, h)
-  derived (conditional {c = c} {f = f} {g = g} {x = x} t u y v z w) =
+  derived (grammar.group {f = f} {x = x} t u) = let i = one x.at (form.Group f) f _ (phrase-Group f x.at) refl in let h = derived u in omega (arith, i, h)
+  derived (grammar.conditional {c = c} {f = f} {g = g} {x = x} t u y v z w) =
       let i = three c f g x.at in let a = taken t in let b = derived u in let k = taken y in let l = derived v in let m = taken z in let h = derived w in omega (arith, i, a, b, k, l, m, h)
-  derived (absolute {f = f} {x = x} t u) = let i = one x.at (form.Abs f) f _ (phrase-Abs f x.at) refl in let a = taken t in let h = derived u in omega (arith, i, a, h)
-  derived (pair max {f = f} {g = g} {x = x} t o p u c v e) =
+  derived (grammar.absolute {f = f} {x = x} t u) = let i = one x.at (form.Abs f) f _ (phrase-Abs f x.at) refl in let a = taken t in let h = derived u in omega (arith, i, a, h)
+  derived (grammar.pair max {f = f} {g = g} {x = x} t o p u c v e) =
       let i = paired-count max x.at f g in let a = taken t in let b = taken o in let k = derived u in let l = taken c in let m = derived v in let h = taken e in omega (arith, i, a, b, k, l, m, h)
-  derived (parentheses o p u c) = let a = taken o in let h = derived u in let k = taken c in omega (arith, a, h, k)
+  derived (grammar.parentheses o p u c) = let a = taken o in let h = derived u in let k = taken c in omega (arith, a, h, k)
 
   members : {s : Setting} {d : ℕ} {c : Chain} {fs : List Expr} {f : Expr} {tokens rest : List Lexeme} → Members s d c fs f tokens rest → (all_count fs + count f) + length rest ≤ length tokens
-  members (member_first u) = let h = derived u in omega (arith, h)
-  members (member_next {fs = fs} {f = f} m t u) = let i = all_more fs f in let a = members m in let b = taken t in let k = derived u in omega (arith, i, a, b, k)
+  members (grammar.member_first u) = let h = derived u in omega (arith, h)
+  members (grammar.member_next {fs = fs} {f = f} m t u) = let i = all_more fs f in let a = members m in let b = taken t in let k = derived u in omega (arith, i, a, b, k)
 
   terms : {s : Setting} {d : ℕ} {before : List Added} {sign : Bool} {f : Expr} {tokens rest : List Lexeme} → Terms s d before sign f tokens rest → (added_count before + count f) + length rest ≤ length tokens
-  terms (term_first u) = let h = derived u in omega (arith, h)
-  terms (term_next {before = before} {old = old} {f = f} m t u) = let i = added_more before (added old f) in let a = terms m in let b = taken t in let k = derived u in omega (arith, i, a, b, k)
+  terms (grammar.term_first u) = let h = derived u in omega (arith, h)
+  terms (grammar.term_next {before = before} {old = old} {f = f} m t u) = let i = added_more before (added old f) in let a = terms m in let b = taken t in let k = derived u in omega (arith, i, a, b, k)
 
   arguments : {s : Setting} {d : ℕ} {fs : List Expr} {f : Expr} {tokens rest : List Lexeme} → Arguments s d fs f tokens rest → (all_count fs + count f) + length rest ≤ length tokens
-  arguments (argument_first u) = let h = derived u in omega (arith, h)
-  arguments (argument_next {fs = fs} {f = f} m t u) = let i = all_more fs f in let a = arguments m in let b = taken t in let k = derived u in omega (arith, i, a, b, k)
+  arguments (grammar.argument_first u) = let h = derived u in omega (arith, h)
+  arguments (grammar.argument_next {fs = fs} {f = f} m t u) = let i = all_more fs f in let a = arguments m in let b = taken t in let k = derived u in omega (arith, i, a, b, k)
 
 names_tokens : {s : Setting} {names : List Name} {tokens rest : List Lexeme} → Names s names tokens rest → length rest ≤ length tokens
-names_tokens (names_first t) = let a = taken t in omega (arith, a)
-names_tokens (names_next m c t) = let h = names_tokens m in let a = taken c in let b = taken t in omega (arith, h, a, b)
+names_tokens (grammar.names_first t) = let a = taken t in omega (arith, a)
+names_tokens (grammar.names_next m c t) = let h = names_tokens m in let a = taken c in let b = taken t in omega (arith, h, a, b)
 
 constants_tokens : {s : Setting} {names : List Name} {tokens rest : List Lexeme} → Constants s names tokens rest → length rest ≤ length tokens
 constants_tokens constants_none = omega arith
-constants_tokens (constants_line m i n c) = let h = constants_tokens m in let a = taken i in let b = names_tokens n in let k = taken c in omega (arith, h, a, b, k)
+constants_tokens (grammar.constants_line m i n c) = let h = constants_tokens m in let a = taken i in let b = names_tokens n in let k = taken c in omega (arith, h, a, b, k)
 
 parameter_tokens : {tokens rest : List Lexeme} → Parameter tokens rest → length rest ≤ length tokens
-parameter_tokens (parameter_bare i) = let a = taken i in omega (arith, a)
-parameter_tokens (parameter_named i x) = let a = taken i in let b = taken x in omega (arith, a, b)
+parameter_tokens (grammar.parameter_bare i) = let a = taken i in omega (arith, a)
+parameter_tokens (grammar.parameter_named i x) = let a = taken i in let b = taken x in omega (arith, a, b)
 
 parameters_tokens : {n : ℕ} {tokens rest : List Lexeme} → Parameters n tokens rest → length rest ≤ length tokens
-parameters_tokens (parameters_first p) = parameter_tokens p
-parameters_tokens (parameters_next m c p) = let h = parameters_tokens m in let a = taken c in let b = parameter_tokens p in omega (arith, h, a, b)
+parameters_tokens (grammar.parameters_first p) = parameter_tokens p
+parameters_tokens (grammar.parameters_next m c p) = let h = parameters_tokens m in let a = taken c in let b = parameter_tokens p in omega (arith, h, a, b)
 
 item_tokens : {s : Setting} {i : Item} {tokens rest : List Lexeme} → Declares s i tokens rest → length rest ≤ length tokens
-item_tokens (item_bare x) = let a = taken x in omega (arith, a)
-item_tokens (item_empty x o c) = let a = taken x in let b = taken o in let k = taken c in omega (arith, a, b, k)
-item_tokens (item_applied x o p c) = let a = taken x in let b = taken o in let h = parameters_tokens p in let k = taken c in omega (arith, a, b, h, k)
+item_tokens (grammar.item_bare x) = let a = taken x in omega (arith, a)
+item_tokens (grammar.item_empty x o c) = let a = taken x in let b = taken o in let k = taken c in omega (arith, a, b, k)
+item_tokens (grammar.item_applied x o p c) = let a = taken x in let b = taken o in let h = parameters_tokens p in let k = taken c in omega (arith, a, b, h, k)
 
 items_tokens : {s : Setting} {is : List Item} {tokens rest : List Lexeme} → Items s is tokens rest → length rest ≤ length tokens
-items_tokens (items_first i) = item_tokens i
-items_tokens (items_next m c i) = let h = items_tokens m in let a = taken c in let b = item_tokens i in omega (arith, h, a, b)
+items_tokens (grammar.items_first i) = item_tokens i
+items_tokens (grammar.items_next m c i) = let h = items_tokens m in let a = taken c in let b = item_tokens i in omega (arith, h, a, b)
 
 lines_tokens : {s : Setting} {typed : Bool} {is : List Item} {tokens rest : List Lexeme} → ItemLines s typed is tokens rest → length rest ≤ length tokens
 lines_tokens lines_none = omega arith
-lines_tokens (line_function m i n c) = let h = lines_tokens m in let a = taken i in let b = items_tokens n in let k = taken c in omega (arith, h, a, b, k)
-lines_tokens (line_predicate m n c) = let h = lines_tokens m in let b = items_tokens n in let k = taken c in omega (arith, h, b, k)
+lines_tokens (grammar.line_function m i n c) = let h = lines_tokens m in let a = taken i in let b = items_tokens n in let k = taken c in omega (arith, h, a, b, k)
+lines_tokens (grammar.line_predicate m n c) = let h = lines_tokens m in let b = items_tokens n in let k = taken c in omega (arith, h, b, k)
 
 -- how many parts a block's formula has
 abbrev block_count : Block → ℕ
@@ -184,16 +185,16 @@ blocks_count [] = 0
 blocks_count (b ∷ blocks) = block_count b + blocks_count blocks
 
 sets_tokens : {s : Setting} {before : List NameSet} {start : _} {names : List Name} {tokens rest : List Lexeme} → Sets s before start names tokens rest → length rest ≤ length tokens
-sets_tokens (sets_first n) = names_tokens n
-sets_tokens (sets_next m c n) = let h = sets_tokens m in let a = taken c in let b = names_tokens n in omega (arith, h, a, b)
+sets_tokens (grammar.sets_first n) = names_tokens n
+sets_tokens (grammar.sets_next m c n) = let h = sets_tokens m in let a = taken c in let b = names_tokens n in omega (arith, h, a, b)
 
 block_tokens : {s : Setting} {b : Block} {tokens rest : List Lexeme} → Declaration s b tokens rest → block_count b + length rest ≤ length tokens
-block_tokens (block_constants true t o n c) = let a = taken t in let b = taken o in let h = constants_tokens n in let k = taken c in omega (arith, a, b, h, k)
-block_tokens (block_constants false t o n c) = let a = taken t in let b = taken o in let h = constants_tokens n in let k = taken c in omega (arith, a, b, h, k)
-block_tokens (block_items true t o n c) = let a = taken t in let b = taken o in let h = lines_tokens n in let k = taken c in omega (arith, a, b, h, k)
-block_tokens (block_items false t o n c) = let a = taken t in let b = taken o in let h = lines_tokens n in let k = taken c in omega (arith, a, b, h, k)
-block_tokens (block_problem t o u c) = let a = taken t in let b = taken o in let h = derived u in let k = taken c in omega (arith, a, b, h, k)
-block_tokens (block_interpolant t o m l c) = let a = taken t in let b = taken o in let h = sets_tokens m in let k = taken c in omega (arith, a, b, h, k)
+block_tokens (grammar.block_constants true t o n c) = let a = taken t in let b = taken o in let h = constants_tokens n in let k = taken c in omega (arith, a, b, h, k)
+block_tokens (grammar.block_constants false t o n c) = let a = taken t in let b = taken o in let h = constants_tokens n in let k = taken c in omega (arith, a, b, h, k)
+block_tokens (grammar.block_items true t o n c) = let a = taken t in let b = taken o in let h = lines_tokens n in let k = taken c in omega (arith, a, b, h, k)
+block_tokens (grammar.block_items false t o n c) = let a = taken t in let b = taken o in let h = lines_tokens n in let k = taken c in omega (arith, a, b, h, k)
+block_tokens (grammar.block_problem t o u c) = let a = taken t in let b = taken o in let h = derived u in let k = taken c in omega (arith, a, b, h, k)
+block_tokens (grammar.block_interpolant t o m l c) = let a = taken t in let b = taken o in let h = sets_tokens m in let k = taken c in omega (arith, a, b, h, k)
 
 blocks_more : (blocks : List Block) (b : Block) → blocks_count (blocks ++ b ∷ []) ≡ blocks_count blocks + block_count b
 blocks_more [] b = omega arith
@@ -201,7 +202,7 @@ blocks_more (c ∷ blocks) b = let h = blocks_more blocks b in omega (arith, h)
 
 blocks_tokens : {s : Setting} {blocks : List Block} {tokens rest : List Lexeme} → Blocks s blocks tokens rest → blocks_count blocks + length rest ≤ length tokens
 blocks_tokens blocks_none = omega arith
-blocks_tokens (blocks_next {blocks = blocks} {b = b} m d n) = let i = blocks_more blocks b in let h = blocks_tokens m in let k = block_tokens d in omega (arith, i, h, k)
+blocks_tokens (grammar.blocks_next {blocks = blocks} {b = b} m d n) = let i = blocks_more blocks b in let h = blocks_tokens m in let k = block_tokens d in omega (arith, i, h, k)
 
 problem_count : (blocks : List Block) → length (parts_in (problem_of blocks)) ≤ blocks_count blocks
 problem_count [] = omega arith

@@ -15,15 +15,6 @@ use Rattle.pri_typing.specs.Files.{declaration_faults, own_faults, most_symbols}
 use Rattle.pri_typing.proofs.Referents.{IsProperKind, AreProper}
 use Rattle.pri_typing.proofs.WellFormed.{nil_cons, nil_split}
 
--- where there is no least fault, there is none
-pub none_least : (rs : List TypeRefusal) → least rs ≡ None → rs ≡ []
-none_least [] e = refl
-none_least (r ∷ rs) e = absurd (by (least rs) e)
-  where
-    by : (o : Option TypeRefusal) → earlier (Some r) o ≡ None → ⊥
-    by None k = absurd cc
-    by (Some q) k = absurd cc
-
 own_below : (known : Bool) (n at : ℕ) → own_faults known n at ≡ [] → n ≤ most_symbols → suc n ≤ most_symbols
 own_below known n at e h = by (nat_eq n most_symbols) refl (nil_split (if known then Redeclared at ∷ [] else []) (if nat_eq n most_symbols then Many at ∷ [] else []) e).1
   where

@@ -2,7 +2,7 @@
 use Rattle.std.proofs.Common.{◌≡◌, ℕ, zero, suc, ◌<◌, ◌≤◌, Bool, true, false, ◌||◌, not, List, [], ◌∷◌, ◌++◌, map, length, get_or, nat_eq, refl, sym, ap, subst, ◌∙◌, arith, if◌then◌else◌, Contains, All, flat_map, Option, length-append}
 use Rattle.std.specs.List.{AllByRecursion, IsDistinct, concat, list_any}
 use Rattle.std.proofs.lemmas.List.{map-append, length-map}
-use Rattle.std.proofs.lemmas.List.Elements.{All-from_recursion, All-nil, All-cons, All-append}
+use Rattle.std.proofs.lemmas.List.Elements.{All-from_recursion, recursion_from_All, All-nil, All-cons, All-append}
 use Rattle.pri_tokens.specs.declared.terminals.Lexeme.{Lexeme}
 use Rattle.pri_reader.specs.declared.tree.Name.{Name}
 use Rattle.pri_reader.specs.declared.tree.NameSet.{NameSet}
@@ -13,6 +13,7 @@ use Rattle.pri_typing.specs.declared.problem.TypeRefusal.TheVariants.{Parts}
 use Rattle.pri_typing.specs.Scope.{is_among, with_text, place}
 use Rattle.pri_typing.specs.Typing.{distinct_from}
 use Rattle.pri_typing.specs.Parts.{own_name_faults, name_faults, names_of, misses, cut_faults, block_faults, cut_of, cuts_in, is_cut}
+use Rattle.pri_typing.specs.Limits.{AreSets, HasSets}
 use Rattle.pri_typing.specs.WellFormed.{IsDivision}
 use Rattle.pri_typing.proofs.WellFormed.{nil_cons, nil_split, place_below}
 use Rattle.pri_typing.proofs.Distinct.{with_among, with_self, AreOnce, place_element, same_place, places, added_place}
@@ -85,7 +86,7 @@ pub each_place : (parts : List (List ℕ)) (names : List Name) (k : ℕ) → Are
     → Contains (places parts names) k
 each_place parts names k o h g = subst (λ z. Contains (places parts names) z) (place_element parts k o h) (added_place (get_or parts k []) parts [] names refl g)
 
-no_fault : (b : Bool) (at : ℕ) → (if b then Parts at ∷ [] else []) ≡ [] → b ≡ false
+pub no_fault : (b : Bool) (at : ℕ) → (if b then Parts at ∷ [] else []) ≡ [] → b ≡ false
 no_fault true at e = absurd (nil_cons _ _ e)
 no_fault false at e = refl
 
@@ -94,11 +95,6 @@ no_fault false at e = refl
 numbers_are : (parts : List (List ℕ)) (sets : List NameSet) → concat (map (λ s. places parts s.names) sets) ≡ places parts (names_of sets)
 numbers_are parts [] = refl
 numbers_are parts (s ∷ sets) = ap (λ z. places parts s.names ++ z) (numbers_are parts sets) ∙ sym (map-append (λ n. place n.text parts) s.names (names_of sets))
-
--- at least two sets, none of which is empty
-pub record AreSets (sets : List NameSet) : Type 0 where
-  pub several : 2 ≤ length sets
-  pub filled : AllByRecursion (λ s. 1 ≤ length s.names) sets
 
 filled_sets : (parts : List (List ℕ)) (sets : List NameSet) → AllByRecursion (λ s. 1 ≤ length s.names) sets → AllByRecursion (λ set. 1 ≤ length set) (map (λ s. places parts s.names) sets)
 filled_sets parts [] h = tt
@@ -115,7 +111,7 @@ division parts existential at sets o h e =
     let numbers = sym (numbers_are parts sets) in
     record {
       several = subst (λ z. 2 ≤ z) (sym (length-map sets (λ s. places parts s.names))) h.several;
-      filled = All-from_recursion (λ set. 1 ≤ length set) (map (λ s. places parts s.names) sets) (filled_sets parts sets h.filled);
+      filled = All-from_recursion (λ set. 1 ≤ length set) (map (λ s. places parts s.names) sets) (filled_sets parts sets (recursion_from_All (λ s. 1 ≤ length s.names) sets h.filled));
       below = subst (All (λ k. k < length parts)) numbers (All-from_recursion (λ k. k < length parts) (places parts names) (below parts [] names free));
       whole = λ k l. subst (λ z. Contains z k) numbers (each_place parts names k o l (given_all parts (distinct_from [] names) k all l));
       once = subst (IsDistinct nat_eq) numbers (once parts [] names free);
@@ -123,15 +119,7 @@ division parts existential at sets o h e =
 
 -- Blocks.
 
-abbrev pub IsCutProper : Block → Type 0
-IsCutProper (block.Interpolant at sets) = AreSets sets
-IsCutProper _ = Unit {0}
-
-abbrev pub AreCutsProper : List Block → Type 0
-AreCutsProper [] = Unit {0}
-AreCutsProper (b ∷ blocks) = IsCutProper b × AreCutsProper blocks
-
-pub divisions : (parts : List (List ℕ)) (existential : Bool) (blocks : List Block) → AreOnce parts → AreCutsProper blocks
+pub divisions : (parts : List (List ℕ)) (existential : Bool) (blocks : List Block) → AreOnce parts → AllByRecursion HasSets blocks
     → flat_map (block_faults parts existential) blocks ≡ [] → All (IsDivision (length parts)) (flat_map (cuts_in parts) blocks)
 divisions parts existential [] o h e = All-nil (IsDivision (length parts))
 divisions parts existential (b ∷ blocks) o h e =
@@ -141,7 +129,7 @@ divisions parts existential (b ∷ blocks) o h e =
     none : All (IsDivision (length parts)) []
     none = All-nil (IsDivision (length parts))
 
-    by : (c : Block) → IsCutProper c → block_faults parts existential c ≡ [] → All (IsDivision (length parts)) (cuts_in parts c)
+    by : (c : Block) → HasSets c → block_faults parts existential c ≡ [] → All (IsDivision (length parts)) (cuts_in parts c)
     by (block.Interpolant at sets) k l = All-cons (IsDivision (length parts)) (cut_of parts sets) [] (division parts existential at sets o k l) none
     by (block.Universals at names) k l = none
     by (block.Existentials at names) k l = none
@@ -161,7 +149,7 @@ no_cuts parts (block.Problem at f ∷ blocks) e = no_cuts parts blocks e
 
 -- What the grammar says of the sets.
 
-behind : {A : Type 0} (P : A → Type 0) (xs : List A) (x : A) → AllByRecursion P xs → P x → AllByRecursion P (xs ++ x ∷ [])
+pub behind : {A : Type 0} (P : A → Type 0) (xs : List A) (x : A) → AllByRecursion P xs → P x → AllByRecursion P (xs ++ x ∷ [])
 behind P [] x h k = (k, tt)
 behind P (y ∷ xs) x h k = (h.0, behind P xs x h.1 k)
 
@@ -181,7 +169,7 @@ sets_named (sets_next {before = before} m c n) = let both = sets_named m in (beh
 long_sets : (before : List NameSet) (x : NameSet) → 1 ≤ length before → 2 ≤ length (before ++ x ∷ [])
 long_sets before x h = let long = length-append before (x ∷ []) in omega (arith, long, h)
 
-cut_proper : {s : Setting} {b : Block} {tokens rest : List Lexeme} → Declaration s b tokens rest → IsCutProper b
+cut_proper : {s : Setting} {b : Block} {tokens rest : List Lexeme} → Declaration s b tokens rest → HasSets b
 cut_proper (block_constants true t o n c) = tt {0}
 cut_proper (block_constants false t o n c) = tt {0}
 cut_proper (block_items true t o n c) = tt {0}
@@ -189,12 +177,8 @@ cut_proper (block_items false t o n c) = tt {0}
 cut_proper (block_problem t o u c) = tt {0}
 cut_proper (block_interpolant {before = before} t o m l c) =
     let both = sets_named m in
-    record { several = long_sets before _ l; filled = behind (λ z. 1 ≤ length z.names) before _ both.0 both.1 }
+    record { several = long_sets before _ l; filled = All-from_recursion (λ z. 1 ≤ length z.names) _ (behind (λ z. 1 ≤ length z.names) before _ both.0 both.1) }
 
-proper_behind : (blocks : List Block) (b : Block) → AreCutsProper blocks → IsCutProper b → AreCutsProper (blocks ++ b ∷ [])
-proper_behind [] b h k = (k, tt {0})
-proper_behind (c ∷ blocks) b h k = (h.0, proper_behind blocks b h.1 k)
-
-pub cuts_proper : {s : Setting} {blocks : List Block} {tokens rest : List Lexeme} → Blocks s blocks tokens rest → AreCutsProper blocks
-cuts_proper blocks_none = tt {0}
-cuts_proper (blocks_next {blocks = blocks} {b = b} m d n) = proper_behind blocks b (cuts_proper m) (cut_proper d)
+pub cuts_proper : {s : Setting} {blocks : List Block} {tokens rest : List Lexeme} → Blocks s blocks tokens rest → AllByRecursion HasSets blocks
+cuts_proper blocks_none = tt
+cuts_proper (blocks_next {blocks = blocks} {b = b} m d n) = behind HasSets blocks b (cuts_proper m) (cut_proper d)

@@ -7,8 +7,8 @@ use Rattle.pri_reader.specs.declared.tree.Form.TheOpen as o
 use Rattle.pri_reader.specs.declared.tree.Form.TheOpen.{Form-F}
 use Rattle.pri_reader.specs.declared.tree.Form.TheFolds.{fold_out-Form}
 use Rattle.pri_reader.specs.declared.tree.Added.{Added}
-use Rattle.pri_typing.specs.declared.scope.Sort.{Sort}
-use Rattle.pri_typing.specs.declared.scope.Sort.TheVariants.{Term}
+use Rattle.pri_typing.specs.declared.scope.Category.{Category}
+use Rattle.pri_typing.specs.declared.scope.Category.TheVariants.{Term}
 use Rattle.pri_typing.specs.declared.problem.TypeRefusal.{TypeRefusal}
 use Rattle.pri_typing.specs.Phrase.{Phrase, Addend, phrase, phrase_of, phrases, phrases_of, addend, addends, addends_of, form_step, phrase_step, addend_step, first_token, count}
 use Rattle.pri_typing.specs.Scope.{Scope}
@@ -46,18 +46,18 @@ pub count_is : (es : List Expr) → count (phrases_of es) ≡ length es
 count_is [] = refl
 count_is (e ∷ es) = ap suc (count_is es)
 
-all_faults-phrases : (s : Scope) (sort : Sort) (ps : List Phrase) (p : Phrase)
-    → all_faults s sort (phrases (ps ++ p ∷ [])) ≡ all_faults s sort (phrases ps) ++ faults s sort (first_token p) p
-all_faults-phrases s sort [] p = append-nil (faults s sort (first_token p) p)
-all_faults-phrases s sort (q ∷ ps) p =
-    ap (λ z. faults s sort (first_token q) q ++ z) (all_faults-phrases s sort ps p)
-    ∙ sym (append_assoc (faults s sort (first_token q) q) (all_faults s sort (phrases ps)) (faults s sort (first_token p) p))
+all_faults-phrases : (s : Scope) (category : Category) (ps : List Phrase) (p : Phrase)
+    → all_faults s category (phrases (ps ++ p ∷ [])) ≡ all_faults s category (phrases ps) ++ faults s category (first_token p) p
+all_faults-phrases s category [] p = append-nil (faults s category (first_token p) p)
+all_faults-phrases s category (q ∷ ps) p =
+    ap (λ z. faults s category (first_token q) q ++ z) (all_faults-phrases s category ps p)
+    ∙ sym (append_assoc (faults s category (first_token q) q) (all_faults s category (phrases ps)) (faults s category (first_token p) p))
 
 -- the least fault of a list, with one more behind it
-pub all_faults-more : (s : Scope) (sort : Sort) (es : List Expr) (e : Expr)
-    → least (all_faults s sort (phrases_of (es ++ e ∷ []))) ≡ earlier (least (all_faults s sort (phrases_of es))) (least (faults s sort (first_token (phrase e)) (phrase e)))
-all_faults-more s sort es e = ap (λ z. least (all_faults s sort (phrases z))) (map-append phrase es (e ∷ []))
-    ∙ ap least (all_faults-phrases s sort (map phrase es) (phrase e)) ∙ least-append (all_faults s sort (phrases_of es)) _
+pub all_faults-more : (s : Scope) (category : Category) (es : List Expr) (e : Expr)
+    → least (all_faults s category (phrases_of (es ++ e ∷ []))) ≡ earlier (least (all_faults s category (phrases_of es))) (least (faults s category (first_token (phrase e)) (phrase e)))
+all_faults-more s category es e = ap (λ z. least (all_faults s category (phrases z))) (map-append phrase es (e ∷ []))
+    ∙ ap least (all_faults-phrases s category (map phrase es) (phrase e)) ∙ least-append (all_faults s category (phrases_of es)) _
 
 addend_faults-addends : (s : Scope) (more : List Addend) (a : Addend)
     → addend_faults s (addends (more ++ a ∷ [])) ≡ addend_faults s (addends more) ++ faults s Term (first_token a.term) a.term
@@ -73,10 +73,10 @@ addend_faults-more s more a = ap (λ z. least (addend_faults s (addends z))) (ma
     ∙ ap (λ z. least (addend_faults s (addends_of more) ++ faults s Term (first_token z.term) z.term)) (addend-term a)
     ∙ least-append (addend_faults s (addends_of more)) _
 
-pub all_faults-take : (s : Scope) (sort : Sort) (es : List Expr) (i : ℕ) (e : Expr) → i < length es
-    → least (all_faults s sort (phrases_of (take (i + 1) es)))
-    ≡ earlier (least (all_faults s sort (phrases_of (take i es)))) (least (faults s sort (first_token (phrase (get_or es i e))) (phrase (get_or es i e))))
-all_faults-take s sort es i e h = ap (λ z. least (all_faults s sort (phrases_of z))) (take_more es i e h) ∙ all_faults-more s sort (take i es) (get_or es i e)
+pub all_faults-take : (s : Scope) (category : Category) (es : List Expr) (i : ℕ) (e : Expr) → i < length es
+    → least (all_faults s category (phrases_of (take (i + 1) es)))
+    ≡ earlier (least (all_faults s category (phrases_of (take i es)))) (least (faults s category (first_token (phrase (get_or es i e))) (phrase (get_or es i e))))
+all_faults-take s category es i e h = ap (λ z. least (all_faults s category (phrases_of z))) (take_more es i e h) ∙ all_faults-more s category (take i es) (get_or es i e)
 
 pub addend_faults-take : (s : Scope) (more : List Added) (i : ℕ) (a : Added) → i < length more
     → least (addend_faults s (addends_of (take (i + 1) more)))
@@ -87,18 +87,18 @@ addend_faults-take s more i a h = ap (λ z. least (addend_faults s (addends_of z
 pub form_is : (e : Expr) (g : Form) → e.form ≡ g → phrase e ≡ phrase_of g e.at
 form_is e g h = phrase-form e ∙ ap (λ z. phrase_of z e.at) h
 
--- the faults of an expression where one of this sort is needed
-abbrev pub operand_faults : Scope → Sort → Expr → List TypeRefusal
-operand_faults s sort e = faults s sort (first_token (phrase e)) (phrase e)
+-- the faults of an expression where one of this category is needed
+abbrev pub operand_faults : Scope → Category → Expr → List TypeRefusal
+operand_faults s category e = faults s category (first_token (phrase e)) (phrase e)
 
 -- the least of some faults and those of one more operand
-pub with_operand : (s : Scope) (sort : Sort) (own : List TypeRefusal) (x y : Expr) {r k : Option TypeRefusal}
-    → r ≡ earlier k (least (faults s sort (first_token (phrase x)) (phrase x))) → x ≡ y → k ≡ least own
-    → r ≡ least (own ++ faults s sort (first_token (phrase y)) (phrase y))
-with_operand s sort own x y e f g = e
-    ∙ ap (λ z. earlier z (least (faults s sort (first_token (phrase x)) (phrase x)))) g
-    ∙ sym (least-append own (faults s sort (first_token (phrase x)) (phrase x)))
-    ∙ ap (λ z. least (own ++ faults s sort (first_token (phrase z)) (phrase z))) f
+pub with_operand : (s : Scope) (category : Category) (own : List TypeRefusal) (x y : Expr) {r k : Option TypeRefusal}
+    → r ≡ earlier k (least (faults s category (first_token (phrase x)) (phrase x))) → x ≡ y → k ≡ least own
+    → r ≡ least (own ++ faults s category (first_token (phrase y)) (phrase y))
+with_operand s category own x y e f g = e
+    ∙ ap (λ z. earlier z (least (faults s category (first_token (phrase x)) (phrase x)))) g
+    ∙ sym (least-append own (faults s category (first_token (phrase x)) (phrase x)))
+    ∙ ap (λ z. least (own ++ faults s category (first_token (phrase z)) (phrase z))) f
 
 -- the least of two lists, where the least of each is known
 pub least_of_two : (a b : List TypeRefusal) {r k l : Option TypeRefusal} → r ≡ earlier k l → k ≡ least a → l ≡ least b → r ≡ least (a ++ b)

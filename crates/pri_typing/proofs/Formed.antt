@@ -1,13 +1,13 @@
 -- The problem of a file without faults is well formed.
 use Rattle.std.proofs.Common.{◌≡◌, ℕ, ◌<◌, ◌≤◌, Bool, true, false, List, [], ◌∷◌, ◌++◌, length, refl, sym, ap, subst, ◌∙◌, arith, if◌then◌else◌, Contains, All, flat_map}
-use Rattle.std.specs.List.{list_any, IsDistinct}
+use Rattle.std.specs.List.{AllByRecursion, list_any, IsDistinct}
 use Rattle.std.proofs.lemmas.List.Elements.{All-nil, All-cons}
 use Rattle.pri_reader.specs.declared.tree.Block.{Block}
 use Rattle.pri_reader.specs.declared.tree.File.{File}
 use Rattle.typed_formula.specs.Formula.{formula}
 use Rattle.pri_typing.specs.declared.problem.Problem.{Problem}
 use Rattle.pri_typing.specs.declared.declaration.Declaration.{Declaration}
-use Rattle.pri_typing.specs.declared.scope.Sort.TheVariants as sort
+use Rattle.pri_typing.specs.declared.scope.Category.TheVariants as category
 use Rattle.pri_typing.specs.Phrase.{Phrase, first_token}
 use Rattle.pri_typing.specs.Scope.{declarations, functions, predicates, constants, is_text}
 use Rattle.pri_typing.specs.Faults.{faults}
@@ -16,6 +16,7 @@ use Rattle.pri_typing.specs.Parts.{formula_faults, block_faults, is_cut, cuts_in
 use Rattle.pri_typing.specs.Files.{declaration_faults, problem_of, scope_of, parts_faults, file_faults, has_existential, IsTyped}
 use Rattle.pri_typing.specs.Ranges.{IsRanged}
 use Rattle.pri_typing.specs.Everywhere.{Property, Everywhere}
+use Rattle.pri_typing.specs.Limits.{HasSets}
 use Rattle.pri_typing.specs.WellFormed.{of_formulas, of_terms, IsNumberRanged, IsNameBelow, IsPredicateDeclared, IsFunctionDeclared, HasMember, IsLinear, IsPartBelow, IsPartOrTruth, SignedFormula, components_of, part_numbers, formula_components, IsDivision, IsWellFormed, HasDistinctNames}
 use Rattle.pri_typing.proofs.WellFormed.{nil_split, placed, formula_placed}
 use Rattle.pri_typing.proofs.Everywhere.{Follows, everywhere_more}
@@ -23,7 +24,7 @@ use Rattle.pri_typing.proofs.Declared.{few_symbols, proper}
 use Rattle.pri_typing.proofs.Distinct.{names_among, once_distinct, element_among}
 use Rattle.pri_typing.proofs.Dividing.{AreWhole, splits}
 use Rattle.pri_typing.proofs.Names.{distinct_names, names_same}
-use Rattle.pri_typing.proofs.Divisions.{AreCutsProper, divisions, no_cuts, each_place}
+use Rattle.pri_typing.proofs.Divisions.{divisions, no_cuts, each_place}
 
 -- Each point that is asked of a place follows from all of them.
 
@@ -51,7 +52,7 @@ of_parts ds parts = record { of_formula = λ n f h. h.1; of_term = λ n t h. tt 
 -- Cuts.
 
 -- the blocks that ask for cuts, and the formula, have no faults
-cut_free : (parts : List (List ℕ)) (existential : Bool) (blocks : List Block) (p : Phrase) → list_any is_cut blocks ≡ true → parts_faults parts existential blocks p ≡ []
+pub cut_free : (parts : List (List ℕ)) (existential : Bool) (blocks : List Block) (p : Phrase) → list_any is_cut blocks ≡ true → parts_faults parts existential blocks p ≡ []
     → (formula_faults true p ≡ []) × (flat_map (block_faults parts existential) blocks ≡ [])
 cut_free parts existential blocks p e h =
     let of_blocks = flat_map (block_faults parts existential) blocks in
@@ -61,7 +62,7 @@ all_whole : (cs : List SignedFormula) → AreWhole cs → All (λ c. IsPartOrTru
 all_whole [] h = All-nil (λ c. IsPartOrTruth c.what)
 all_whole (c ∷ cs) h = All-cons (λ c. IsPartOrTruth c.what) c cs h.0 (all_whole cs h.1)
 
-cuts_divide : (existential : Bool) (blocks : List Block) (p : Phrase) → AreCutsProper blocks → parts_faults (part_names p) existential blocks p ≡ []
+cuts_divide : (existential : Bool) (blocks : List Block) (p : Phrase) → AllByRecursion HasSets blocks → parts_faults (part_names p) existential blocks p ≡ []
     → All (IsDivision (length (part_names p))) (flat_map (cuts_in (part_names p)) blocks)
 cuts_divide existential blocks p proper_cuts h = by (list_any is_cut blocks) refl
   where
@@ -70,7 +71,7 @@ cuts_divide existential blocks p proper_cuts h = by (list_any is_cut blocks) ref
     by false e = subst (All (IsDivision (length (part_names p)))) (sym (no_cuts (part_names p) blocks e)) (All-nil (IsDivision (length (part_names p))))
 
 -- the blocks ask for a cut where there is one
-some_cut : (parts : List (List ℕ)) (blocks : List Block) → 1 ≤ length (flat_map (cuts_in parts) blocks) → list_any is_cut blocks ≡ true
+pub some_cut : (parts : List (List ℕ)) (blocks : List Block) → 1 ≤ length (flat_map (cuts_in parts) blocks) → list_any is_cut blocks ≡ true
 some_cut parts blocks h = by (list_any is_cut blocks) refl
   where
     by : (b : Bool) → list_any is_cut blocks ≡ b → b ≡ true
@@ -93,13 +94,13 @@ divisible blocks cs is e =
 
 -- All together.
 
-pub well_formed : (f : File) (p : Problem) → file_faults f ≡ [] → IsTyped f p → IsRanged (problem_of f.blocks) → AreCutsProper f.blocks → IsWellFormed p
+pub well_formed : (f : File) (p : Problem) → file_faults f ≡ [] → IsTyped f p → IsRanged (problem_of f.blocks) → AllByRecursion HasSets f.blocks → IsWellFormed p
 well_formed f p e t ranged proper_cuts =
     let ds = declarations f.blocks in
     let q = problem_of f.blocks in
     let parts = part_names q in
     let s = scope_of f.blocks in
-    let own = faults s sort.Formula (first_token q) q in
+    let own = faults s category.Formula (first_token q) q in
     let front = nil_split (declaration_faults [] ds ++ own) (parts_faults parts (has_existential ds) f.blocks q) e in
     let both = nil_split (declaration_faults [] ds) own front.0 in
     let all = formula_placed s (first_token q) q (proper f.blocks) both.1 ranged (names_among [] (parts_in q)) in
@@ -132,7 +133,7 @@ pub declarations_free : (f : File) → file_faults f ≡ [] → declaration_faul
 declarations_free f e =
     let ds = declarations f.blocks in
     let q = problem_of f.blocks in
-    let own = faults (scope_of f.blocks) sort.Formula (first_token q) q in
+    let own = faults (scope_of f.blocks) category.Formula (first_token q) q in
     (nil_split (declaration_faults [] ds) own (nil_split (declaration_faults [] ds ++ own) (parts_faults (part_names q) (has_existential ds) f.blocks q) e).0).0
 
 pub names_differ : (f : File) (p : Problem) → file_faults f ≡ [] → IsTyped f p → HasDistinctNames p

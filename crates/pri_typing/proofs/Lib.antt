@@ -23,3 +23,9 @@ pub mod Resolving
 pub mod Shallow
 pub mod Counted
 pub mod Answered
+pub mod Purity
+pub mod Universal
+pub mod Sides
+pub mod CutConstants
+pub mod Saying
+pub mod Identified

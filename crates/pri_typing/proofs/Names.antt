@@ -56,11 +56,11 @@ once_middle t (x ∷ xs) ys e h =
     (none_middle x t xs ys (text_other t x apart.0) h.0, once_middle t xs ys apart.1 h.1)
 
 -- one list is another with one more text in it
-record Inserted (t : List ℕ) (old new : List (List ℕ)) : Type 0 where
-  front : List (List ℕ)
-  back : List (List ℕ)
-  old_is : old ≡ front ++ back
-  new_is : new ≡ front ++ t ∷ back
+pub record Inserted (t : List ℕ) (old new : List (List ℕ)) : Type 0 where
+  pub front : List (List ℕ)
+  pub back : List (List ℕ)
+  pub old_is : old ≡ front ++ back
+  pub new_is : new ≡ front ++ t ∷ back
 
 once_inserted : (t : List ℕ) (old new : List (List ℕ)) → Inserted t old new → is_among t old ≡ false → AreOnce old → AreOnce new
 once_inserted t old new i e h =
@@ -69,7 +69,7 @@ once_inserted t old new i e h =
 none_inserted : (t u : List ℕ) (old new : List (List ℕ)) → Inserted t old new → is_text u t ≡ false → is_among u old ≡ false → is_among u new ≡ false
 none_inserted t u old new i e h = ap (is_among u) i.new_is ∙ none_middle u t i.front i.back e (sym (ap (is_among u) i.old_is) ∙ h)
 
-one_more : (d : Declaration) (ds : List Declaration) → Inserted d.text (by_kinds ds) (by_kinds (d ∷ ds))
+pub one_more : (d : Declaration) (ds : List Declaration) → Inserted d.text (by_kinds ds) (by_kinds (d ∷ ds))
 one_more d ds = by d.kind
   where
     names : List Symbol → List (List ℕ)

@@ -8,9 +8,10 @@ use Rattle.pri_reader.specs.declared.tree.Added.{Added}
 use Rattle.pri_reader.specs.declared.tree.Block.{Block}
 use Rattle.pri_reader.specs.declared.tree.Block.TheVariants as block
 use Rattle.pri_reader.specs.declared.tree.File.{File}
-use Rattle.pri_reader.specs.Grammar.{Setting, Right, equivalence, implication, multiplication, Chain, disjunction, conjunction, Part, expr, join, chained, added, summed, paired, value_of, Derives, right_one, right_two, chain_all, unary_not, unary_bound, unary_grouped, unary_part, unary_rel, rel_one, rel_two, sum_all, factor_minus, factor_primary, number, truth, use_bare, use_empty, use_applied, group, conditional, absolute, pair, parentheses, Members, member_first, member_next, Terms, term_first, term_next, Arguments, argument_first, argument_next, Declaration, block_constants, block_items, block_problem, block_interpolant, Blocks, blocks_none, blocks_next, IsFile}
+use Rattle.pri_reader.specs.Grammar as grammar
+use Rattle.pri_reader.specs.Grammar.{Setting, Right, Chain, Part, expr, join, chained, added, summed, paired, value_of, Derives, Members, Terms, Arguments, Declaration, Blocks, IsFile}
 use Rattle.pri_typing.specs.Phrase.{Phrase, phrase, phrase_of, phrases_of, addends_of, and_addend}
-use Rattle.pri_typing.specs.Ranges.{IsRanged, AreRanged, AreAddedRanged, IsBlockRanged, AreBlocksRanged}
+use Rattle.pri_typing.specs.Ranges.{IsRanged, AreRanged, AreAddedRanged}
 use Rattle.pri_typing.specs.Files.{problem_of}
 use Rattle.pri_typing.proofs.Folds.{phrase-form, addend-term, phrase-Number, phrase-Truth, phrase-Use, phrase-Group, phrase-If, phrase-Abs, phrase-Min, phrase-Max, phrase-Minus, phrase-Product, phrase-Sum, phrase-Compare, phrase-Not, phrase-Quantified, phrase-Part, phrase-And, phrase-Or, phrase-Implies, phrase-Iff}
 
@@ -32,14 +33,14 @@ added_ranged [] a h k = added_first a [] k (tt {0})
 added_ranged (b ∷ more) a h k = let split = added_split b more h in added_first b (more ++ a ∷ []) split.0 (added_ranged more a split.1 k)
 
 joined : (r : Right) (f : Expr) (at : ℕ) (g : Expr) → IsRanged (phrase f) → IsRanged (phrase g) → IsRanged (phrase (join r f at g))
-joined equivalence f at g h k = at_form f.at (form.Iff f g) _ (phrase-Iff f g f.at) (h, k)
-joined implication f at g h k = at_form f.at (form.Implies f g) _ (phrase-Implies f g f.at) (h, k)
-joined multiplication f at g h k = at_form f.at (form.Product f at g) _ (phrase-Product f at g f.at) (h, k)
+joined grammar.equivalence f at g h k = at_form f.at (form.Iff f g) _ (phrase-Iff f g f.at) (h, k)
+joined grammar.implication f at g h k = at_form f.at (form.Implies f g) _ (phrase-Implies f g f.at) (h, k)
+joined grammar.multiplication f at g h k = at_form f.at (form.Product f at g) _ (phrase-Product f at g f.at) (h, k)
 
 chained-ranged : (c : Chain) (fs : List Expr) (f : Expr) → AreRanged (phrases_of fs) → IsRanged (phrase f) → IsRanged (phrase (chained c fs f))
 chained-ranged c [] f h k = k
-chained-ranged disjunction (g ∷ gs) f h k = at_form g.at (form.Or ((g ∷ gs) ++ f ∷ [])) _ (phrase-Or ((g ∷ gs) ++ f ∷ []) g.at) (many_ranged (g ∷ gs) f h k)
-chained-ranged conjunction (g ∷ gs) f h k = at_form g.at (form.And ((g ∷ gs) ++ f ∷ [])) _ (phrase-And ((g ∷ gs) ++ f ∷ []) g.at) (many_ranged (g ∷ gs) f h k)
+chained-ranged grammar.disjunction (g ∷ gs) f h k = at_form g.at (form.Or ((g ∷ gs) ++ f ∷ [])) _ (phrase-Or ((g ∷ gs) ++ f ∷ []) g.at) (many_ranged (g ∷ gs) f h k)
+chained-ranged grammar.conjunction (g ∷ gs) f h k = at_form g.at (form.And ((g ∷ gs) ++ f ∷ [])) _ (phrase-And ((g ∷ gs) ++ f ∷ []) g.at) (many_ranged (g ∷ gs) f h k)
 
 summed-ranged : (before : List Added) (sign : Bool) (f : Expr) → AreAddedRanged (addends_of before) → IsRanged (phrase f) → IsRanged (phrase (summed before sign f))
 summed-ranged [] sign f h k = k
@@ -57,49 +58,58 @@ IsSmall s = (rest : List Lexeme) (n : ℕ) → s.small rest n ≡ true → n < 2
 
 mutual
   pub derived_ranged : {s : Setting} {d : ℕ} {part : Part} {e : Expr} {tokens rest : List Lexeme} → IsSmall s → Derives s d part e tokens rest → IsRanged (phrase e)
-  derived_ranged b (right_one u) = derived_ranged b u
-  derived_ranged b (right_two {r = r} {f = f} {g = g} {x = x} u t o v) = joined r f x.at g (derived_ranged b u) (derived_ranged b v)
-  derived_ranged b (chain_all {c = c} {fs = fs} {f = f} m) = let both = members_ranged b m in chained-ranged c fs f both.0 both.1
-  derived_ranged b (unary_not {f = f} {x = x} t o u) = at_form x.at (form.Not f) _ (phrase-Not f x.at) (derived_ranged b u)
-  derived_ranged b (unary_bound {all = all} {names = names} {f = f} {x = x} t n s u) = at_form x.at (form.Quantified all names f) _ (phrase-Quantified all names f x.at) (derived_ranged b u)
-  derived_ranged b (unary_grouped {all = all} {names = names} {f = f} {x = x} t o n c u) = at_form x.at (form.Quantified all names f) _ (phrase-Quantified all names f x.at) (derived_ranged b u)
-  derived_ranged b (unary_part {f = f} {x = x} {n = n} t o p m c u) = at_form x.at (form.Part _ f) _ (phrase-Part _ f x.at) (derived_ranged b u)
-  derived_ranged b (unary_rel u) = derived_ranged b u
-  derived_ranged b (rel_one u) = derived_ranged b u
-  derived_ranged b (rel_two {c = c} {f = f} {g = g} u t v) = at_form f.at (form.Compare c f g) _ (phrase-Compare c f g f.at) (derived_ranged b u, derived_ranged b v)
-  derived_ranged b (sum_all {before = before} {sign = sign} {f = f} m) = let both = terms_ranged b m in summed-ranged before sign f both.0 both.1
-  derived_ranged b (factor_minus {f = f} {x = x} t o u) = at_form x.at (form.Minus f) _ (phrase-Minus f x.at) (derived_ranged b u)
-  derived_ranged b (factor_primary u) = derived_ranged b u
-  derived_ranged {s} b (number {x = x} {rest = rest} t small) = at_form x.at (form.Number (pos (value_of s x))) _ (phrase-Number (pos (value_of s x)) x.at) (b rest (value_of s x) small)
-  derived_ranged b (truth {b = v} {x = x} t) = at_form x.at (form.Truth v) _ (phrase-Truth v x.at) (tt {0})
-  derived_ranged b (use_bare {x = x} t) = at_form x.at (form.Use _ []) _ (phrase-Use _ [] x.at) (tt {0})
-  derived_ranged b (use_empty {x = x} t o p c) = at_form x.at (form.Use _ []) _ (phrase-Use _ [] x.at) (tt {0})
-  derived_ranged b (use_applied {fs = fs} {f = f} {x = x} t o p m c) = let both = arguments_ranged b m in at_form x.at (form.Use _ (fs ++ f ∷ [])) _ (phrase-Use _ (fs ++ f ∷ []) x.at) (many_ranged fs f both.0 both.1)
-  derived_ranged b (group {f = f} {x = x} t u) = at_form x.at (form.Group f) _ (phrase-Group f x.at) (derived_ranged b u)
-  derived_ranged b (conditional {c = c} {f = f} {g = g} {x = x} t u y v z w) = at_form x.at (form.If c f g) _ (phrase-If c f g x.at) (derived_ranged b u, derived_ranged b v, derived_ranged b w)
-  derived_ranged b (absolute {f = f} {x = x} t u) = at_form x.at (form.Abs f) _ (phrase-Abs f x.at) (derived_ranged b u)
-  derived_ranged b (pair max {f = f} {g = g} {x = x} t o p u c v e) = paired-ranged max x.at f g (derived_ranged b u) (derived_ranged b v)
-  derived_ranged b (parentheses o p u c) = derived_ranged b u
+  derived_ranged b (grammar.right_one u) = derived_ranged b u
+  derived_ranged b (grammar.right_two {r = r} {f = f} {g = g} {x = x} u t o v) = joined r f x.at g (derived_ranged b u) (derived_ranged b v)
+  derived_ranged b (grammar.chain_all {c = c} {fs = fs} {f = f} m) = let both = members_ranged b m in chained-ranged c fs f both.0 both.1
+  derived_ranged b (grammar.unary_not {f = f} {x = x} t o u) = at_form x.at (form.Not f) _ (phrase-Not f x.at) (derived_ranged b u)
+  derived_ranged b (grammar.unary_bound {all = all} {names = names} {f = f} {x = x} t n s u) = at_form x.at (form.Quantified all names f) _ (phrase-Quantified all names f x.at) (derived_ranged b u)
+  derived_ranged b (grammar.unary_grouped {all = all} {names = names} {f = f} {x = x} t o n c u) = at_form x.at (form.Quantified all names f) _ (phrase-Quantified all names f x.at) (derived_ranged b u)
+  derived_ranged b (grammar.unary_part {f = f} {x = x} {n = n} t o p m c u) = at_form x.at (form.Part _ f) _ (phrase-Part _ f x.at) (derived_ranged b u)
+  derived_ranged b (grammar.unary_rel u) = derived_ranged b u
+  derived_ranged b (grammar.rel_one u) = derived_ranged b u
+  derived_ranged b (grammar.rel_two {c = c} {f = f} {g = g} u t v) = at_form f.at (form.Compare c f g) _ (phrase-Compare c f g f.at) (derived_ranged b u, derived_ranged b v)
+  derived_ranged b (grammar.sum_all {before = before} {sign = sign} {f = f} m) = let both = terms_ranged b m in summed-ranged before sign f both.0 both.1
+  derived_ranged b (grammar.factor_minus {f = f} {x = x} t o u) = at_form x.at (form.Minus f) _ (phrase-Minus f x.at) (derived_ranged b u)
+  derived_ranged b (grammar.factor_primary u) = derived_ranged b u
+  derived_ranged {s} b (grammar.number {x = x} {rest = rest} t small) = at_form x.at (form.Number (pos (value_of s x))) _ (phrase-Number (pos (value_of s x)) x.at) (b rest (value_of s x) small)
+  derived_ranged b (grammar.truth {b = v} {x = x} t) = at_form x.at (form.Truth v) _ (phrase-Truth v x.at) (tt {0})
+  derived_ranged b (grammar.use_bare {x = x} t) = at_form x.at (form.Use _ []) _ (phrase-Use _ [] x.at) (tt {0})
+  derived_ranged b (grammar.use_empty {x = x} t o p c) = at_form x.at (form.Use _ []) _ (phrase-Use _ [] x.at) (tt {0})
+  derived_ranged b (grammar.use_applied {fs = fs} {f = f} {x = x} t o p m c) = let both = arguments_ranged b m in at_form x.at (form.Use _ (fs ++ f ∷ [])) _ (phrase-Use _ (fs ++ f ∷ []) x.at) (many_ranged fs f both.0 both.1)
+  derived_ranged b (grammar.group {f = f} {x = x} t u) = at_form x.at (form.Group f) _ (phrase-Group f x.at) (derived_ranged b u)
+  derived_ranged b (grammar.conditional {c = c} {f = f} {g = g} {x = x} t u y v z w) = at_form x.at (form.If c f g) _ (phrase-If c f g x.at) (derived_ranged b u, derived_ranged b v, derived_ranged b w)
+  derived_ranged b (grammar.absolute {f = f} {x = x} t u) = at_form x.at (form.Abs f) _ (phrase-Abs f x.at) (derived_ranged b u)
+  derived_ranged b (grammar.pair max {f = f} {g = g} {x = x} t o p u c v e) = paired-ranged max x.at f g (derived_ranged b u) (derived_ranged b v)
+  derived_ranged b (grammar.parentheses o p u c) = derived_ranged b u
 
   members_ranged : {s : Setting} {d : ℕ} {c : Chain} {fs : List Expr} {f : Expr} {tokens rest : List Lexeme} → IsSmall s → Members s d c fs f tokens rest → AreRanged (phrases_of fs) × IsRanged (phrase f)
-  members_ranged b (member_first u) = (tt {0}, derived_ranged b u)
-  members_ranged b (member_next {fs = fs} {f = f} m t u) = let both = members_ranged b m in (many_ranged fs f both.0 both.1, derived_ranged b u)
+  members_ranged b (grammar.member_first u) = (tt {0}, derived_ranged b u)
+  members_ranged b (grammar.member_next {fs = fs} {f = f} m t u) = let both = members_ranged b m in (many_ranged fs f both.0 both.1, derived_ranged b u)
 
   terms_ranged : {s : Setting} {d : ℕ} {before : List Added} {sign : Bool} {f : Expr} {tokens rest : List Lexeme} → IsSmall s → Terms s d before sign f tokens rest → AreAddedRanged (addends_of before) × IsRanged (phrase f)
-  terms_ranged b (term_first u) = (tt {0}, derived_ranged b u)
-  terms_ranged b (term_next {before = before} {old = old} {f = f} m t u) = let both = terms_ranged b m in (added_ranged before (added old f) both.0 both.1, derived_ranged b u)
+  terms_ranged b (grammar.term_first u) = (tt {0}, derived_ranged b u)
+  terms_ranged b (grammar.term_next {before = before} {old = old} {f = f} m t u) = let both = terms_ranged b m in (added_ranged before (added old f) both.0 both.1, derived_ranged b u)
 
   arguments_ranged : {s : Setting} {d : ℕ} {fs : List Expr} {f : Expr} {tokens rest : List Lexeme} → IsSmall s → Arguments s d fs f tokens rest → AreRanged (phrases_of fs) × IsRanged (phrase f)
-  arguments_ranged b (argument_first u) = (tt {0}, derived_ranged b u)
-  arguments_ranged b (argument_next {fs = fs} {f = f} m t u) = let both = arguments_ranged b m in (many_ranged fs f both.0 both.1, derived_ranged b u)
+  arguments_ranged b (grammar.argument_first u) = (tt {0}, derived_ranged b u)
+  arguments_ranged b (grammar.argument_next {fs = fs} {f = f} m t u) = let both = arguments_ranged b m in (many_ranged fs f both.0 both.1, derived_ranged b u)
+
+abbrev IsBlockRanged : Block → Type 0
+IsBlockRanged (block.Problem at e) = IsRanged (phrase e)
+IsBlockRanged _ = Unit {0}
+
+-- of each block
+abbrev AreBlocksRanged : List Block → Type 0
+AreBlocksRanged [] = Unit {0}
+AreBlocksRanged (b ∷ blocks) = IsBlockRanged b × AreBlocksRanged blocks
 
 block_ranged : {s : Setting} {b : Block} {tokens rest : List Lexeme} → IsSmall s → Declaration s b tokens rest → IsBlockRanged b
-block_ranged b (block_constants true t o n c) = tt {0}
-block_ranged b (block_constants false t o n c) = tt {0}
-block_ranged b (block_items true t o n c) = tt {0}
-block_ranged b (block_items false t o n c) = tt {0}
-block_ranged b (block_problem t o u c) = derived_ranged b u
-block_ranged b (block_interpolant t o m l c) = tt {0}
+block_ranged b (grammar.block_constants true t o n c) = tt {0}
+block_ranged b (grammar.block_constants false t o n c) = tt {0}
+block_ranged b (grammar.block_items true t o n c) = tt {0}
+block_ranged b (grammar.block_items false t o n c) = tt {0}
+block_ranged b (grammar.block_problem t o u c) = derived_ranged b u
+block_ranged b (grammar.block_interpolant t o m l c) = tt {0}
 
 behind_ranged : (blocks : List Block) (b : Block) → AreBlocksRanged blocks → IsBlockRanged b → AreBlocksRanged (blocks ++ b ∷ [])
 behind_ranged [] b h k = (k, tt {0})
@@ -107,7 +117,7 @@ behind_ranged (c ∷ blocks) b h k = (h.0, behind_ranged blocks b h.1 k)
 
 blocks_ranged : {s : Setting} {blocks : List Block} {tokens rest : List Lexeme} → IsSmall s → Blocks s blocks tokens rest → AreBlocksRanged blocks
 blocks_ranged s blocks_none = tt {0}
-blocks_ranged s (blocks_next {blocks = blocks} {b = b} m d n) = behind_ranged blocks b (blocks_ranged s m) (block_ranged s d)
+blocks_ranged s (grammar.blocks_next {blocks = blocks} {b = b} m d n) = behind_ranged blocks b (blocks_ranged s m) (block_ranged s d)
 
 problem_in : (blocks : List Block) → AreBlocksRanged blocks → IsRanged (problem_of blocks)
 problem_in [] h = tt {0}

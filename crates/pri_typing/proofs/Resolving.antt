@@ -6,11 +6,11 @@ use Rattle.pri_typing.specs.declared.declaration.Declaration.{Declaration}
 use Rattle.pri_typing.specs.declared.problem.Problem.{Problem}
 use Rattle.pri_typing.specs.declared.problem.TypeRefusal.{TypeRefusal}
 use Rattle.pri_typing.specs.declared.problem.TypeRefusal.TheVariants.{Many, Redeclared}
-use Rattle.pri_typing.specs.declared.scope.Place.{Place}
-use Rattle.pri_typing.specs.declared.scope.Sort.TheVariants.{Formula}
+use Rattle.pri_typing.specs.declared.scope.Site.{Site}
+use Rattle.pri_typing.specs.declared.scope.Category.TheVariants.{Formula}
 use Rattle.pri_typing.specs.Phrase.{Phrase, first_token}
 use Rattle.pri_typing.specs.Scope.{declarations, existentials, universals, functions, predicates, is_among}
-use Rattle.pri_typing.specs.Bounds.{bound_texts, scope_at}
+use Rattle.pri_typing.specs.Sites.{bound_texts, scope_at}
 use Rattle.pri_typing.specs.Faults.{least, earlier, faults}
 use Rattle.pri_typing.specs.Typing.{says, applications, first_of, part_names}
 use Rattle.pri_typing.specs.Parts.{is_cut, formula_faults, block_faults, cuts_in}
@@ -77,7 +77,7 @@ few_symbols blocks h =
     omega (arith, all)
 
 -- the place of a formula of a file without faults is one where all numbers fit
-pub ready_is : (blocks : List Block) (here : Place) (p : Phrase) → here.symbols.now ≡ declarations blocks → here.parts.now ≡ part_names p → bound_texts here.bound.now ≡ []
+pub ready_is : (blocks : List Block) (here : Site) (p : Phrase) → here.symbols.now ≡ declarations blocks → here.parts.now ≡ part_names p → bound_texts here.bound.now ≡ []
     → p ≡ problem_of blocks → IsResolvable blocks → least (file_faults (record { blocks = blocks })) ≡ None → IsReady here p
 ready_is blocks here p e f g h limits none = record {
   fit = record {
@@ -88,7 +88,7 @@ ready_is blocks here p e f g h limits none = record {
   shallow = subst (λ z. IsShallow (length z) p) (sym g) (subst (IsShallow 0) (sym h) limits.shallow);
 }
 
-pub typed_is : (blocks : List Block) (here : Place) (p : Phrase) (q : Problem) → here.symbols.now ≡ declarations blocks → here.parts.now ≡ part_names p
+pub typed_is : (blocks : List Block) (here : Site) (p : Phrase) (q : Problem) → here.symbols.now ≡ declarations blocks → here.parts.now ≡ part_names p
     → bound_texts here.bound.now ≡ [] → p ≡ problem_of blocks → IsPosed here blocks p q → IsTyped (record { blocks = blocks }) q
 typed_is blocks here p q e f g h posed =
     let scope : scope_at here ≡ scope_of blocks = λ i. record { declared = e i; parts = (f ∙ ap part_names h) i; bound = g i } in

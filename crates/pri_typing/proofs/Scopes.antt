@@ -8,9 +8,9 @@ use Rattle.std.proofs.lemmas.List.{length-map}
 use Rattle.indexmap.specs.IndexSet.{insert_key}
 use Rattle.pri_reader.specs.declared.tree.Name.{Name}
 use Rattle.pri_typing.specs.Scope.{place, is_text, is_among, with_text, bind, depth_of}
-use Rattle.pri_typing.specs.Bounds.{last_or, last_place, bound_texts}
-use Rattle.pri_typing.specs.declared.scope.Bound.{Bound}
-use Rattle.pri_typing.specs.declared.scope.Bound.TheViews as bound
+use Rattle.pri_typing.specs.Sites.{last_or, last_place, bound_texts}
+use Rattle.pri_typing.specs.declared.scope.BoundNames.{BoundNames}
+use Rattle.pri_typing.specs.declared.scope.BoundNames.TheViews as bound
 use Rattle.std.specs.Option.{IfSome}
 
 -- Texts that are kept as vectors.
@@ -40,7 +40,7 @@ inserted_is ks k = by (list_any (λ y. is_text k.items y.items) ks) ∙ ap (λ z
     by true = refl
     by false = map-append ks (k ∷ [])
 
--- Bound names.
+-- BoundNames names.
 
 pub last_place-append : (t : List ℕ) (names : List Name) (n : Name) → last_place t (names ++ n ∷ []) ≡ (if is_text t n.text then Some (length names) else last_place t names)
 last_place-append t [] n = refl
@@ -85,7 +85,7 @@ pub length-bind : (names : List Name) (outer : List (List ℕ)) → length (bind
 length-bind [] outer = omega arith
 length-bind (n ∷ names) outer = length-bind names (n.text ∷ outer) ∙ omega arith
 
-pub bound_more : (b : Bound) (names : Bor (List Name)) (outer : Bor Bound) → b ≡ bound.More names outer → length (bound_texts b) ≡ length names.now + length (bound_texts outer.now)
+pub bound_more : (b : BoundNames) (names : Bor (List Name)) (outer : Bor BoundNames) → b ≡ bound.More names outer → length (bound_texts b) ≡ length names.now + length (bound_texts outer.now)
 bound_more b names outer e = ap (λ z. length (bound_texts z)) e ∙ length-bind names.now (bound_texts outer.now)
 
 pub last_place-within : (t : List ℕ) (names : List Name) → IfSome (last_place t names) (λ i. i < length names)
@@ -97,7 +97,7 @@ last_place-within t (n ∷ names) = by (last_place t names) (is_text t n.text) (
     by None true h = omega arith
     by None false h = tt
 
-pub depth_of-more : (t : List ℕ) (b : Bound) (names : Bor (List Name)) (outer : Bor Bound) → b ≡ bound.More names outer
+pub depth_of-more : (t : List ℕ) (b : BoundNames) (names : Bor (List Name)) (outer : Bor BoundNames) → b ≡ bound.More names outer
     → depth_of t (bound_texts b) ≡ depth_by t (bound_texts outer.now) (last_place t names.now)
 depth_of-more t b names outer e = ap (λ z. depth_of t (bound_texts z)) e ∙ depth_of-bind t names.now (bound_texts outer.now)
 

@@ -8,13 +8,14 @@ use Rattle.pri_reader.specs.declared.tree.Added.{Added}
 use Rattle.pri_reader.specs.declared.tree.Block.{Block}
 use Rattle.pri_reader.specs.declared.tree.Block.TheVariants as block
 use Rattle.pri_reader.specs.declared.tree.File.{File}
-use Rattle.pri_reader.specs.Grammar.{Setting, Right, equivalence, implication, multiplication, Chain, disjunction, conjunction, Part, expr, join, chained, added, summed, paired, value_of, Derives, right_one, right_two, chain_all, unary_not, unary_bound, unary_grouped, unary_part, unary_rel, rel_one, rel_two, sum_all, factor_minus, factor_primary, number, truth, use_bare, use_empty, use_applied, group, conditional, absolute, pair, parentheses, Members, member_first, member_next, Terms, term_first, term_next, Arguments, argument_first, argument_next, Declaration, block_constants, block_items, block_problem, block_interpolant, Blocks, blocks_none, blocks_next, IsFile}
+use Rattle.pri_reader.specs.Grammar as grammar
+use Rattle.pri_reader.specs.Grammar.{Setting, Right, Chain, Part, expr, join, chained, added, summed, paired, value_of, Derives, Members, Terms, Arguments, Declaration, Blocks, IsFile}
 use Rattle.pri_typing.specs.Phrase.{Phrase, phrase, phrase_of, phrases_of, addends_of, and_addend}
 use Rattle.std.proofs.lemmas.Bool.{ltb-true}
 use Rattle.pri_reader.specs.declared.tree.Name.{Name}
-use Rattle.pri_reader.specs.Grammar.{Bound, bound_first, bound_next, bound_line}
+use Rattle.pri_reader.specs.Grammar.{Binding, bound_first, bound_next, bound_line}
 use Rattle.pri_reader.specs.Reading.{file_setting}
-use Rattle.pri_typing.specs.Bounds.{most_bound}
+use Rattle.pri_typing.specs.Sites.{most_bound}
 use Rattle.pri_typing.specs.Limits.{IsShallow, AreShallow, AddendsAreShallow}
 use Rattle.pri_typing.specs.Files.{problem_of}
 use Rattle.pri_typing.proofs.Folds.{phrase-form, addend-term, phrase-Number, phrase-Truth, phrase-Use, phrase-Group, phrase-If, phrase-Abs, phrase-Min, phrase-Max, phrase-Minus, phrase-Product, phrase-Sum, phrase-Compare, phrase-Not, phrase-Quantified, phrase-Part, phrase-And, phrase-Or, phrase-Implies, phrase-Iff}
@@ -37,14 +38,14 @@ added_shallow n [] a h k = added_first n a [] k (tt {0})
 added_shallow n (b ∷ more) a h k = let split = added_split n b more h in added_first n b (more ++ a ∷ []) split.0 (added_shallow n more a split.1 k)
 
 joined : (n : ℕ) (r : Right) (f : Expr) (at : ℕ) (g : Expr) → IsShallow n (phrase f) → IsShallow n (phrase g) → IsShallow n (phrase (join r f at g))
-joined n equivalence f at g h k = at_form n f.at (form.Iff f g) _ (phrase-Iff f g f.at) (h, k)
-joined n implication f at g h k = at_form n f.at (form.Implies f g) _ (phrase-Implies f g f.at) (h, k)
-joined n multiplication f at g h k = at_form n f.at (form.Product f at g) _ (phrase-Product f at g f.at) (h, k)
+joined n grammar.equivalence f at g h k = at_form n f.at (form.Iff f g) _ (phrase-Iff f g f.at) (h, k)
+joined n grammar.implication f at g h k = at_form n f.at (form.Implies f g) _ (phrase-Implies f g f.at) (h, k)
+joined n grammar.multiplication f at g h k = at_form n f.at (form.Product f at g) _ (phrase-Product f at g f.at) (h, k)
 
 chained-shallow : (n : ℕ) (c : Chain) (fs : List Expr) (f : Expr) → AreShallow n (phrases_of fs) → IsShallow n (phrase f) → IsShallow n (phrase (chained c fs f))
 chained-shallow n c [] f h k = k
-chained-shallow n disjunction (g ∷ gs) f h k = at_form n g.at (form.Or ((g ∷ gs) ++ f ∷ [])) _ (phrase-Or ((g ∷ gs) ++ f ∷ []) g.at) (many_shallow n (g ∷ gs) f h k)
-chained-shallow n conjunction (g ∷ gs) f h k = at_form n g.at (form.And ((g ∷ gs) ++ f ∷ [])) _ (phrase-And ((g ∷ gs) ++ f ∷ []) g.at) (many_shallow n (g ∷ gs) f h k)
+chained-shallow n grammar.disjunction (g ∷ gs) f h k = at_form n g.at (form.Or ((g ∷ gs) ++ f ∷ [])) _ (phrase-Or ((g ∷ gs) ++ f ∷ []) g.at) (many_shallow n (g ∷ gs) f h k)
+chained-shallow n grammar.conjunction (g ∷ gs) f h k = at_form n g.at (form.And ((g ∷ gs) ++ f ∷ [])) _ (phrase-And ((g ∷ gs) ++ f ∷ []) g.at) (many_shallow n (g ∷ gs) f h k)
 
 summed-shallow : (n : ℕ) (before : List Added) (sign : Bool) (f : Expr) → AddendsAreShallow n (addends_of before) → IsShallow n (phrase f) → IsShallow n (phrase (summed before sign f))
 summed-shallow n [] sign f h k = k
@@ -68,7 +69,7 @@ next_level : (d e k l : ℕ) → e ≡ k + d → l ≡ suc k → suc e ≡ l + d
 next_level d e k l is more = omega (arith, is, more)
 
 -- each bound name opens a level
-bound_levels : {s : Setting} {several : Bool} {d e : ℕ} {names : List Name} {tokens rest : List Lexeme} → IsLimited s → Bound s several d e names tokens rest → (e ≡ length names + d) × (e ≤ most_bound)
+bound_levels : {s : Setting} {several : Bool} {d e : ℕ} {names : List Name} {tokens rest : List Lexeme} → IsLimited s → Binding s several d e names tokens rest → (e ≡ length names + d) × (e ≤ most_bound)
 bound_levels {d = d} b (bound_first {rest = rest} i x o) = (omega arith, let lt : d < most_bound = b rest d o in omega (arith, lt))
 bound_levels {d = d} b (bound_next {e = e} {names = names} {rest = rest} m c x o) =
     let before = bound_levels b m in let lt : e < most_bound = b rest e o in
@@ -93,45 +94,45 @@ quantified-shallow n d e at all names f le levels h = at_form n at (form.Quantif
 
 mutual
   pub derived_shallow : {s : Setting} {d : ℕ} {part : Part} {e : Expr} {tokens rest : List Lexeme} → IsLimited s → (n : ℕ) → n ≤ d → Derives s d part e tokens rest → IsShallow n (phrase e)
-  derived_shallow b n le (right_one u) = derived_shallow b n le u
-  derived_shallow b n le (right_two {r = r} {f = f} {g = g} {x = x} u t o v) = joined n r f x.at g (derived_shallow b n le u) (derived_shallow b n (up le) v)
-  derived_shallow b n le (chain_all {c = c} {fs = fs} {f = f} m) = let both = members_shallow b n le m in chained-shallow n c fs f both.0 both.1
-  derived_shallow b n le (unary_not {f = f} {x = x} t o u) = at_form n x.at (form.Not f) _ (phrase-Not f x.at) (derived_shallow b n (up le) u)
-  derived_shallow {d = d} b n le (unary_bound {e = e} {all = all} {names = names} {f = f} {x = x} t m s u) =
+  derived_shallow b n le (grammar.right_one u) = derived_shallow b n le u
+  derived_shallow b n le (grammar.right_two {r = r} {f = f} {g = g} {x = x} u t o v) = joined n r f x.at g (derived_shallow b n le u) (derived_shallow b n (up le) v)
+  derived_shallow b n le (grammar.chain_all {c = c} {fs = fs} {f = f} m) = let both = members_shallow b n le m in chained-shallow n c fs f both.0 both.1
+  derived_shallow b n le (grammar.unary_not {f = f} {x = x} t o u) = at_form n x.at (form.Not f) _ (phrase-Not f x.at) (derived_shallow b n (up le) u)
+  derived_shallow {d = d} b n le (grammar.unary_bound {e = e} {all = all} {names = names} {f = f} {x = x} t m s u) =
       let levels = bound_levels b m in quantified-shallow n d e x.at all names f le levels (derived_shallow b (length names + n) (under n d e (length names) le levels.0) u)
-  derived_shallow {d = d} b n le (unary_grouped {e = e} {all = all} {names = names} {f = f} {x = x} t o m c u) =
+  derived_shallow {d = d} b n le (grammar.unary_grouped {e = e} {all = all} {names = names} {f = f} {x = x} t o m c u) =
       let levels = bound_levels b m in quantified-shallow n d e x.at all names f le levels (derived_shallow b (length names + n) (under n d e (length names) le levels.0) u)
-  derived_shallow b n le (unary_part {f = f} {x = x} t o p m c u) = at_form n x.at (form.Part _ f) _ (phrase-Part _ f x.at) (derived_shallow b n (up le) u)
-  derived_shallow b n le (unary_rel u) = derived_shallow b n le u
-  derived_shallow b n le (rel_one u) = derived_shallow b n le u
-  derived_shallow b n le (rel_two {c = c} {f = f} {g = g} u t v) = at_form n f.at (form.Compare c f g) _ (phrase-Compare c f g f.at) (derived_shallow b n le u, derived_shallow b n le v)
-  derived_shallow b n le (sum_all {before = before} {sign = sign} {f = f} m) = let both = terms_shallow b n le m in summed-shallow n before sign f both.0 both.1
-  derived_shallow b n le (factor_minus {f = f} {x = x} t o u) = at_form n x.at (form.Minus f) _ (phrase-Minus f x.at) (derived_shallow b n (up le) u)
-  derived_shallow b n le (factor_primary u) = derived_shallow b n le u
-  derived_shallow {s} b n le (number {x = x} {rest = rest} t small) = at_form n x.at (form.Number (pos (value_of s x))) _ (phrase-Number (pos (value_of s x)) x.at) (tt {0})
-  derived_shallow b n le (truth {b = v} {x = x} t) = at_form n x.at (form.Truth v) _ (phrase-Truth v x.at) (tt {0})
-  derived_shallow b n le (use_bare {x = x} t) = at_form n x.at (form.Use _ []) _ (phrase-Use _ [] x.at) (tt {0})
-  derived_shallow b n le (use_empty {x = x} t o p c) = at_form n x.at (form.Use _ []) _ (phrase-Use _ [] x.at) (tt {0})
-  derived_shallow b n le (use_applied {fs = fs} {f = f} {x = x} t o p m c) =
+  derived_shallow b n le (grammar.unary_part {f = f} {x = x} t o p m c u) = at_form n x.at (form.Part _ f) _ (phrase-Part _ f x.at) (derived_shallow b n (up le) u)
+  derived_shallow b n le (grammar.unary_rel u) = derived_shallow b n le u
+  derived_shallow b n le (grammar.rel_one u) = derived_shallow b n le u
+  derived_shallow b n le (grammar.rel_two {c = c} {f = f} {g = g} u t v) = at_form n f.at (form.Compare c f g) _ (phrase-Compare c f g f.at) (derived_shallow b n le u, derived_shallow b n le v)
+  derived_shallow b n le (grammar.sum_all {before = before} {sign = sign} {f = f} m) = let both = terms_shallow b n le m in summed-shallow n before sign f both.0 both.1
+  derived_shallow b n le (grammar.factor_minus {f = f} {x = x} t o u) = at_form n x.at (form.Minus f) _ (phrase-Minus f x.at) (derived_shallow b n (up le) u)
+  derived_shallow b n le (grammar.factor_primary u) = derived_shallow b n le u
+  derived_shallow {s} b n le (grammar.number {x = x} {rest = rest} t small) = at_form n x.at (form.Number (pos (value_of s x))) _ (phrase-Number (pos (value_of s x)) x.at) (tt {0})
+  derived_shallow b n le (grammar.truth {b = v} {x = x} t) = at_form n x.at (form.Truth v) _ (phrase-Truth v x.at) (tt {0})
+  derived_shallow b n le (grammar.use_bare {x = x} t) = at_form n x.at (form.Use _ []) _ (phrase-Use _ [] x.at) (tt {0})
+  derived_shallow b n le (grammar.use_empty {x = x} t o p c) = at_form n x.at (form.Use _ []) _ (phrase-Use _ [] x.at) (tt {0})
+  derived_shallow b n le (grammar.use_applied {fs = fs} {f = f} {x = x} t o p m c) =
       let both = arguments_shallow b n (up le) m in at_form n x.at (form.Use _ (fs ++ f ∷ [])) _ (phrase-Use _ (fs ++ f ∷ []) x.at) (many_shallow n fs f both.0 both.1)
-  derived_shallow b n le (group {f = f} {x = x} t u) = at_form n x.at (form.Group f) _ (phrase-Group f x.at) (derived_shallow b n le u)
-  derived_shallow b n le (conditional {c = c} {f = f} {g = g} {x = x} t u y v z w) =
+  derived_shallow b n le (grammar.group {f = f} {x = x} t u) = at_form n x.at (form.Group f) _ (phrase-Group f x.at) (derived_shallow b n le u)
+  derived_shallow b n le (grammar.conditional {c = c} {f = f} {g = g} {x = x} t u y v z w) =
       at_form n x.at (form.If c f g) _ (phrase-If c f g x.at) (derived_shallow b n le u, derived_shallow b n le v, derived_shallow b n le w)
-  derived_shallow b n le (absolute {f = f} {x = x} t u) = at_form n x.at (form.Abs f) _ (phrase-Abs f x.at) (derived_shallow b n le u)
-  derived_shallow b n le (pair max {f = f} {g = g} {x = x} t o p u c v e) = paired-shallow n max x.at f g (derived_shallow b n (up le) u) (derived_shallow b n (up le) v)
-  derived_shallow b n le (parentheses o p u c) = derived_shallow b n (up le) u
+  derived_shallow b n le (grammar.absolute {f = f} {x = x} t u) = at_form n x.at (form.Abs f) _ (phrase-Abs f x.at) (derived_shallow b n le u)
+  derived_shallow b n le (grammar.pair max {f = f} {g = g} {x = x} t o p u c v e) = paired-shallow n max x.at f g (derived_shallow b n (up le) u) (derived_shallow b n (up le) v)
+  derived_shallow b n le (grammar.parentheses o p u c) = derived_shallow b n (up le) u
 
   members_shallow : {s : Setting} {d : ℕ} {c : Chain} {fs : List Expr} {f : Expr} {tokens rest : List Lexeme} → IsLimited s → (n : ℕ) → n ≤ d → Members s d c fs f tokens rest → AreShallow n (phrases_of fs) × IsShallow n (phrase f)
-  members_shallow b n le (member_first u) = (tt {0}, derived_shallow b n le u)
-  members_shallow b n le (member_next {fs = fs} {f = f} m t u) = let both = members_shallow b n le m in (many_shallow n fs f both.0 both.1, derived_shallow b n le u)
+  members_shallow b n le (grammar.member_first u) = (tt {0}, derived_shallow b n le u)
+  members_shallow b n le (grammar.member_next {fs = fs} {f = f} m t u) = let both = members_shallow b n le m in (many_shallow n fs f both.0 both.1, derived_shallow b n le u)
 
   terms_shallow : {s : Setting} {d : ℕ} {before : List Added} {sign : Bool} {f : Expr} {tokens rest : List Lexeme} → IsLimited s → (n : ℕ) → n ≤ d → Terms s d before sign f tokens rest → AddendsAreShallow n (addends_of before) × IsShallow n (phrase f)
-  terms_shallow b n le (term_first u) = (tt {0}, derived_shallow b n le u)
-  terms_shallow b n le (term_next {before = before} {old = old} {f = f} m t u) = let both = terms_shallow b n le m in (added_shallow n before (added old f) both.0 both.1, derived_shallow b n le u)
+  terms_shallow b n le (grammar.term_first u) = (tt {0}, derived_shallow b n le u)
+  terms_shallow b n le (grammar.term_next {before = before} {old = old} {f = f} m t u) = let both = terms_shallow b n le m in (added_shallow n before (added old f) both.0 both.1, derived_shallow b n le u)
 
   arguments_shallow : {s : Setting} {d : ℕ} {fs : List Expr} {f : Expr} {tokens rest : List Lexeme} → IsLimited s → (n : ℕ) → n ≤ d → Arguments s d fs f tokens rest → AreShallow n (phrases_of fs) × IsShallow n (phrase f)
-  arguments_shallow b n le (argument_first u) = (tt {0}, derived_shallow b n le u)
-  arguments_shallow b n le (argument_next {fs = fs} {f = f} m t u) = let both = arguments_shallow b n le m in (many_shallow n fs f both.0 both.1, derived_shallow b n le u)
+  arguments_shallow b n le (grammar.argument_first u) = (tt {0}, derived_shallow b n le u)
+  arguments_shallow b n le (grammar.argument_next {fs = fs} {f = f} m t u) = let both = arguments_shallow b n le m in (many_shallow n fs f both.0 both.1, derived_shallow b n le u)
 
 -- the formula of each block
 abbrev IsBlockShallow : Block → Type 0
@@ -143,12 +144,12 @@ AreBlocksShallow [] = Unit {0}
 AreBlocksShallow (b ∷ blocks) = IsBlockShallow b × AreBlocksShallow blocks
 
 block_shallow : {s : Setting} {b : Block} {tokens rest : List Lexeme} → IsLimited s → Declaration s b tokens rest → IsBlockShallow b
-block_shallow b (block_constants true t o n c) = tt {0}
-block_shallow b (block_constants false t o n c) = tt {0}
-block_shallow b (block_items true t o n c) = tt {0}
-block_shallow b (block_items false t o n c) = tt {0}
-block_shallow b (block_problem t o u c) = derived_shallow b 0 (omega arith) u
-block_shallow b (block_interpolant t o m l c) = tt {0}
+block_shallow b (grammar.block_constants true t o n c) = tt {0}
+block_shallow b (grammar.block_constants false t o n c) = tt {0}
+block_shallow b (grammar.block_items true t o n c) = tt {0}
+block_shallow b (grammar.block_items false t o n c) = tt {0}
+block_shallow b (grammar.block_problem t o u c) = derived_shallow b 0 (omega arith) u
+block_shallow b (grammar.block_interpolant t o m l c) = tt {0}
 
 behind_shallow : (blocks : List Block) (b : Block) → AreBlocksShallow blocks → IsBlockShallow b → AreBlocksShallow (blocks ++ b ∷ [])
 behind_shallow [] b h k = (k, tt {0})
@@ -156,7 +157,7 @@ behind_shallow (c ∷ blocks) b h k = (h.0, behind_shallow blocks b h.1 k)
 
 blocks_shallow : {s : Setting} {blocks : List Block} {tokens rest : List Lexeme} → IsLimited s → Blocks s blocks tokens rest → AreBlocksShallow blocks
 blocks_shallow s blocks_none = tt {0}
-blocks_shallow s (blocks_next {blocks = blocks} {b = b} m d n) = behind_shallow blocks b (blocks_shallow s m) (block_shallow s d)
+blocks_shallow s (grammar.blocks_next {blocks = blocks} {b = b} m d n) = behind_shallow blocks b (blocks_shallow s m) (block_shallow s d)
 
 problem_in : (blocks : List Block) → AreBlocksShallow blocks → IsShallow 0 (problem_of blocks)
 problem_in [] h = tt {0}

@@ -11,7 +11,7 @@ use Rattle.pri_typing.specs.declared.declaration.Kind.TheVariants.{Existential, 
 use Rattle.pri_typing.specs.declared.declaration.Declaration.{Declaration}
 use Rattle.pri_typing.specs.declared.symbols.Entry.{Entry}
 use Rattle.pri_typing.specs.declared.scope.Referent.TheVariants as referent
-use Rattle.pri_typing.specs.Scope.{existentials, universals, functions, predicates, existential_text, universal_text, function_symbol, predicate_symbol, entry, declared_from, is_text, is_among, symbol_of, bound_or_declared, refers, declarations}
+use Rattle.pri_typing.specs.Scope.{existentials, universals, functions, predicates, existential_text, universal_text, function_symbol, predicate_symbol, entry, declared_from, is_text, is_among, symbol_of, bound_or_declared, refers, declarations, constants}
 use Rattle.pri_typing.specs.Symbols.{first_entry}
 use Rattle.pri_typing.specs.Files.{IsTyped, declaration_faults, scope_of}
 use Rattle.pri_typing.specs.Problems.{unplaced, scope_of_problem}
@@ -249,3 +249,10 @@ stands_same f p t e i =
     (subst AreOnce (sym (names-listed es us fs ps ∙ names)) (once_kinds ds once)) once
     (existentials-listed es us fs ps ∙ i.existentials) (universals-listed es us fs ps ∙ i.universals)
     (functions-listed es us fs ps ∙ i.functions) (predicates-listed es us fs ps ∙ i.predicates)
+
+-- the constants of a problem are as many as those of its file
+pub same_constants : (f : File) (p : Problem) → IsTyped f p → constants (scope_of_problem p).declared ≡ constants (declarations f.blocks)
+same_constants f p i =
+    let es = p.existentials in let us = p.universals in let fs = p.functions in let ps = p.predicates in
+    ap (λ z. length z + length (universals (listed es us fs ps))) (existentials-listed es us fs ps ∙ i.existentials)
+    ∙ ap (λ z. length (existentials (declarations f.blocks)) + length z) (universals-listed es us fs ps ∙ i.universals)

@@ -4,8 +4,8 @@ use Rattle.std.specs.Cmp.Derive.{both_true}
 use Rattle.pri_reader.specs.declared.tree.Name.{Name}
 use Rattle.typed_formula.specs.Formula.{Formula, Expression}
 use Rattle.pri_typing.specs.declared.problem.TypeRefusal.TheVariants.{Arity, NonLinear}
-use Rattle.pri_typing.specs.declared.scope.Sort.{Sort}
-use Rattle.pri_typing.specs.declared.scope.Sort.TheVariants as sort
+use Rattle.pri_typing.specs.declared.scope.Category.{Category}
+use Rattle.pri_typing.specs.declared.scope.Category.TheVariants as category
 use Rattle.pri_typing.specs.declared.declaration.Declaration.{Declaration}
 use Rattle.pri_typing.specs.declared.scope.Referent.{Referent}
 use Rattle.pri_typing.specs.declared.scope.Referent.TheVariants as referent
@@ -143,7 +143,7 @@ same_count n m at e = by (nat_eq n m) refl e
     by false h k = absurd (nil_cons (Arity at) [] k)
 
 use_formula : (s : Scope) (at : ℕ) (x : Name) (ps : Phrases) (r : Option Referent) → IsReferent s.declared (length s.bound) r
-    → use_faults sort.Formula at x.at (count ps) r ≡ [] → TermsEverywhere (placed s.declared s.parts) (length s.bound) (terms s ps) → Placed s (use_says r (terms s ps))
+    → use_faults category.Formula at x.at (count ps) r ≡ [] → TermsEverywhere (placed s.declared s.parts) (length s.bound) (terms s ps) → Placed s (use_says r (terms s ps))
 use_formula s at x ps None h e k = any_formula
 use_formula s at x ps (Some (referent.Name n)) h e k = any_formula
 use_formula s at x ps (Some (referent.Function f m)) h e k = any_formula
@@ -152,7 +152,7 @@ use_formula s at x ps (Some (referent.Predicate p m)) h e k =
     ((subst (λ z. HasArity (predicates s.declared) p z) (sym (size-terms s ps ∙ same)) h, tt {0}), k)
 
 use_term : (s : Scope) (at : ℕ) (x : Name) (ps : Phrases) (r : Option Referent) → IsReferent s.declared (length s.bound) r
-    → use_faults sort.Term at x.at (count ps) r ≡ [] → TermsEverywhere (placed s.declared s.parts) (length s.bound) (terms s ps) → TermPlaced s (use_value r (terms s ps))
+    → use_faults category.Term at x.at (count ps) r ≡ [] → TermsEverywhere (placed s.declared s.parts) (length s.bound) (terms s ps) → TermPlaced s (use_value r (terms s ps))
 use_term s at x ps None h e k = absurd (nil_cons _ _ e)
 use_term s at x ps (Some (referent.Name n)) h e k = (tt {0}, h, tt {0}, tt {0}, tt {0})
 use_term s at x ps (Some (referent.Function f m)) h e k =
@@ -165,19 +165,19 @@ use_term s at x ps (Some (referent.Predicate p m)) h e k =
 lax : (ds : List Declaration) (parts : List (List ℕ)) → IsLax (placed ds parts)
 lax ds parts = record { at_for_all = λ n f. any_formula; at_for_some = λ n f. any_formula; at_minus = λ n t. any_term }
 
--- a formula or term that stands where this sort is needed, without faults, of which the numerals are in the range and the
+-- a formula or term that stands where this category is needed, without faults, of which the numerals are in the range and the
 -- parts are those of the problem
-abbrev pub IsSound : Scope → Sort → Phrase → Type 0
+abbrev pub IsSound : Scope → Category → Phrase → Type 0
 IsSound s want p = (faults s want (first_token p) p ≡ []) × IsRanged p × AreAmong s.parts (parts_in p)
 
-two_sound : (s : Scope) (v w : Sort) (p q : Phrase) → faults s v (first_token p) p ++ faults s w (first_token q) q ≡ [] → IsRanged p × IsRanged q
+two_sound : (s : Scope) (v w : Category) (p q : Phrase) → faults s v (first_token p) p ++ faults s w (first_token q) q ≡ [] → IsRanged p × IsRanged q
     → AreAmong s.parts (parts_in p ++ parts_in q) → IsSound s v p × IsSound s w q
 two_sound s v w p q e r m =
     let free = nil_split (faults s v (first_token p) p) (faults s w (first_token q) q) e in
     let among = among_split s.parts (parts_in p) (parts_in q) m in
     ((free.0, r.0, among.0), (free.1, r.1, among.1))
 
-three_sound : (s : Scope) (u v w : Sort) (c p q : Phrase)
+three_sound : (s : Scope) (u v w : Category) (c p q : Phrase)
     → faults s u (first_token c) c ++ faults s v (first_token p) p ++ faults s w (first_token q) q ≡ []
     → IsRanged c × IsRanged p × IsRanged q → AreAmong s.parts (parts_in c ++ parts_in p ++ parts_in q) → IsSound s u c × IsSound s v p × IsSound s w q
 three_sound s u v w c p q e r m =
@@ -187,11 +187,11 @@ three_sound s u v w c p q e r m =
     (front.0, front.1, (free.1, r.2, among.1))
 
 mutual
-  pub formula_placed : (s : Scope) (at : ℕ) (p : Phrase) → AreProper s.declared → faults s sort.Formula at p ≡ [] → IsRanged p → AreAmong s.parts (parts_in p) → Placed s (says s p)
+  pub formula_placed : (s : Scope) (at : ℕ) (p : Phrase) → AreProper s.declared → faults s category.Formula at p ≡ [] → IsRanged p → AreAmong s.parts (parts_in p) → Placed s (says s p)
   formula_placed s at (number _ n) d e r m = any_formula
   formula_placed s at (truth _ b) d e r m = any_formula
   formula_placed s at (used _ x ps) d e r m =
-      let free = nil_split (use_faults sort.Formula at x.at (count ps) (refers s x.text)) (all_faults s sort.Term ps) e in
+      let free = nil_split (use_faults category.Formula at x.at (count ps) (refers s x.text)) (all_faults s category.Term ps) e in
       use_formula s at x ps (refers s x.text) (referent_is s x.text d) free.0 (terms_placed s ps d free.1 r m)
   formula_placed s at (group _ p) d e r m = formula_placed s at p d e r m
   formula_placed s at (choice _ c p q) d e r m = any_formula
@@ -202,7 +202,7 @@ mutual
   formula_placed s at (product _ p sign q) d e r m = any_formula
   formula_placed s at (sum _ p more) d e r m = any_formula
   formula_placed s at (compared _ c p q) d e r m =
-      let h = two_sound s sort.Term sort.Term p q e r m in
+      let h = two_sound s category.Term category.Term p q e r m in
       (any_formula, term_placed s (first_token p) p d h.0.0 h.0.1 h.0.2, term_placed s (first_token q) q d h.1.0 h.1.1 h.1.2)
   formula_placed s at (negation _ p) d e r m = (any_formula, formula_placed s (first_token p) p d e r m)
   formula_placed s at (quantified _ all names p) d e r m =
@@ -213,37 +213,37 @@ mutual
   formula_placed s at (conjunction _ ps) d e r m = (any_formula, members_placed s ps d e r m)
   formula_placed s at (disjunction _ ps) d e r m = (any_formula, members_placed s ps d e r m)
   formula_placed s at (implication _ p q) d e r m =
-      let h = two_sound s sort.Formula sort.Formula p q e r m in
+      let h = two_sound s category.Formula category.Formula p q e r m in
       (any_formula, formula_placed s (first_token p) p d h.0.0 h.0.1 h.0.2, formula_placed s (first_token q) q d h.1.0 h.1.1 h.1.2)
   formula_placed s at (equivalence _ p q) d e r m =
-      let h = two_sound s sort.Formula sort.Formula p q e r m in
+      let h = two_sound s category.Formula category.Formula p q e r m in
       (any_formula, formula_placed s (first_token p) p d h.0.0 h.0.1 h.0.2, formula_placed s (first_token q) q d h.1.0 h.1.1 h.1.2)
 
-  pub term_placed : (s : Scope) (at : ℕ) (p : Phrase) → AreProper s.declared → faults s sort.Term at p ≡ [] → IsRanged p → AreAmong s.parts (parts_in p) → TermPlaced s (value s p)
+  pub term_placed : (s : Scope) (at : ℕ) (p : Phrase) → AreProper s.declared → faults s category.Term at p ≡ [] → IsRanged p → AreAmong s.parts (parts_in p) → TermPlaced s (value s p)
   term_placed s at (number _ n) d e r m = (r, tt {0}, tt {0}, tt {0}, tt {0})
   term_placed s at (truth _ b) d e r m = absurd (nil_cons _ _ e)
   term_placed s at (used _ x ps) d e r m =
-      let free = nil_split (use_faults sort.Term at x.at (count ps) (refers s x.text)) (all_faults s sort.Term ps) e in
+      let free = nil_split (use_faults category.Term at x.at (count ps) (refers s x.text)) (all_faults s category.Term ps) e in
       use_term s at x ps (refers s x.text) (referent_is s x.text d) free.0 (terms_placed s ps d free.1 r m)
   term_placed s at (group _ p) d e r m = term_placed s at p d e r m
   term_placed s at (choice _ c p q) d e r m =
-      let h = three_sound s sort.Formula sort.Term sort.Term c p q e r m in
+      let h = three_sound s category.Formula category.Term category.Term c p q e r m in
       (any_term, formula_placed s (first_token c) c d h.0.0 h.0.1 h.0.2, term_placed s (first_token p) p d h.1.0 h.1.1 h.1.2, term_placed s (first_token q) q d h.2.0 h.2.1 h.2.2)
   term_placed s at (absolute _ p) d e r m = (any_term, term_placed s (first_token p) p d e r m)
   term_placed s at (lesser _ p q) d e r m =
-      let h = two_sound s sort.Term sort.Term p q e r m in
+      let h = two_sound s category.Term category.Term p q e r m in
       (any_term, term_placed s (first_token p) p d h.0.0 h.0.1 h.0.2, term_placed s (first_token q) q d h.1.0 h.1.1 h.1.2)
   term_placed s at (greater _ p q) d e r m =
-      let h = two_sound s sort.Term sort.Term p q e r m in
+      let h = two_sound s category.Term category.Term p q e r m in
       (any_term, term_placed s (first_token p) p d h.0.0 h.0.1 h.0.2, term_placed s (first_token q) q d h.1.0 h.1.1 h.1.2)
   term_placed s at (minus _ p) d e r m = (any_term, term_placed s (first_token p) p d e r m)
   term_placed s at (product _ p sign q) d e r m =
-      let free = nil_split (product_faults p sign q ++ faults s sort.Term (first_token p) p) (faults s sort.Term (first_token q) q) e in
-      let front = nil_split (product_faults p sign q) (faults s sort.Term (first_token p) p) free.0 in
+      let free = nil_split (product_faults p sign q ++ faults s category.Term (first_token p) p) (faults s category.Term (first_token q) q) e in
+      let front = nil_split (product_faults p sign q) (faults s category.Term (first_token p) p) free.0 in
       let among = among_split s.parts (parts_in p) (parts_in q) m in
       ((tt {0}, tt {0}, tt {0}, tt {0}, product_linear s p sign q front.0), term_placed s (first_token p) p d front.1 r.0 among.0, term_placed s (first_token q) q d free.1 r.1 among.1)
   term_placed s at (sum _ p more) d e r m =
-      let free = nil_split (faults s sort.Term (first_token p) p) (addend_faults s more) e in
+      let free = nil_split (faults s category.Term (first_token p) p) (addend_faults s more) e in
       let among = among_split s.parts (parts_in p) (addend_parts more) m in
       ((tt {0}, tt {0}, tt {0}, omega arith, tt {0}), (term_placed s (first_token p) p d free.0 r.0 among.0, addends_placed s more d free.1 r.1 among.1))
   term_placed s at (compared _ c p q) d e r m = absurd (nil_cons _ _ e)
@@ -255,19 +255,19 @@ mutual
   term_placed s at (implication _ p q) d e r m = absurd (nil_cons _ _ e)
   term_placed s at (equivalence _ p q) d e r m = absurd (nil_cons _ _ e)
 
-  members_placed : (s : Scope) (ps : Phrases) → AreProper s.declared → all_faults s sort.Formula ps ≡ [] → AreRanged ps → AreAmong s.parts (all_parts ps)
+  members_placed : (s : Scope) (ps : Phrases) → AreProper s.declared → all_faults s category.Formula ps ≡ [] → AreRanged ps → AreAmong s.parts (all_parts ps)
       → AllEverywhere (placed s.declared s.parts) (length s.bound) (members s ps)
   members_placed s no_phrase d e r m = tt {0}
   members_placed s (and_phrase p ps) d e r m =
-      let free = nil_split (faults s sort.Formula (first_token p) p) (all_faults s sort.Formula ps) e in
+      let free = nil_split (faults s category.Formula (first_token p) p) (all_faults s category.Formula ps) e in
       let among = among_split s.parts (parts_in p) (all_parts ps) m in
       (formula_placed s (first_token p) p d free.0 r.0 among.0, members_placed s ps d free.1 r.1 among.1)
 
-  terms_placed : (s : Scope) (ps : Phrases) → AreProper s.declared → all_faults s sort.Term ps ≡ [] → AreRanged ps → AreAmong s.parts (all_parts ps)
+  terms_placed : (s : Scope) (ps : Phrases) → AreProper s.declared → all_faults s category.Term ps ≡ [] → AreRanged ps → AreAmong s.parts (all_parts ps)
       → TermsEverywhere (placed s.declared s.parts) (length s.bound) (terms s ps)
   terms_placed s no_phrase d e r m = tt {0}
   terms_placed s (and_phrase p ps) d e r m =
-      let free = nil_split (faults s sort.Term (first_token p) p) (all_faults s sort.Term ps) e in
+      let free = nil_split (faults s category.Term (first_token p) p) (all_faults s category.Term ps) e in
       let among = among_split s.parts (parts_in p) (all_parts ps) m in
       (term_placed s (first_token p) p d free.0 r.0 among.0, terms_placed s ps d free.1 r.1 among.1)
 
@@ -275,6 +275,6 @@ mutual
       → TermsEverywhere (placed s.declared s.parts) (length s.bound) (signed_terms s more)
   addends_placed s no_addend d e r m = tt {0}
   addends_placed s (and_addend sign p more) d e r m =
-      let free = nil_split (faults s sort.Term (first_token p) p) (addend_faults s more) e in
+      let free = nil_split (faults s category.Term (first_token p) p) (addend_faults s more) e in
       let among = among_split s.parts (parts_in p) (addend_parts more) m in
       (with_sign (placed s.declared s.parts) (lax s.declared s.parts) (length s.bound) sign (value s p) (term_placed s (first_token p) p d free.0 r.0 among.0), addends_placed s more d free.1 r.1 among.1)

@@ -2,18 +2,19 @@
 use Rattle.std.specs.Prelude.{ℕ, Bool, true, false, ◌&&◌, ◌||◌, List, [], ◌∷◌, ◌++◌, Option, Some, None, nat_eq, nat_lt, if◌then◌else◌}
 use Rattle.pri_typing.specs.declared.problem.TypeRefusal.{TypeRefusal}
 use Rattle.pri_typing.specs.declared.problem.TypeRefusal.TheVariants.{Undeclared, Redeclared, Arity, Kind, NonLinear, Parts, Many, Memory}
-use Rattle.pri_typing.specs.declared.scope.Sort.{Sort}
-use Rattle.pri_typing.specs.declared.scope.Sort.TheVariants.{Formula, Term}
+use Rattle.pri_typing.specs.declared.scope.Category.{Category}
+use Rattle.pri_typing.specs.declared.scope.Category.TheVariants.{Formula, Term}
 use Rattle.pri_typing.specs.declared.scope.Use.{Use}
 use Rattle.pri_typing.specs.declared.scope.Referent.{Referent}
 use Rattle.pri_typing.specs.declared.scope.Referent.TheVariants as referent
 use Rattle.pri_typing.specs.Phrase.{Phrase, number, truth, used, group, choice, absolute, lesser, greater, minus, product, sum, compared, negation, quantified, part, conjunction, disjunction, implication, equivalence, Phrases, no_phrase, and_phrase, Addends, no_addend, and_addend, first_token, count}
+use Rattle.pri_typing.specs.Least.{earlier_by, least_by}
 use Rattle.pri_typing.specs.Scope.{Scope, inside, refers}
 
-abbrev pub sort_of : Referent → Sort
-sort_of (referent.Name x) = Term
-sort_of (referent.Function f n) = Term
-sort_of (referent.Predicate p n) = Formula
+abbrev pub category_of : Referent → Category
+category_of (referent.Name x) = Term
+category_of (referent.Function f n) = Term
+category_of (referent.Predicate p n) = Formula
 
 -- the number of arguments
 abbrev pub arity_of : Referent → ℕ
@@ -23,18 +24,18 @@ arity_of (referent.Predicate p n) = n
 
 -- what a use of a name has to look like
 abbrev pub use_of : Referent → Use
-use_of r = record { sort = sort_of r; arity = arity_of r }
+use_of r = record { category = category_of r; arity = arity_of r }
 
--- one sort is needed where the other stands, whose first token is there
-abbrev pub needs : Sort → Sort → ℕ → List TypeRefusal
+-- one category is needed where the other stands, whose first token is there
+abbrev pub needs : Category → Category → ℕ → List TypeRefusal
 needs Formula Formula at = []
 needs Term Term at = []
 needs _ _ at = Kind at ∷ []
 
--- a use of a name, whose identifier is at `name_at`, with n arguments; an undeclared name has no sort
-abbrev pub use_faults : Sort → ℕ → ℕ → ℕ → Option Referent → List TypeRefusal
+-- a use of a name, whose identifier is at `name_at`, with n arguments; an undeclared name has no category
+abbrev pub use_faults : Category → ℕ → ℕ → ℕ → Option Referent → List TypeRefusal
 use_faults want at name_at n None = Undeclared name_at ∷ []
-use_faults want at name_at n (Some r) = (if nat_eq n (arity_of r) then [] else Arity name_at ∷ []) ++ needs want (sort_of r) at
+use_faults want at name_at n (Some r) = (if nat_eq n (arity_of r) then [] else Arity name_at ∷ []) ++ needs want (category_of r) at
 
 -- a numeral expression: built of numbers, sums, minus, products and parentheses
 abbrev mutual
@@ -56,7 +57,7 @@ product_faults p sign q = if is_numeral p || is_numeral q then [] else NonLinear
 
 abbrev mutual
   -- the faults of a phrase where a formula or a term is needed; its first token, with the parentheses around it, is `at`
-  pub faults : Scope → Sort → ℕ → Phrase → List TypeRefusal
+  pub faults : Scope → Category → ℕ → Phrase → List TypeRefusal
   faults s want at (number _ n) = needs want Term at
   faults s want at (truth _ b) = needs want Formula at
   faults s want at (used _ x ps) = use_faults want at x.at (count ps) (refers s x.text) ++ all_faults s Term ps
@@ -79,7 +80,7 @@ abbrev mutual
   faults s want at (implication _ p q) = needs want Formula at ++ faults s Formula (first_token p) p ++ faults s Formula (first_token q) q
   faults s want at (equivalence _ p q) = needs want Formula at ++ faults s Formula (first_token p) p ++ faults s Formula (first_token q) q
 
-  pub all_faults : Scope → Sort → Phrases → List TypeRefusal
+  pub all_faults : Scope → Category → Phrases → List TypeRefusal
   all_faults s want no_phrase = []
   all_faults s want (and_phrase p ps) = faults s want (first_token p) p ++ all_faults s want ps
 
@@ -114,11 +115,8 @@ abbrev pub is_before : TypeRefusal → TypeRefusal → Bool
 is_before a b = nat_lt (place_of a) (place_of b) || nat_eq (place_of a) (place_of b) && nat_lt (number_of a) (number_of b)
 
 abbrev pub earlier : Option TypeRefusal → Option TypeRefusal → Option TypeRefusal
-earlier None b = b
-earlier (Some a) None = Some a
-earlier (Some a) (Some b) = Some (if is_before b a then b else a)
+earlier = earlier_by is_before
 
 -- the first in that order
 abbrev pub least : List TypeRefusal → Option TypeRefusal
-least [] = None
-least (r ∷ rs) = earlier (Some r) (least rs)
+least = least_by is_before

@@ -1,7 +1,7 @@
-pub mod Bounds
 pub mod Everywhere
 pub mod Faults
 pub mod Files
+pub mod Least
 pub mod Limits
 pub mod Parts
 pub mod Phrase
@@ -9,6 +9,7 @@ pub mod Posed
 pub mod Problems
 pub mod Ranges
 pub mod Scope
+pub mod Sites
 pub mod Symbols
 pub mod Typing
 pub mod WellFormed

@@ -14,7 +14,7 @@ use Rattle.pri_typing.specs.declared.problem.Problem.{Problem}
 use Rattle.pri_typing.specs.declared.declaration.Kind.{Kind}
 use Rattle.pri_typing.specs.declared.declaration.Kind.TheVariants.{Existential, Universal, Function, Predicate}
 use Rattle.pri_typing.specs.declared.declaration.Declaration.{Declaration}
-use Rattle.pri_typing.specs.declared.scope.Sort.TheVariants as sort
+use Rattle.pri_typing.specs.declared.scope.Category.TheVariants as category
 use Rattle.pri_typing.specs.Phrase.{phrase, first_token}
 use Rattle.pri_typing.specs.Scope.{Scope}
 use Rattle.pri_typing.specs.Faults.{faults}
@@ -176,5 +176,5 @@ text_setting text = record { bytes = text; small = λ rest n. true; shallow = λ
 pub record Says (text : List ℕ) (p : Problem) (said : Formula) : Type 0 where
   pub expression : Expr
   pub derived : Derives (text_setting text) 0 whole expression (lexemes_of text) []
-  pub typed : faults (scope_of_problem p) sort.Formula (first_token (phrase expression)) (phrase expression) ≡ []
+  pub typed : faults (scope_of_problem p) category.Formula (first_token (phrase expression)) (phrase expression) ≡ []
   pub is : says (scope_of_problem p) (phrase expression) ≡ said

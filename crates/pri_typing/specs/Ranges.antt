@@ -1,9 +1,6 @@
 -- Numerals in the range of coefficients.
-use Rattle.std.specs.Prelude.{List, [], ◌∷◌}
 use Rattle.linear_term.specs.Range.{InRange}
-use Rattle.pri_reader.specs.declared.tree.Block.{Block}
-use Rattle.pri_reader.specs.declared.tree.Block.TheVariants as block
-use Rattle.pri_typing.specs.Phrase.{Phrase, phrase, number, truth, used, group, choice, absolute, lesser, greater, minus, product, sum, compared, negation, quantified, part, conjunction, disjunction, implication, equivalence, Phrases, no_phrase, and_phrase, Addends, no_addend, and_addend}
+use Rattle.pri_typing.specs.Phrase.{Phrase, number, truth, used, group, choice, absolute, lesser, greater, minus, product, sum, compared, negation, quantified, part, conjunction, disjunction, implication, equivalence, Phrases, no_phrase, and_phrase, Addends, no_addend, and_addend}
 
 abbrev mutual
   -- each numeral of the phrase is in the range
@@ -37,12 +34,3 @@ abbrev mutual
   pub AreAddedRanged : Addends → Type 0
   AreAddedRanged no_addend = Unit {0}
   AreAddedRanged (and_addend sign p more) = IsRanged p × AreAddedRanged more
-
-abbrev pub IsBlockRanged : Block → Type 0
-IsBlockRanged (block.Problem at e) = IsRanged (phrase e)
-IsBlockRanged _ = Unit {0}
-
--- of each block
-abbrev pub AreBlocksRanged : List Block → Type 0
-AreBlocksRanged [] = Unit {0}
-AreBlocksRanged (b ∷ blocks) = IsBlockRanged b × AreBlocksRanged blocks

@@ -2,6 +2,7 @@
 use Rattle.std.specs.Prelude.{ℕ, suc, ◌+◌, ◌<◌, ◌≤◌, ◌≡◌, Bool, true, false, ◌&&◌, ◌||◌, not, List, [], ◌∷◌, ◌++◌, length, map, slice_get, nat_eq, Some}
 use Rattle.std.specs.List.{All, Contains, IsDistinct, flat_map, concat}
 use Rattle.linear_term.specs.Range.{InRange}
+use Rattle.pri_tokens.specs.Written.{IsIdentifier}
 use Rattle.typed_formula.specs.Formula.{Formula, Formulas, Expression, Expressions, formula, constant, applies, negation, every, some, implies, part, no_formula, and_formula, number, name, call, minus, total, product, no_expression, and_expression}
 use Rattle.pri_typing.specs.declared.problem.Problem.{Problem}
 use Rattle.pri_typing.specs.declared.problem.Symbol.{Symbol}
@@ -156,3 +157,7 @@ names_of_symbols p = p.existentials ++ p.universals ++ map (λ y. y.name) p.func
 -- no two symbols have one name
 abbrev pub HasDistinctNames : Problem → Type 0
 HasDistinctNames p = IsDistinct is_text (names_of_symbols p)
+
+-- the names of all symbols are identifiers
+abbrev pub HasIdentifiers : Problem → Type 0
+HasIdentifiers p = All IsIdentifier (names_of_symbols p)

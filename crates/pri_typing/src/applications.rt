@@ -2,12 +2,12 @@
 
 ghost use Rattle.std.specs.Prelude.{◌≡◌, Option};
 ghost use Rattle.std.specs.Option.{option_or};
-ghost use Rattle.pri_typing.specs.Bounds.{scope_at};
+ghost use Rattle.pri_typing.specs.Sites.{scope_at};
 ghost use Rattle.pri_typing.specs.Phrase.{addends_of, phrase, phrases_of};
 ghost use Rattle.pri_typing.specs.Scope.{refers};
 ghost use Rattle.pri_typing.specs.Typing.{addend_applications, all_applications, applications, first_of, is_applied};
 
-use crate::scope::{Bound, Place, applies_at};
+use crate::scope::{BoundNames, Site, applies_at};
 use pri_reader::{Added, Expr, Form};
 
 fn first_some(a: Option<u64>, b: Option<u64>) -> Option<u64>
@@ -22,7 +22,7 @@ fn first_some(a: Option<u64>, b: Option<u64>) -> Option<u64>
 /// The offset of the first identifier of an expression that stands for a function or a predicate.
 #[cycle(applications)]
 #[tactic(auto, using(crate::proofs::Collecting::applying))]
-pub fn first_application(here: &Place, expr: &Expr) -> Option<u64>
+pub fn first_application(here: &Site, expr: &Expr) -> Option<u64>
     ensures { result ≡ first_of (applications (scope_at here.now) (phrase expr.now)) }
 {
     match &expr.form {
@@ -49,8 +49,8 @@ pub fn first_application(here: &Place, expr: &Expr) -> Option<u64>
         }
         Form::Not(inner) => first_application(here, inner.get()),
         Form::Quantified(_, names, body) => {
-            let bound = Bound::More(names.as_slice(), here.bound);
-            let inside = Place {
+            let bound = BoundNames::More(names.as_slice(), here.bound);
+            let inside = Site {
                 symbols: here.symbols,
                 parts: here.parts,
                 bound: &bound,
@@ -89,7 +89,7 @@ pub fn first_application(here: &Place, expr: &Expr) -> Option<u64>
 
 #[cycle(applications)]
 #[tactic(auto, using(crate::proofs::Collecting::applying))]
-fn first_of_all(here: &Place, exprs: &[Expr]) -> Option<u64>
+fn first_of_all(here: &Site, exprs: &[Expr]) -> Option<u64>
     ensures { result ≡ first_of (all_applications (scope_at here.now) (phrases_of exprs.now)) }
 {
     let mut first = None;
@@ -101,7 +101,7 @@ fn first_of_all(here: &Place, exprs: &[Expr]) -> Option<u64>
 
 #[cycle(applications)]
 #[tactic(auto, using(crate::proofs::Collecting::applying))]
-fn first_of_terms(here: &Place, terms: &[Added]) -> Option<u64>
+fn first_of_terms(here: &Site, terms: &[Added]) -> Option<u64>
     ensures { result ≡ first_of (addend_applications (scope_at here.now) (addends_of terms.now)) }
 {
     let mut first = None;

@@ -2,13 +2,13 @@
 
 ghost use Rattle.std.specs.Prelude.{◌≡◌, List, ℕ, IfOk, length};
 ghost use Rattle.typed_formula.specs.Formula.{and_expression, expression, expressions_of, formula, formulas_of};
-ghost use Rattle.pri_typing.specs.Bounds.{IsFit, scope_at};
+ghost use Rattle.pri_typing.specs.Sites.{IsFit, scope_at};
 ghost use Rattle.pri_typing.specs.Limits.{AddendsAreReady, AreReady, IsReady, IsReadyUnder};
 ghost use Rattle.pri_typing.specs.Phrase.{addends_of, phrase, phrases_of};
 ghost use Rattle.pri_typing.specs.Scope.{inside, place, refers};
 ghost use Rattle.pri_typing.specs.Typing.{members, quantifiers, relation_of, says, signed, signed_terms, terms, use_says, use_value, value};
 
-use crate::scope::{Bound, Place, Referent, refer};
+use crate::scope::{BoundNames, Site, Referent, refer};
 use linear_term::Memory;
 use pri_reader::{Added, Comparison, Expr, Form, Name};
 use sqlite_items::{Boxed, Items};
@@ -53,7 +53,7 @@ fn use_term(referent: Option<Referent>, arguments: Items<TypedTerm>) -> TypedTer
 }
 
 /// The number of a part.
-fn part_number(here: &Place, name: &Name) -> u32
+fn part_number(here: &Site, name: &Name) -> u32
     requires { IsFit here.now }
     ensures { result ≡ place name.now.text here.now.parts.now }
 {
@@ -83,7 +83,7 @@ fn quantify(alloc: Global, all: bool, count: usize, body: Typed) -> Result<Typed
 
 /// The formula that an expression says.
 #[cycle(build)]
-pub fn build_formula(alloc: Global, here: &Place, expr: &Expr) -> Result<Typed, Memory>
+pub fn build_formula(alloc: Global, here: &Site, expr: &Expr) -> Result<Typed, Memory>
     requires { IsReady here.now (phrase expr.now) }
     ensures { IfOk result (λ f. formula f ≡ says (scope_at here.now) (phrase expr.now)) }
 {
@@ -138,7 +138,7 @@ pub fn build_formula(alloc: Global, here: &Place, expr: &Expr) -> Result<Typed, 
 
 /// The term that an expression says.
 #[cycle(build)]
-pub fn build_term(alloc: Global, here: &Place, expr: &Expr) -> Result<TypedTerm, Memory>
+pub fn build_term(alloc: Global, here: &Site, expr: &Expr) -> Result<TypedTerm, Memory>
     requires { IsReady here.now (phrase expr.now) }
     ensures { IfOk result (λ t. expression t ≡ value (scope_at here.now) (phrase expr.now)) }
 {
@@ -193,7 +193,7 @@ pub fn build_term(alloc: Global, here: &Place, expr: &Expr) -> Result<TypedTerm,
 }
 
 #[cycle(build)]
-fn boxed_formula(alloc: Global, here: &Place, expr: &Expr) -> Result<Boxed<Typed>, Memory>
+fn boxed_formula(alloc: Global, here: &Site, expr: &Expr) -> Result<Boxed<Typed>, Memory>
     requires { IsReady here.now (phrase expr.now) }
     ensures { IfOk result (λ f. formula f ≡ says (scope_at here.now) (phrase expr.now)) }
 {
@@ -201,7 +201,7 @@ fn boxed_formula(alloc: Global, here: &Place, expr: &Expr) -> Result<Boxed<Typed
 }
 
 #[cycle(build)]
-fn boxed_term(alloc: Global, here: &Place, expr: &Expr) -> Result<Boxed<TypedTerm>, Memory>
+fn boxed_term(alloc: Global, here: &Site, expr: &Expr) -> Result<Boxed<TypedTerm>, Memory>
     requires { IsReady here.now (phrase expr.now) }
     ensures { IfOk result (λ t. expression t ≡ value (scope_at here.now) (phrase expr.now)) }
 {
@@ -212,7 +212,7 @@ fn boxed_term(alloc: Global, here: &Place, expr: &Expr) -> Result<Boxed<TypedTer
 #[cycle(build)]
 fn build_quantified(
     alloc: Global,
-    here: &Place,
+    here: &Site,
     all: bool,
     names: &[Name],
     body: &Expr,
@@ -220,8 +220,8 @@ fn build_quantified(
     requires { IsReadyUnder here.now names.now (phrase body.now) }
     ensures { IfOk result (λ f. formula f ≡ quantifiers all (length names.now) (says (inside names.now (scope_at here.now)) (phrase body.now))) }
 {
-    let bound = Bound::More(names, here.bound);
-    let inner = Place {
+    let bound = BoundNames::More(names, here.bound);
+    let inner = Site {
         symbols: here.symbols,
         parts: here.parts,
         bound: &bound,
@@ -231,7 +231,7 @@ fn build_quantified(
 }
 
 #[cycle(build)]
-fn build_members(alloc: Global, here: &Place, exprs: &[Expr]) -> Result<Items<Typed>, Memory>
+fn build_members(alloc: Global, here: &Site, exprs: &[Expr]) -> Result<Items<Typed>, Memory>
     requires { AreReady here.now (phrases_of exprs.now) }
     ensures { IfOk result (λ fs. formulas_of fs ≡ members (scope_at here.now) (phrases_of exprs.now)) }
 {
@@ -243,7 +243,7 @@ fn build_members(alloc: Global, here: &Place, exprs: &[Expr]) -> Result<Items<Ty
 }
 
 #[cycle(build)]
-fn build_terms(alloc: Global, here: &Place, exprs: &[Expr]) -> Result<Items<TypedTerm>, Memory>
+fn build_terms(alloc: Global, here: &Site, exprs: &[Expr]) -> Result<Items<TypedTerm>, Memory>
     requires { AreReady here.now (phrases_of exprs.now) }
     ensures { IfOk result (λ ts. expressions_of ts ≡ terms (scope_at here.now) (phrases_of exprs.now)) }
 {
@@ -258,7 +258,7 @@ fn build_terms(alloc: Global, here: &Place, exprs: &[Expr]) -> Result<Items<Type
 #[cycle(build)]
 fn build_sum(
     alloc: Global,
-    here: &Place,
+    here: &Site,
     more: &[Added],
     first: TypedTerm,
 ) -> Result<Items<TypedTerm>, Memory>

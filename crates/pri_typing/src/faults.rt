@@ -1,43 +1,43 @@
-// The least fault of a formula or a term: what is undeclared, has another number of arguments, is of the other sort, or is
+// The least fault of a formula or a term: what is undeclared, has another number of arguments, is of the other category, or is
 // no linear product.
 
 ghost use Rattle.std.specs.Prelude.{◌≡◌, ◌++◌, List, ℕ};
-ghost use Rattle.pri_typing.specs.Bounds.{scope_at};
+ghost use Rattle.pri_typing.specs.Sites.{scope_at};
 ghost use Rattle.pri_typing.specs.Faults.{addend_faults, all_faults, earlier, are_numerals, faults, is_numeral, least, needs, product_faults, use_faults};
 ghost use Rattle.pri_typing.specs.Phrase.{addends_of, first_token, phrase, phrases_of};
 ghost use Rattle.pri_typing.specs.Scope.{refers};
 
 use crate::problem::TypeRefusal;
 use crate::refusals::earlier_of;
-use crate::scope::{Bound, Place, Sort, use_at};
+use crate::scope::{BoundNames, Site, Category, use_at};
 use pri_reader::{Added, Expr, Form, Name};
 
 /// A formula where a term is needed, or a term where a formula is needed.
-fn kind_fault(want: Sort, is: Sort, at: u64) -> Option<TypeRefusal>
+fn kind_fault(want: Category, is: Category, at: u64) -> Option<TypeRefusal>
     ensures { result ≡ least (needs want is at) }
 {
     match (want, is) {
-        (Sort::Formula, Sort::Formula) => None,
-        (Sort::Term, Sort::Term) => None,
-        (Sort::Formula, Sort::Term) => Some(TypeRefusal::Kind(at)),
-        (Sort::Term, Sort::Formula) => Some(TypeRefusal::Kind(at)),
+        (Category::Formula, Category::Formula) => None,
+        (Category::Term, Category::Term) => None,
+        (Category::Formula, Category::Term) => Some(TypeRefusal::Kind(at)),
+        (Category::Term, Category::Formula) => Some(TypeRefusal::Kind(at)),
     }
 }
 
 /// The fault of a use of a name with so many arguments, whose first token is at this offset.
 fn use_fault(
-    place: &Place,
-    want: Sort,
+    site: &Site,
+    want: Category,
     at: u64,
     name: &Name,
     arguments: usize,
 ) -> Option<TypeRefusal>
-    ensures { result ≡ least (use_faults want at name.now.at arguments (refers (scope_at place.now) name.now.text)) }
+    ensures { result ≡ least (use_faults want at name.now.at arguments (refers (scope_at site.now) name.now.text)) }
 {
-    match use_at(place, name.text.as_slice()) {
+    match use_at(site, name.text.as_slice()) {
         None => Some(TypeRefusal::Undeclared(name.at)),
         Some(stands) => {
-            let kind = kind_fault(want, stands.sort, at);
+            let kind = kind_fault(want, stands.category, at);
             if arguments == stands.arity as usize {
                 kind
             } else {
@@ -102,139 +102,139 @@ fn product_fault(left: &Expr, star: u64, right: &Expr) -> Option<TypeRefusal>
     }
 }
 
-/// The least fault of an expression where one of this sort is needed. Its first token, with the parentheses around it, is
+/// The least fault of an expression where one of this category is needed. Its first token, with the parentheses around it, is
 /// at this offset.
 #[cycle(faults)]
 #[tactic(auto, using(crate::proofs::Faulting::faulting))]
-fn fault_at(place: &Place, want: Sort, at: u64, expr: &Expr) -> Option<TypeRefusal>
-    ensures { result ≡ least (faults (scope_at place.now) want at (phrase expr.now)) }
+fn fault_at(site: &Site, want: Category, at: u64, expr: &Expr) -> Option<TypeRefusal>
+    ensures { result ≡ least (faults (scope_at site.now) want at (phrase expr.now)) }
 {
-    let term = kind_fault(want, Sort::Term, at);
-    let formula = kind_fault(want, Sort::Formula, at);
+    let term = kind_fault(want, Category::Term, at);
+    let formula = kind_fault(want, Category::Formula, at);
     match &expr.form {
         Form::Number(_) => term,
         Form::Truth(_) => formula,
         Form::Use(name, arguments) => {
             earlier_of(
-                use_fault(place, want, at, name, arguments.len()),
-                faults_of(place, Sort::Term, arguments.as_slice()),
+                use_fault(site, want, at, name, arguments.len()),
+                faults_of(site, Category::Term, arguments.as_slice()),
             )
         }
-        Form::Group(inner) => fault_at(place, want, at, inner.get()),
+        Form::Group(inner) => fault_at(site, want, at, inner.get()),
         Form::If(condition, yes, no) => {
-            let test = with_one(place, term, Sort::Formula, condition.get());
-            let first = with_one(place, test, Sort::Term, yes.get());
-            with_one(place, first, Sort::Term, no.get())
+            let test = with_one(site, term, Category::Formula, condition.get());
+            let first = with_one(site, test, Category::Term, yes.get());
+            with_one(site, first, Category::Term, no.get())
         }
-        Form::Abs(inner) => with_one(place, term, Sort::Term, inner.get()),
+        Form::Abs(inner) => with_one(site, term, Category::Term, inner.get()),
         Form::Min(left, right) => with_one(
-            place,
-            with_one(place, term, Sort::Term, left.get()),
-            Sort::Term,
+            site,
+            with_one(site, term, Category::Term, left.get()),
+            Category::Term,
             right.get(),
         ),
         Form::Max(left, right) => with_one(
-            place,
-            with_one(place, term, Sort::Term, left.get()),
-            Sort::Term,
+            site,
+            with_one(site, term, Category::Term, left.get()),
+            Category::Term,
             right.get(),
         ),
-        Form::Minus(inner) => with_one(place, term, Sort::Term, inner.get()),
+        Form::Minus(inner) => with_one(site, term, Category::Term, inner.get()),
         Form::Product(left, star, right) => {
             let own = earlier_of(term, product_fault(left.get(), *star, right.get()));
-            let first = with_one(place, own, Sort::Term, left.get());
-            with_one(place, first, Sort::Term, right.get())
+            let first = with_one(site, own, Category::Term, left.get());
+            with_one(site, first, Category::Term, right.get())
         }
         Form::Sum(first, more) => {
             earlier_of(
-                with_one(place, term, Sort::Term, first.get()),
-                faults_of_terms(place, more.as_slice()),
+                with_one(site, term, Category::Term, first.get()),
+                faults_of_terms(site, more.as_slice()),
             )
         }
         Form::Compare(_, left, right) => {
             with_one(
-                place,
-                with_one(place, formula, Sort::Term, left.get()),
-                Sort::Term,
+                site,
+                with_one(site, formula, Category::Term, left.get()),
+                Category::Term,
                 right.get(),
             )
         }
-        Form::Not(inner) => with_one(place, formula, Sort::Formula, inner.get()),
+        Form::Not(inner) => with_one(site, formula, Category::Formula, inner.get()),
         Form::Quantified(_, names, body) => {
-            let bound = Bound::More(names.as_slice(), place.bound);
-            let inside = Place {
-                symbols: place.symbols,
-                parts: place.parts,
+            let bound = BoundNames::More(names.as_slice(), site.bound);
+            let inside = Site {
+                symbols: site.symbols,
+                parts: site.parts,
                 bound: &bound,
             };
-            with_one(&inside, formula, Sort::Formula, body.get())
+            with_one(&inside, formula, Category::Formula, body.get())
         }
-        Form::Part(_, body) => with_one(place, formula, Sort::Formula, body.get()),
+        Form::Part(_, body) => with_one(site, formula, Category::Formula, body.get()),
         Form::And(members) => {
-            earlier_of(formula, faults_of(place, Sort::Formula, members.as_slice()))
+            earlier_of(formula, faults_of(site, Category::Formula, members.as_slice()))
         }
         Form::Or(members) => {
-            earlier_of(formula, faults_of(place, Sort::Formula, members.as_slice()))
+            earlier_of(formula, faults_of(site, Category::Formula, members.as_slice()))
         }
         Form::Implies(left, right) => {
             with_one(
-                place,
-                with_one(place, formula, Sort::Formula, left.get()),
-                Sort::Formula,
+                site,
+                with_one(site, formula, Category::Formula, left.get()),
+                Category::Formula,
                 right.get(),
             )
         }
         Form::Iff(left, right) => with_one(
-            place,
-            with_one(place, formula, Sort::Formula, left.get()),
-            Sort::Formula,
+            site,
+            with_one(site, formula, Category::Formula, left.get()),
+            Category::Formula,
             right.get(),
         ),
     }
 }
 
-/// The least fault of an expression where one of this sort is needed.
+/// The least fault of an expression where one of this category is needed.
 #[cycle(faults)]
 #[tactic(auto, using(crate::proofs::Faulting::faulting))]
-pub fn fault(place: &Place, want: Sort, expr: &Expr) -> Option<TypeRefusal>
-    ensures { result ≡ least (faults (scope_at place.now) want (first_token (phrase expr.now)) (phrase expr.now)) }
+pub fn fault(site: &Site, want: Category, expr: &Expr) -> Option<TypeRefusal>
+    ensures { result ≡ least (faults (scope_at site.now) want (first_token (phrase expr.now)) (phrase expr.now)) }
 {
-    fault_at(place, want, expr.at, expr)
+    fault_at(site, want, expr.at, expr)
 }
 
 #[cycle(faults)]
 #[tactic(auto, using(crate::proofs::Faulting::faulting))]
 fn with_one(
-    place: &Place,
+    site: &Site,
     own: Option<TypeRefusal>,
-    sort: Sort,
+    category: Category,
     operand: &Expr,
 ) -> Option<TypeRefusal>
-    ensures { result ≡ earlier own (least (faults (scope_at place.now) sort (first_token (phrase operand.now)) (phrase operand.now))) }
+    ensures { result ≡ earlier own (least (faults (scope_at site.now) category (first_token (phrase operand.now)) (phrase operand.now))) }
 {
-    earlier_of(own, fault(place, sort, operand))
+    earlier_of(own, fault(site, category, operand))
 }
 
 #[cycle(faults)]
 #[tactic(auto, using(crate::proofs::Faulting::faulting))]
-fn faults_of(place: &Place, sort: Sort, exprs: &[Expr]) -> Option<TypeRefusal>
-    ensures { result ≡ least (all_faults (scope_at place.now) sort (phrases_of exprs.now)) }
+fn faults_of(site: &Site, category: Category, exprs: &[Expr]) -> Option<TypeRefusal>
+    ensures { result ≡ least (all_faults (scope_at site.now) category (phrases_of exprs.now)) }
 {
     let mut least = None;
     for expr in exprs {
-        least = earlier_of(least, fault(place, sort, expr));
+        least = earlier_of(least, fault(site, category, expr));
     }
     least
 }
 
 #[cycle(faults)]
 #[tactic(auto, using(crate::proofs::Faulting::faulting))]
-fn faults_of_terms(place: &Place, terms: &[Added]) -> Option<TypeRefusal>
-    ensures { result ≡ least (addend_faults (scope_at place.now) (addends_of terms.now)) }
+fn faults_of_terms(site: &Site, terms: &[Added]) -> Option<TypeRefusal>
+    ensures { result ≡ least (addend_faults (scope_at site.now) (addends_of terms.now)) }
 {
     let mut least = None;
     for added in terms {
-        least = earlier_of(least, fault(place, Sort::Term, &added.term));
+        least = earlier_of(least, fault(site, Category::Term, &added.term));
     }
     least
 }

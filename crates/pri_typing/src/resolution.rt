@@ -1,12 +1,11 @@
 // The problem that a file poses, or the least of its faults.
 
-ghost use Rattle.std.specs.Prelude.{◌≡◌, ◌<◌, ◌^◌, ℕ, List, ◌⊎◌, IfOk, IfErr, OnOk, None, Some, [], true};
-ghost use Rattle.pri_reader.specs.Grammar.{IsFile, Setting, has_problem};
-ghost use Rattle.pri_tokens.specs.declared.terminals.Lexeme.{Lexeme};
-ghost use Rattle.pri_typing.specs.WellFormed.{IsWellFormed};
+ghost use Rattle.std.specs.Prelude.{◌≡◌, ◌⊎◌, IfOk, IfErr, OnOk, None, Some, [], true};
+ghost use Rattle.pri_reader.specs.Grammar.{has_problem};
+ghost use Rattle.pri_typing.specs.WellFormed.{HasDistinctNames, HasIdentifiers, IsWellFormed};
 ghost use Rattle.pri_typing.specs.declared.problem.TypeRefusal.{TypeRefusal};
-ghost use Rattle.pri_typing.specs.declared.scope.Sort.{Sort};
-ghost use Rattle.pri_typing.specs.Bounds.{scope_at};
+ghost use Rattle.pri_typing.specs.declared.scope.Category.{Category};
+ghost use Rattle.pri_typing.specs.Sites.{scope_at};
 ghost use Rattle.pri_typing.specs.Faults.{earlier, faults, least};
 ghost use Rattle.pri_typing.specs.Files.{IsTyped, declaration_faults, file_faults, has_existential, parts_faults, problem_of};
 ghost use Rattle.pri_typing.specs.Limits.{IsReady, IsResolvable};
@@ -21,7 +20,7 @@ use crate::faults::fault;
 use crate::parts::{asks_cuts, blocks_fault, formula_fault};
 use crate::problem::{Problem, TypeRefusal};
 use crate::refusals::earlier_of;
-use crate::scope::{Bound, Place, Sort};
+use crate::scope::{BoundNames, Site, Category};
 use crate::symbols::Symbols;
 use crate::texts::Texts;
 use linear_term::Memory;
@@ -68,14 +67,14 @@ fn parts_fault(
 fn file_fault(
     alloc: Global,
     blocks: &[Block],
-    here: &Place,
+    here: &Site,
     expr: &Expr,
 ) -> Result<Option<TypeRefusal>, Memory>
     ensures { IfOk result (λ r. r ≡ earlier (earlier (least (declaration_faults [] here.now.symbols.now))
-        (least (faults (scope_at here.now) Sort.Formula (first_token (phrase expr.now)) (phrase expr.now))))
+        (least (faults (scope_at here.now) Category.Formula (first_token (phrase expr.now)) (phrase expr.now))))
         (least (parts_faults here.now.parts.now (has_existential here.now.symbols.now) blocks.now (phrase expr.now)))) }
 {
-    let typed = earlier_of(here.symbols.fault(), fault(here, Sort::Formula, expr));
+    let typed = earlier_of(here.symbols.fault(), fault(here, Category::Formula, expr));
     let existential = here.symbols.has_existentials();
     let parts = parts_fault(alloc, blocks, here.parts, existential, expr)?;
     Ok(earlier_of(typed, parts))
@@ -91,8 +90,8 @@ fn resolve_problem(alloc: Global, blocks: &[Block], expr: &Expr) -> Result<Probl
 {
     let symbols = Symbols::of(alloc, blocks)?;
     let parts = part_texts(alloc, expr)?;
-    let bound = Bound::Nothing;
-    let here = Place {
+    let bound = BoundNames::Nothing;
+    let here = Site {
         symbols: &symbols,
         parts: &parts,
         bound: &bound,
@@ -104,7 +103,7 @@ fn resolve_problem(alloc: Global, blocks: &[Block], expr: &Expr) -> Result<Probl
 }
 
 /// The problem that blocks without faults pose.
-fn pose(alloc: Global, blocks: &[Block], here: &Place, expr: &Expr) -> Result<Problem, Memory>
+fn pose(alloc: Global, blocks: &[Block], here: &Site, expr: &Expr) -> Result<Problem, Memory>
     requires { IsReady here.now (phrase expr.now) }
     ensures { IfOk result (λ p. IsPosed here.now blocks.now (phrase expr.now) p) }
 {
@@ -124,15 +123,16 @@ fn pose(alloc: Global, blocks: &[Block], here: &Place, expr: &Expr) -> Result<Pr
     })
 }
 
-/// The problem that a file poses, or the least of its faults, by their offsets, and at one offset by their numbers. Of a
-/// file of the grammar with numerals up to 2^127 − 1 the problem is well formed.
+/// The problem that a file poses, or the least of its faults, by their offsets, and at one offset by their numbers. The
+/// problem is well formed, and its symbols have different identifiers as names.
 pub fn resolve(alloc: Global, file: &File) -> Result<Problem, TypeRefusal>
     requires { IsResolvable file.now.blocks }
     ensures typed { IfOk result (λ p. IsTyped file.now p) }
     ensures sound { OnOk result (least (file_faults file.now) ≡ None) }
     ensures refused { IfErr result (λ r. (r ≡ TypeRefusal.Memory) ⊎ (least (file_faults file.now) ≡ Some r)) }
-    ensures well_formed { IfOk result (λ p. (s : Setting) (tokens : List Lexeme) → ((rest : List Lexeme) (n : ℕ) → s.small rest n ≡ true → n < 2 ^ 127)
-        → IsFile s file.now tokens → IsWellFormed p) }
+    ensures well_formed { IfOk result IsWellFormed }
+    ensures distinct { IfOk result HasDistinctNames }
+    ensures identifiers { IfOk result HasIdentifiers }
 {
     let blocks = file.blocks.as_slice();
     resolve_problem(alloc, blocks, find_problem(blocks))

@@ -1,8 +1,8 @@
-// What a name stands for at a place of a formula.
+// What a name stands for at a site of a formula.
 
 ghost use Rattle.std.specs.Prelude.{◌≡◌, List, ℕ, is_some, Some, None, if◌then◌else◌, length, ◌<◌, ◌≤◌, ◌^◌};
 ghost use Rattle.std.specs.Option.{option_map, IfSome};
-ghost use Rattle.pri_typing.specs.Bounds.{IsFit, bound_texts, most_bound, last_place, scope_at};
+ghost use Rattle.pri_typing.specs.Sites.{IsFit, bound_texts, most_bound, last_place, scope_at};
 ghost use Rattle.pri_typing.specs.Faults.{use_of};
 ghost use Rattle.pri_typing.specs.Typing.{is_applied};
 ghost use Rattle.pri_typing.specs.Scope.{depth_of, refers, symbol_of};
@@ -15,7 +15,7 @@ use pri_reader::Name;
 
 /// What an expression is: a formula, or a term.
 #[derive(Clone, Copy, Debug, PartialEq, Eq)]
-pub enum Sort {
+pub enum Category {
     Formula,
     Term,
 }
@@ -23,7 +23,7 @@ pub enum Sort {
 /// What a use of a name has to look like: what it is, and the number of its arguments.
 #[derive(Clone, Copy, Debug, PartialEq, Eq)]
 pub struct Use {
-    pub sort: Sort,
+    pub category: Category,
     pub arity: u32,
 }
 
@@ -36,19 +36,19 @@ pub enum Referent {
     Predicate(u32, u32),
 }
 
-/// The bound names at a place: those of the innermost quantifier, and those around it.
+/// The bound names at a site: those of the innermost quantifier, and those around it.
 #[derive(Clone, Copy)]
-pub enum Bound<'a> {
+pub enum BoundNames<'a> {
     Nothing,
-    More(&'a [Name], &'a Bound<'a>),
+    More(&'a [Name], &'a BoundNames<'a>),
 }
 
-/// A place of a formula: the symbols of the file, the names of its parts, and the bound names there.
+/// A site of a formula: the symbols of the file, the names of its parts, and the bound names there.
 #[derive(Clone, Copy)]
-pub struct Place<'a> {
+pub struct Site<'a> {
     pub symbols: &'a Symbols,
     pub parts: &'a Texts,
-    pub bound: &'a Bound<'a>,
+    pub bound: &'a BoundNames<'a>,
 }
 
 fn last_found(found: Option<usize>, i: usize, is_same: bool) -> Option<usize>
@@ -70,12 +70,12 @@ fn last_place_of(names: &[Name], text: &[u8]) -> Option<usize>
 }
 
 /// Whether a bound name has this text.
-fn is_bound(bound: &Bound, text: &[u8]) -> bool
+fn is_bound(bound: &BoundNames, text: &[u8]) -> bool
     ensures { result ≡ is_some (depth_of text.now (bound_texts bound.now)) }
 {
     match bound {
-        Bound::Nothing => false,
-        Bound::More(names, outer) => {
+        BoundNames::Nothing => false,
+        BoundNames::More(names, outer) => {
             last_place_of(names, text).is_some() || is_bound(outer, text)
         }
     }
@@ -87,48 +87,48 @@ fn use_of_kind(kind: Kind) -> Use
 {
     match kind {
         Kind::Existential => Use {
-            sort: Sort::Term,
+            category: Category::Term,
             arity: 0,
         },
         Kind::Universal => Use {
-            sort: Sort::Term,
+            category: Category::Term,
             arity: 0,
         },
         Kind::Function(arity) => Use {
-            sort: Sort::Term,
+            category: Category::Term,
             arity,
         },
         Kind::Predicate(arity) => Use {
-            sort: Sort::Formula,
+            category: Category::Formula,
             arity,
         },
     }
 }
 
 /// What a use of this text has to look like here, if it stands for something.
-pub fn use_at(place: &Place, text: &[u8]) -> Option<Use>
-    ensures { result ≡ option_map use_of (refers (scope_at place.now) text.now) }
+pub fn use_at(site: &Site, text: &[u8]) -> Option<Use>
+    ensures { result ≡ option_map use_of (refers (scope_at site.now) text.now) }
 {
-    if is_bound(place.bound, text) {
+    if is_bound(site.bound, text) {
         return Some(Use {
-            sort: Sort::Term,
+            category: Category::Term,
             arity: 0,
         });
     }
-    match place.symbols.find(text) {
+    match site.symbols.find(text) {
         Some(entry) => Some(use_of_kind(entry.kind)),
         None => None,
     }
 }
 
 /// Whether a use of this text is an application here.
-pub fn applies_at(place: &Place, text: &[u8]) -> bool
-    ensures { result ≡ is_applied (refers (scope_at place.now) text.now) }
+pub fn applies_at(site: &Site, text: &[u8]) -> bool
+    ensures { result ≡ is_applied (refers (scope_at site.now) text.now) }
 {
-    if is_bound(place.bound, text) {
+    if is_bound(site.bound, text) {
         return false;
     }
-    match place.symbols.find(text) {
+    match site.symbols.find(text) {
         Some(entry) => is_applied_kind(entry.kind),
         None => false,
     }
@@ -147,25 +147,25 @@ fn is_applied_kind(kind: Kind) -> bool
 
 /// How many names are bound.
 #[tactic(auto, using(crate::proofs::Scopes::bounding))]
-fn count_bound(bound: &Bound) -> u32
+fn count_bound(bound: &BoundNames) -> u32
     requires shallow { length (bound_texts bound.now) ≤ most_bound }
     ensures { result ≡ length (bound_texts bound.now) }
 {
     match bound {
-        Bound::Nothing => 0,
-        Bound::More(names, outer) => names.len() as u32 + count_bound(outer),
+        BoundNames::Nothing => 0,
+        BoundNames::More(names, outer) => names.len() as u32 + count_bound(outer),
     }
 }
 
 /// The number of the bound variables around the innermost one of this text.
 #[tactic(auto, using(crate::proofs::Scopes::bounding))]
-fn depth(bound: &Bound, text: &[u8]) -> Option<u32>
+fn depth(bound: &BoundNames, text: &[u8]) -> Option<u32>
     requires shallow { length (bound_texts bound.now) ≤ most_bound }
     ensures { result ≡ depth_of text.now (bound_texts bound.now) }
 {
     match bound {
-        Bound::Nothing => None,
-        Bound::More(names, outer) => {
+        BoundNames::Nothing => None,
+        BoundNames::More(names, outer) => {
             match last_place_of(names, text) {
                 Some(i) => Some(count_bound(outer) + i as u32),
                 None => depth(outer, text),
@@ -175,15 +175,15 @@ fn depth(bound: &Bound, text: &[u8]) -> Option<u32>
 }
 
 /// What a name stands for.
-pub fn refer(place: &Place, text: &[u8]) -> Option<Referent>
-    requires { IsFit place.now }
-    ensures { result ≡ refers (scope_at place.now) text.now }
+pub fn refer(site: &Site, text: &[u8]) -> Option<Referent>
+    requires { IsFit site.now }
+    ensures { result ≡ refers (scope_at site.now) text.now }
 {
-    match depth(place.bound, text) {
-        Some(depth) => Some(Referent::Name(place.symbols.constants() + depth)),
+    match depth(site.bound, text) {
+        Some(depth) => Some(Referent::Name(site.symbols.constants() + depth)),
         None => {
-            match place.symbols.find(text) {
-                Some(entry) => Some(place.symbols.referent(entry)),
+            match site.symbols.find(text) {
+                Some(entry) => Some(site.symbols.referent(entry)),
                 None => None,
             }
         }

@@ -1,5 +1,5 @@
 use Rattle.std.proofs.Common.{◌≤◌, [], length}
-use Rattle.pri_reader.specs.Machine.{a_bound}
+use Rattle.pri_reader.specs.MachineStates.{a_bound}
 use Rattle.pri_reader.specs.Reading.{LeadsBound}
 use Rattle.pri_reader.proofs.binders.bound_names.Given as goal
 

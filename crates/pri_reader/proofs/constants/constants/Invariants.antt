@@ -1,5 +1,5 @@
 use Rattle.std.proofs.Common.{◌<◌, length}
-use Rattle.pri_reader.specs.Machine.{a_brace, a_line}
+use Rattle.pri_reader.specs.MachineStates.{a_brace, a_line}
 use Rattle.pri_reader.specs.declared.classes.Heading.TheVariants as h
 use Rattle.pri_reader.specs.BlockReading.{Passes}
 use Rattle.pri_reader.proofs.constants.constants.Given as goal

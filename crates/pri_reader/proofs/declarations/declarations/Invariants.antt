@@ -1,5 +1,6 @@
 use Rattle.std.proofs.Common.{◌<◌, length}
-use Rattle.pri_reader.specs.Machine.{a_brace, an_item_line, items_for}
+use Rattle.pri_reader.specs.MachineStates.{a_brace, an_item_line}
+use Rattle.pri_reader.specs.Machine.{items_for}
 use Rattle.pri_reader.specs.declared.classes.Heading.TheVariants as h
 use Rattle.pri_reader.specs.BlockReading.{Passes}
 use Rattle.pri_reader.proofs.declarations.declarations.Given as goal

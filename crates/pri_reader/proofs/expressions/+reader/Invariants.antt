@@ -1,6 +1,6 @@
 use Rattle.std.proofs.Common.{◌+◌, ◌-◌, ◌*◌, ◌<◌, ◌≤◌, [], ◌∷◌, length, false}
 use Rattle.pri_reader.specs.Grammar.{conjunction, disjunction, equivalence, added}
-use Rattle.pri_reader.specs.Machine.{a_minus, a_unary, arguments_of, chain_of, sum_of, under_chain, under_product, under_right, under_sum}
+use Rattle.pri_reader.specs.MachineStates.{a_minus, a_unary, arguments_of, chain_of, sum_of, under_chain, under_product, under_right, under_sum}
 use Rattle.pri_reader.specs.Reading.{Leads}
 use Rattle.pri_reader.proofs.Chains.{BeginsAt}
 use Rattle.pri_reader.proofs.expressions.+reader.Given as goal

@@ -1,5 +1,5 @@
 use Rattle.std.proofs.Common.{◌≤◌, length}
-use Rattle.pri_reader.specs.Machine.{an_item}
+use Rattle.pri_reader.specs.MachineStates.{an_item}
 use Rattle.pri_reader.specs.BlockReading.{Passes, with_items}
 use Rattle.pri_reader.proofs.items.items.Given as goal
 

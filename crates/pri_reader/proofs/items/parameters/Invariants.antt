@@ -1,5 +1,5 @@
 use Rattle.std.proofs.Common.{◌≤◌, ◌+◌, length}
-use Rattle.pri_reader.specs.Machine.{ItemsFor, a_parameter}
+use Rattle.pri_reader.specs.MachineStates.{ItemsFor, a_parameter}
 use Rattle.pri_reader.specs.declared.tree.Name.{Name}
 use Rattle.pri_reader.specs.BlockReading.{Passes}
 use Rattle.pri_reader.proofs.items.parameters.Given as goal

@@ -1,5 +1,5 @@
 use Rattle.std.proofs.Common.{◌≤◌, [], length}
-use Rattle.pri_reader.specs.Machine.{a_name}
+use Rattle.pri_reader.specs.MachineStates.{a_name}
 use Rattle.pri_reader.specs.BlockReading.{Passes}
 use Rattle.pri_reader.proofs.names.names.Given as goal
 

@@ -1,5 +1,5 @@
 use Rattle.std.proofs.Common.{◌≡◌, take}
-use Rattle.pri_typing.specs.Bounds.{scope_at}
+use Rattle.pri_typing.specs.Sites.{scope_at}
 use Rattle.pri_typing.specs.Phrase.{phrases_of, addends_of}
 use Rattle.pri_typing.specs.Typing.{all_applications, addend_applications, first_of}
 use Rattle.pri_typing.proofs.applications.+applications.Given as goal

@@ -1,6 +1,6 @@
 use Rattle.std.proofs.Common.{rules, arith, refl, sym, subst}
 use Rattle.pri_reader.specs.declared.tree.Form.TheViews.{the_lemmas}
-use Rattle.pri_typing.specs.Bounds.{scope_at}
+use Rattle.pri_typing.specs.Sites.{scope_at}
 use Rattle.pri_typing.specs.Phrase.{phrase}
 use Rattle.pri_typing.specs.Limits.{IsReady}
 use Rattle.pri_typing.proofs.Building.{members_from, terms_from, sum_from, ready_member, ready_addend, ready_body}

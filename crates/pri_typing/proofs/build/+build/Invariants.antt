@@ -1,6 +1,6 @@
 use Rattle.std.proofs.Common.{◌≡◌, take, map, ◌∷◌}
 use Rattle.typed_formula.specs.Formula.{formula, expression}
-use Rattle.pri_typing.specs.Bounds.{scope_at}
+use Rattle.pri_typing.specs.Sites.{scope_at}
 use Rattle.pri_typing.specs.Phrase.{phrase}
 use Rattle.pri_typing.specs.Typing.{says, value, signed}
 use Rattle.pri_typing.proofs.build.+build.Given as goal

@@ -1,7 +1,7 @@
 use Rattle.std.proofs.Common.{◌++◌, ap, sym, ◌∙◌}
-use Rattle.pri_typing.specs.declared.scope.Sort.TheVariants.{Formula, Term}
+use Rattle.pri_typing.specs.declared.scope.Category.TheVariants.{Formula, Term}
 use Rattle.pri_typing.specs.Phrase.{phrase, phrases_of, addends_of, count}
-use Rattle.pri_typing.specs.Bounds.{scope_at}
+use Rattle.pri_typing.specs.Sites.{scope_at}
 use Rattle.pri_typing.specs.Scope.{refers}
 use Rattle.pri_typing.specs.Faults.{faults, all_faults, addend_faults, least, needs, product_faults, use_faults}
 use Rattle.pri_typing.proofs.Faulting.{form_is, with_operand, least_of_two, count_is, operand_faults}
@@ -10,7 +10,7 @@ use Rattle.pri_typing.proofs.faults.+faults.Goals as goal
 
 pub fault_at-returns-in-Min : goal.fault_at-returns-in-Min
 fault_at-returns-in-Min t c =
-    let s = scope_at c.args.place.now in
+    let s = scope_at c.args.site.now in
     let first = needs c.args.want Term c.args.at ++ operand_faults s Term c.in-Min.left in
     with_operand s Term first c.get-in-Min-2.result.now c.in-Min.right c.with_one-in-Min-2.ensures c.get-in-Min-2.ensures
     (with_operand s Term (needs c.args.want Term c.args.at) c.get-in-Min.result.now c.in-Min.left c.with_one-in-Min.ensures c.get-in-Min.ensures c.kind_fault-term.ensures)
@@ -18,7 +18,7 @@ fault_at-returns-in-Min t c =
 
 pub fault_at-returns-in-Max : goal.fault_at-returns-in-Max
 fault_at-returns-in-Max t c =
-    let s = scope_at c.args.place.now in
+    let s = scope_at c.args.site.now in
     let first = needs c.args.want Term c.args.at ++ operand_faults s Term c.in-Max.left in
     with_operand s Term first c.get-in-Max-2.result.now c.in-Max.right c.with_one-in-Max-2.ensures c.get-in-Max-2.ensures
     (with_operand s Term (needs c.args.want Term c.args.at) c.get-in-Max.result.now c.in-Max.left c.with_one-in-Max.ensures c.get-in-Max.ensures c.kind_fault-term.ensures)
@@ -26,7 +26,7 @@ fault_at-returns-in-Max t c =
 
 pub fault_at-returns-in-Compare : goal.fault_at-returns-in-Compare
 fault_at-returns-in-Compare t c =
-    let s = scope_at c.args.place.now in
+    let s = scope_at c.args.site.now in
     let first = needs c.args.want Formula c.args.at ++ operand_faults s Term c.in-Compare.left in
     with_operand s Term first c.get-in-Compare-2.result.now c.in-Compare.right c.with_one-in-Compare-2.ensures c.get-in-Compare-2.ensures
     (with_operand s Term (needs c.args.want Formula c.args.at) c.get-in-Compare.result.now c.in-Compare.left c.with_one-in-Compare.ensures c.get-in-Compare.ensures c.kind_fault-formula.ensures)
@@ -34,7 +34,7 @@ fault_at-returns-in-Compare t c =
 
 pub fault_at-returns-in-Implies : goal.fault_at-returns-in-Implies
 fault_at-returns-in-Implies t c =
-    let s = scope_at c.args.place.now in
+    let s = scope_at c.args.site.now in
     let first = needs c.args.want Formula c.args.at ++ operand_faults s Formula c.in-Implies.left in
     with_operand s Formula first c.get-in-Implies-2.result.now c.in-Implies.right c.with_one-in-Implies-2.ensures c.get-in-Implies-2.ensures
     (with_operand s Formula (needs c.args.want Formula c.args.at) c.get-in-Implies.result.now c.in-Implies.left c.with_one-in-Implies.ensures c.get-in-Implies.ensures c.kind_fault-formula.ensures)
@@ -42,7 +42,7 @@ fault_at-returns-in-Implies t c =
 
 pub fault_at-returns-in-Iff : goal.fault_at-returns-in-Iff
 fault_at-returns-in-Iff t c =
-    let s = scope_at c.args.place.now in
+    let s = scope_at c.args.site.now in
     let first = needs c.args.want Formula c.args.at ++ operand_faults s Formula c.in-Iff.left in
     with_operand s Formula first c.get-in-Iff-2.result.now c.in-Iff.right c.with_one-in-Iff-2.ensures c.get-in-Iff-2.ensures
     (with_operand s Formula (needs c.args.want Formula c.args.at) c.get-in-Iff.result.now c.in-Iff.left c.with_one-in-Iff.ensures c.get-in-Iff.ensures c.kind_fault-formula.ensures)
@@ -50,7 +50,7 @@ fault_at-returns-in-Iff t c =
 
 pub fault_at-returns-in-If : goal.fault_at-returns-in-If
 fault_at-returns-in-If t c =
-    let s = scope_at c.args.place.now in
+    let s = scope_at c.args.site.now in
     let one = needs c.args.want Term c.args.at ++ operand_faults s Formula c.in-If.condition in
     let two = one ++ operand_faults s Term c.in-If.yes in
     with_operand s Term two c.get-in-If-3.result.now c.in-If.no c.with_one.ensures c.get-in-If-3.ensures
@@ -60,7 +60,7 @@ fault_at-returns-in-If t c =
 
 pub fault_at-returns-in-Product : goal.fault_at-returns-in-Product
 fault_at-returns-in-Product t c =
-    let s = scope_at c.args.place.now in
+    let s = scope_at c.args.site.now in
     let one = needs c.args.want Term c.args.at ++ product_faults (phrase c.in-Product.left) c.in-Product.star (phrase c.in-Product.right) in
     let two = one ++ operand_faults s Term c.in-Product.left in
     with_operand s Term two c.get-in-Product-4.result.now c.in-Product.right c.with_one-in-Product.ensures c.get-in-Product-4.ensures
@@ -72,7 +72,7 @@ fault_at-returns-in-Product t c =
 
 pub fault_at-returns-in-Sum : goal.fault_at-returns-in-Sum
 fault_at-returns-in-Sum t c =
-    let s = scope_at c.args.place.now in
+    let s = scope_at c.args.site.now in
     let one = needs c.args.want Term c.args.at ++ operand_faults s Term c.in-Sum.first in
     least_of_two one (addend_faults s (addends_of c.in-Sum.more)) c.earlier_of-in-Sum.ensures
     (with_operand s Term (needs c.args.want Term c.args.at) c.get-in-Sum.result.now c.in-Sum.first c.with_one-in-Sum.ensures c.get-in-Sum.ensures c.kind_fault-term.ensures)
@@ -81,7 +81,7 @@ fault_at-returns-in-Sum t c =
 
 pub fault_at-returns-in-Use : goal.fault_at-returns-in-Use
 fault_at-returns-in-Use t c =
-    let s = scope_at c.args.place.now in
+    let s = scope_at c.args.site.now in
     let x = c.in-Use.name in
     least_of_two (use_faults c.args.want c.args.at x.at (count (phrases_of c.in-Use.arguments)) (refers s x.text)) (all_faults s Term (phrases_of c.in-Use.arguments)) c.earlier_of.ensures
     (c.use_fault.ensures ∙ ap (λ n. least (use_faults c.args.want c.args.at x.at n (refers s x.text))) (c.len.ensures ∙ sym (count_is c.in-Use.arguments)))

@@ -1,12 +1,14 @@
-use Rattle.pri_typing.proofs.Declared.{none_least}
-use Rattle.pri_typing.proofs.Divisions.{cuts_proper}
-use Rattle.pri_typing.proofs.Formed.{well_formed, names_differ}
-use Rattle.pri_typing.proofs.Ranged.{file_ranged}
+use Rattle.pri_typing.proofs.Answered.{file_proper}
+use Rattle.pri_typing.proofs.Least.{least-none}
+use Rattle.pri_typing.proofs.Formed.{names_differ}
+use Rattle.pri_typing.proofs.Identified.{names_identified}
 use Rattle.pri_typing.proofs.laws.well_formed_law.Goals as goal
 
 pub returns-clause-well_formed : goal.returns-clause-well_formed
-returns-clause-well_formed c = λ s f tokens p small derived none typed.
-    well_formed f p (none_least _ none) typed (file_ranged small derived) (cuts_proper derived.blocks_are)
+returns-clause-well_formed c = λ f p h none typed. (file_proper f p h none typed).formed
 
 pub returns-clause-distinct : goal.returns-clause-distinct
-returns-clause-distinct c = λ f p none typed. names_differ f p (none_least _ none) typed
+returns-clause-distinct c = λ f p none typed. names_differ f p (least-none _ none) typed
+
+pub returns-clause-identifiers : goal.returns-clause-identifiers
+returns-clause-identifiers c = λ f p h typed. names_identified f p typed h.identifiers

@@ -1,6 +1,6 @@
 use Rattle.std.proofs.Common.{ap, ◌∙◌, []}
-use Rattle.pri_typing.specs.declared.scope.Sort.TheVariants.{Formula}
-use Rattle.pri_typing.specs.Bounds.{scope_at}
+use Rattle.pri_typing.specs.declared.scope.Category.TheVariants.{Formula}
+use Rattle.pri_typing.specs.Sites.{scope_at}
 use Rattle.pri_typing.specs.Faults.{earlier, faults, least}
 use Rattle.pri_typing.specs.Files.{declaration_faults, parts_faults}
 use Rattle.pri_typing.specs.Phrase.{first_token, phrase}

@@ -1,5 +1,5 @@
 use Rattle.std.proofs.Common.{rules, arith}
-use Rattle.pri_typing.specs.declared.scope.Bound.TheViews.{the_lemmas}
+use Rattle.pri_typing.specs.declared.scope.BoundNames.TheViews.{the_lemmas}
 use Rattle.pri_typing.proofs.Scopes.{bound_more}
 use Rattle.pri_typing.proofs.scope.+count_bound.Goals as goal
 

@@ -1,6 +1,6 @@
 use Rattle.std.proofs.Common.{rules, arith, ap, sym, ◌∙◌, Some, ◌+◌}
-use Rattle.pri_typing.specs.declared.scope.Bound.TheViews.{the_lemmas}
-use Rattle.pri_typing.specs.Bounds.{bound_texts}
+use Rattle.pri_typing.specs.declared.scope.BoundNames.TheViews.{the_lemmas}
+use Rattle.pri_typing.specs.Sites.{bound_texts}
 use Rattle.pri_typing.proofs.Scopes.{bound_more, depth_of-more, depth_by}
 use Rattle.pri_typing.proofs.scope.+depth.Goals as goal
 

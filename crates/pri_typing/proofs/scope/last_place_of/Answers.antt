@@ -1,6 +1,6 @@
 use Rattle.std.proofs.Common.{◌≡◌, sym, subst, rules, ap, ◌∙◌, arith, take_all, length, ◌<◌}
 use Rattle.std.specs.Option.{IfSome}
-use Rattle.pri_typing.specs.Bounds.{last_place}
+use Rattle.pri_typing.specs.Sites.{last_place}
 use Rattle.pri_typing.proofs.Scopes.{last_place-more, last_place-within}
 use Rattle.pri_typing.proofs.scope.last_place_of.Goals as goal
 

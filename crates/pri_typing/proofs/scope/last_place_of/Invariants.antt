@@ -1,5 +1,5 @@
 use Rattle.std.proofs.Common.{◌≡◌, take}
-use Rattle.pri_typing.specs.Bounds.{last_place}
+use Rattle.pri_typing.specs.Sites.{last_place}
 use Rattle.pri_typing.proofs.scope.last_place_of.Given as goal
 
 abbrev pub invariant-loop-i : goal.invariant-loop-i
