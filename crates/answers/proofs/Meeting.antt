@@ -1,12 +1,12 @@
 -- How answers meet the outside: a run that ends for a fault meets every answer, and what meets some answers meets all that
 -- they are.
-use Rattle.std.proofs.Common.{◌≡◌, ◌≢◌, ℕ, ◌+◌, ◌<◌, ◌≤◌, List, Option, Some, None, refl, length, arith}
+use Rattle.std.proofs.Common.{◌≡◌, ℕ, ◌+◌, ◌<◌, ◌≤◌, List, Option, Some, None, refl, length, arith}
 use Rattle.std.proofs.lemmas.List.{length-replicate}
 use Rattle.std.specs.Prelude.{replicate}
 use Rattle.prover_io.specs.Outside.{IsLonger, IsWhole}
 use Rattle.answers.specs.Answer.{Answer, long_answer}
-use Rattle.answers.specs.Outside.{Gives, GivesPart, Meets}
-use Rattle.answers.specs.Files.{AnswersBytes, AnswersSource, too_long, within}
+use Rattle.answers.specs.Outside.{Meets}
+use Rattle.answers.specs.Files.{AnswersSource, too_long, within}
 
 -- a run that ends since the source failed meets every answer
 pub meets_failed : (P : Answer → Type 0) (before after : Option (List ℕ)) → Meets P 6 before after

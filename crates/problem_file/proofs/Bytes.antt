@@ -1,28 +1,23 @@
 -- Bytes pose at most one problem, or have one first refusal.
-use Rattle.std.proofs.Common.{◌≡◌, ℕ, ◌^◌, List, [], ◌∷◌, length, Option, Some, None, Result, Ok, Err, refl, sym, ◌∙◌, ap, subst, ◌⊎◌, inl, inr}
+use Rattle.std.proofs.Common.{◌≡◌, ℕ, ◌^◌, List, length, Option, Some, sym, ◌∙◌, ap, subst}
 use Rattle.std.proofs.lemmas.Bool.{ltb-true}
-use Rattle.typed_formula.specs.Formula as logic
 use Rattle.pri_tokens.specs.Lexemes.{lexemes_of}
 use Rattle.pri_reader.specs.declared.tree.File.{File}
 use Rattle.pri_reader.specs.declared.tree.ReadRefusal.{ReadRefusal}
-use Rattle.pri_reader.specs.Grammar.{IsFile}
 use Rattle.pri_reader.specs.First.{IsFirstRefusal}
 use Rattle.pri_reader.specs.Reading.{file_setting}
 use Rattle.pri_reader.proofs.CompleteBlocks.{one_file}
 use Rattle.pri_reader.proofs.FirstRefusal.{first_none, first_unique}
 use Rattle.pri_reader.proofs.SourceFiles.{small_asks, shallow_asks}
 use Rattle.pri_typing.specs.declared.problem.Problem.{Problem}
-use Rattle.pri_typing.specs.declared.problem.TypeRefusal.{TypeRefusal}
-use Rattle.pri_typing.specs.Scope.{declarations, existentials, universals, functions, predicates}
 use Rattle.pri_typing.specs.Faults.{least}
-use Rattle.pri_typing.specs.Parts.{cuts_in}
-use Rattle.pri_typing.specs.Typing.{says, applications, first_of, part_names}
-use Rattle.pri_typing.specs.Files.{file_faults, IsTyped, scope_of, problem_of}
+use Rattle.pri_typing.specs.Files.{file_faults, IsTyped}
 use Rattle.pri_typing.specs.WellFormed.{HasDistinctNames, IsWellFormed}
 use Rattle.pri_typing.proofs.Declared.{none_least}
 use Rattle.pri_typing.proofs.Divisions.{cuts_proper}
 use Rattle.pri_typing.proofs.Formed.{well_formed, names_differ}
 use Rattle.pri_typing.proofs.Ranged.{file_ranged}
+use Rattle.problem_file.proofs.Places.{some_same}
 use Rattle.problem_file.specs.Reads.{IsFileOf, Reads, Refusal, unread, untyped, FirstRefusal, AreSame}
 
 pub same_file : (bytes : List ℕ) (f g : File) → IsFileOf bytes f → IsFileOf bytes g → f ≡ g
@@ -47,15 +42,12 @@ one_problem bytes p q h k = typed_same k.file p q (subst (λ f. IsTyped f p) (sa
 no_file : (bytes : List ℕ) (f : File) (e : ReadRefusal) → IsFileOf bytes f → IsFirstRefusal (file_setting bytes) (length bytes) (lexemes_of bytes) e → ⊥
 no_file bytes f e read h = first_none (file_setting bytes) (length bytes) (lexemes_of bytes) f e (small_asks bytes) (shallow_asks bytes) read h
 
-some_same : {X : Type 0} (m n : Option X) (a b : X) → m ≡ n → m ≡ Some a → n ≡ Some b → a ≡ b
-some_same m n a b e h k = let both = sym h ∙ e ∙ k in cc
-
 pub one_refusal : (bytes : List ℕ) (r s : Refusal) → FirstRefusal bytes r → FirstRefusal bytes s → r ≡ s
 one_refusal bytes (unread e) (unread g) h k = ap unread (first_unique (file_setting bytes) (length bytes) (lexemes_of bytes) e g (small_asks bytes) (shallow_asks bytes) h k)
 one_refusal bytes (unread e) (untyped g) h k = absurd (no_file bytes k.0 e k.1 h)
 one_refusal bytes (untyped e) (unread g) h k = absurd (no_file bytes h.0 g h.1 k)
 one_refusal bytes (untyped e) (untyped g) h k =
-    ap untyped (some_same (least (file_faults h.0)) (least (file_faults k.0)) e g (ap (λ f. least (file_faults f)) (same_file bytes h.0 k.0 h.1 k.1)) h.2 k.2)
+    ap untyped (some_same e g (sym h.2 ∙ ap (λ f. least (file_faults f)) (same_file bytes h.0 k.0 h.1 k.1) ∙ k.2))
 
 pub read_or_refused : (bytes : List ℕ) (p : Problem) (r : Refusal) → Reads bytes p → FirstRefusal bytes r → ⊥
 read_or_refused bytes p (unread e) h k = no_file bytes h.file e h.read k

@@ -1,5 +1,5 @@
 -- The least of several places.
-use Rattle.std.proofs.Common.{◌≡◌, ℕ, ◌≤◌, List, [], ◌∷◌, Option, Some, None, min, refl, ap, sym, subst, ◌⊎◌, inl, inr, All, Contains, get_or, arith}
+use Rattle.std.proofs.Common.{◌≡◌, ℕ, ◌≤◌, List, [], ◌∷◌, Option, Some, None, min, refl, sym, subst, ◌⊎◌, inl, inr, All, Contains, arith}
 use Rattle.std.proofs.lemmas.List.Elements.{Contains-get_or, Contains-append_right, All-cons}
 use Rattle.problem_file.specs.Special.{least_place, lesser_of}
 
@@ -12,8 +12,8 @@ no_places (at ∷ places) h = absurd (by (least_place places) h)
     by None k = cc
     by (Some b) k = cc
 
-some_same : (m n : ℕ) → Some m ≡ Some n → m ≡ n
-some_same m n h = cc
+pub some_same : {X : Type 0} (x y : X) → Some x ≡ Some y → x ≡ y
+some_same x y h = cc
 
 -- the least place is one of them
 pub place_among : (places : List ℕ) (at : ℕ) → least_place places ≡ Some at → Contains places at

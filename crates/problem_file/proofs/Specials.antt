@@ -1,7 +1,7 @@
 -- The first place of what is not answered yet, form by form, and through lists.
-use Rattle.std.proofs.Common.{◌≡◌, ℕ, ℤ, ◌+◌, ◌<◌, ◌≤◌, min, Bool, List, [], ◌∷◌, ◌++◌, map, drop, get_or, length, Option, Some, None, refl, sym, ◌∙◌, ap, subst, arith}
+use Rattle.std.proofs.Common.{◌≡◌, ℕ, ℤ, ◌+◌, ◌<◌, ◌≤◌, min, Bool, List, [], ◌∷◌, ◌++◌, drop, get_or, length, Option, Some, None, refl, sym, ◌∙◌, ap, arith}
 use Rattle.std.specs.List.{flat_map}
-use Rattle.std.proofs.lemmas.List.{drop_more, append-nil}
+use Rattle.std.proofs.lemmas.List.{drop_more}
 use Rattle.std.proofs.Math.ListN.{drop_of_length-le}
 use Rattle.pri_reader.specs.declared.tree.Name.{Name}
 use Rattle.pri_reader.specs.declared.tree.Comparison.{Comparison}
@@ -10,10 +10,9 @@ use Rattle.pri_reader.specs.declared.tree.Form.{Form}
 use Rattle.pri_reader.specs.declared.tree.Form.TheVariants as f
 use Rattle.pri_reader.specs.declared.tree.Added.{Added}
 use Rattle.pri_reader.specs.declared.tree.Block.{Block}
-use Rattle.pri_reader.specs.declared.tree.File.{File}
-use Rattle.pri_typing.specs.Phrase.{and_addend, Phrase, phrase, phrase_of, phrases_of, addend, addends_of}
+use Rattle.pri_typing.specs.Phrase.{and_addend, Phrase, phrase, phrase_of, phrases_of, addends_of}
 use Rattle.pri_typing.proofs.Folds.{phrase-form, addend-term, phrase-Number, phrase-Truth, phrase-Use, phrase-Group, phrase-If, phrase-Abs, phrase-Min, phrase-Max, phrase-Minus, phrase-Product, phrase-Sum, phrase-Compare, phrase-Not, phrase-Quantified, phrase-Part, phrase-And, phrase-Or, phrase-Implies, phrase-Iff}
-use Rattle.problem_file.specs.Special.{special, all_special, added_special, if_any, block_special, unsupported, lesser_of, least_place}
+use Rattle.problem_file.specs.Special.{special, all_special, added_special, block_special, lesser_of, least_place}
 
 lesser-none : (a : Option ℕ) → lesser_of a None ≡ a
 lesser-none None = refl

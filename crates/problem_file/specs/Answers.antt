@@ -1,5 +1,5 @@
 -- What a job answers to the bytes of a problem's file.
-use Rattle.std.specs.Prelude.{◌≡◌, ℕ, List, Option, Some, None, codes}
+use Rattle.std.specs.Prelude.{◌≡◌, ℕ, List, Some, None, codes}
 use Rattle.answers.specs.Answer.{Answer, placed, refused_answer}
 use Rattle.pri_typing.specs.declared.problem.Problem.{Problem}
 use Rattle.problem_file.specs.Reads.{Reads, Refusal, FirstRefusal}

@@ -1,5 +1,6 @@
 // What is read of a file's bytes, each the contract of a function with nothing to do.
 
+ghost use Rattle.problem_file.specs.Answers.{Poses, PosesUnsupported};
 ghost use Rattle.problem_file.specs.Reads.{AreSame, FirstRefusal, Reads, Refusal};
 ghost use Rattle.problem_file.specs.Special.{least_place};
 ghost use Rattle.pri_typing.specs.WellFormed.{HasDistinctNames, IsWellFormed};
@@ -18,6 +19,13 @@ pub fn one_problem_law()
 pub fn problem_law()
     ensures well_formed { (bytes : List ℕ) (p : Problem) → Reads bytes p → IsWellFormed p }
     ensures distinct { (bytes : List ℕ) (p : Problem) → Reads bytes p → HasDistinctNames p }
+{}
+
+/// A problem that bytes pose is answered, or there is a first place of something that is not, and not both.
+pub fn unsupported_law()
+    ensures either { (bytes : List ℕ) (p : Problem) (at : ℕ) → Poses bytes p → PosesUnsupported bytes at → ⊥ }
+    ensures place { (bytes : List ℕ) (m n : ℕ) → PosesUnsupported bytes m → PosesUnsupported bytes n → m ≡ n }
+    ensures some { (bytes : List ℕ) (p : Problem) → Reads bytes p → Poses bytes p ⊎ ((at : ℕ) × PosesUnsupported bytes at) }
 {}
 
 /// The least of several places is one of them, and none is before it; only of no places there is none.

@@ -1,5 +1,5 @@
 -- What holds between two pieces of one name, and how much of it is read then.
-use Rattle.std.proofs.Common.{◌≡◌, ℕ, ◌+◌, ◌≤◌, List, ◌++◌, length, take, drop, Option, Some, None, sym, ◌∙◌, ap, arith}
+use Rattle.std.proofs.Common.{◌≡◌, ℕ, ◌+◌, ◌≤◌, List, ◌++◌, length, drop, Option, Some, None, sym, ◌∙◌, ap, arith}
 use Rattle.std.proofs.Math.Seq.{drop-append-add}
 use Rattle.prover_io.specs.Outside.{TakesAtMost}
 

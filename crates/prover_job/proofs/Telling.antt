@@ -1,11 +1,11 @@
 -- What a run answers, and what its end means.
-use Rattle.std.proofs.Common.{◌≡◌, ◌≢◌, ◌⊎◌, inl, inr, ℕ, List, [], ◌∷◌, ◌++◌, Option, Some, None, Result, Ok, Err, IfOk, Contains, refl, sym, ◌∙◌, ap, subst}
+use Rattle.std.proofs.Common.{◌≡◌, ◌≢◌, ◌⊎◌, inl, inr, ℕ, List, Option, Some, Result, Ok, Err, IfOk, refl, sym, ◌∙◌, ap, subst}
 use Rattle.typed_formula.specs.Truth.{Meaning}
 use Rattle.pri_typing.specs.Problems.{meaning_of}
 use Rattle.prover_io.specs.Outside.{IsLonger}
 use Rattle.prover_io.specs.declared.whole.ReadFault.{ReadFault}
 use Rattle.prover_io.specs.declared.whole.ReadFault.TheVariants.{Long}
-use Rattle.answers.specs.Answer.{Answer, answer_of, long_answer, words_answer, IsAnswerStatus}
+use Rattle.answers.specs.Answer.{Answer, answer_of, long_answer, IsAnswerStatus}
 use Rattle.answers.specs.declared.output.Output.{Output}
 use Rattle.answers.specs.Outside.{Gives, Meets}
 use Rattle.answers.specs.Files.{AnswersBytes, AnswersSource, too_long, within}

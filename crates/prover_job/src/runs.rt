@@ -29,7 +29,7 @@ pub fn run<S: Source, K: Sink, W: World>(
         (K.taken sink.old) (K.taken sink.new) }
     ensures valid { (file : List ℕ) → job_of (map string_bytes words.now) ≡ Some (solve file) → result ≡ 0
         → SaysValid (record { truth = W.truth world.now; value = W.value world.now })
-            (S.bytes_of source.old file) (K.taken sink.old) (K.taken sink.new) }
+        (S.bytes_of source.old file) (K.taken sink.old) (K.taken sink.new) }
     ensures refuted { (file : List ℕ) → job_of (map string_bytes words.now) ≡ Some (solve file) → result ≡ 1
         → SaysRefuted (S.bytes_of source.old file) }
     ensures unread { job_of (map string_bytes words.now) ≡ None → source.new ≡ source.old }

@@ -1,7 +1,6 @@
 -- Where each answer of `solve` comes.
-use Rattle.std.proofs.Common.{◌≡◌, ◌↔◌, ℕ, List, refl, sym, ◌∙◌, ap, codes}
-use Rattle.answers.specs.Answer.{Answer, says_line, unknown_answer, placed, refused_answer}
-use Rattle.problem_file.specs.Refusals.{refusal_name}
+use Rattle.std.proofs.Common.{◌≡◌, ℕ, List, refl, sym, ◌∙◌, ap}
+use Rattle.answers.specs.Answer.{Answer}
 use Rattle.problem_file.specs.Answers.{refused, unsupported, posed}
 use Rattle.solve_job.specs.Solved.{IsSolved, Overflows, IsTrueByNumbers, IsFalseByNumbers, overflow, valid, invalid}
 use Rattle.solve_job.specs.Causes.{Causes, PosesOne, IsRefused, first, special}

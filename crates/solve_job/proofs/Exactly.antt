@@ -1,13 +1,12 @@
 -- Each file has exactly one answer of `solve`.
-use Rattle.std.proofs.Common.{◌≡◌, ℕ, Bool, true, false, List, Option, Some, None, refl, sym, ◌∙◌, ap, codes}
-use Rattle.typed_formula.specs.Formula.{Formula, formula}
+use Rattle.std.proofs.Common.{◌≡◌, ℕ, Bool, true, false, List, refl, sym, ◌∙◌, ap, codes}
+use Rattle.typed_formula.specs.Formula.{formula}
 use Rattle.linear_term.specs.Range.{all_stay}
 use Rattle.ground_truth.specs.Ground.{is_true}
-use Rattle.ground_truth.specs.Computed.{Computes, computed_for}
+use Rattle.ground_truth.specs.Computed.{computed_for}
 use Rattle.pri_typing.specs.declared.problem.Problem.{Problem}
 use Rattle.answers.specs.Answer.{Answer, says_line, unknown_answer}
 use Rattle.problem_file.specs.Reads.{AreSame}
-use Rattle.problem_file.specs.Answers.{Poses}
 use Rattle.problem_file.proofs.Answering.{one_of_file, some_of_file}
 use Rattle.solve_job.specs.Solved.{IsSolved, AnswersNumbers, overflow, valid, invalid}
 

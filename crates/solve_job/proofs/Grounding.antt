@@ -1,5 +1,5 @@
 -- A problem without declared symbols, quantifiers, `\if`, `\abs`, `\min` and `\max`, whose file has no faults, is a ground formula.
-use Rattle.std.proofs.Common.{◌^◌, ◌≡◌, ℕ, Bool, true, false, List, [], ◌∷◌, ◌++◌, Option, Some, None, refl, sym, ◌∙◌, ap, subst}
+use Rattle.std.proofs.Common.{◌^◌, ◌≡◌, ℕ, Bool, true, false, List, [], ◌∷◌, ◌++◌, None, refl, sym, ◌∙◌, ap, subst}
 use Rattle.std.specs.List.{flat_map}
 use Rattle.std.proofs.lemmas.Bool.{ltb-true}
 use Rattle.pri_reader.specs.declared.tree.File.{File}
@@ -13,13 +13,13 @@ use Rattle.pri_typing.specs.Phrase.{phrase, Phrase, first_token, number, truth, 
 use Rattle.pri_typing.specs.Ranges.{IsRanged, AreRanged, AreAddedRanged}
 use Rattle.pri_typing.specs.Scope.{Scope, refers, bound_or_declared, declarations, declared_from, existentials, universals}
 use Rattle.pri_typing.specs.Files.{file_faults, declaration_faults, has_existential, parts_faults, problem_of, scope_of}
-use Rattle.pri_typing.specs.Faults.{least, faults, all_faults, addend_faults, use_faults, needs, product_faults}
+use Rattle.pri_typing.specs.Faults.{least, faults, all_faults, addend_faults, use_faults, product_faults}
 use Rattle.pri_typing.proofs.Least.{least-none}
 use Rattle.pri_typing.proofs.Ranged.{file_ranged, IsSmall}
 use Rattle.pri_typing.specs.declared.problem.Problem.{Problem}
 use Rattle.typed_formula.specs.Formula.{Expression, formula}
 use Rattle.problem_file.specs.Answers.{Poses}
-use Rattle.problem_file.specs.Reads.{IsFileOf, Reads}
+use Rattle.problem_file.specs.Reads.{IsFileOf}
 use Rattle.problem_file.proofs.Places.{no_places}
 use Rattle.pri_typing.specs.Typing.{part_names, says, value, members, signed, signed_terms}
 use Rattle.ground_truth.specs.Ground.{IsGround, AreGround, IsNumeric, AreNumeric}

@@ -1,5 +1,5 @@
 -- What the answers of `solve` mean.
-use Rattle.std.proofs.Common.{◌≡◌, ◌≢◌, ◌↔◌, ℕ, ℤ, Bool, true, false, IsTrue, List, [], ◌++◌, length, refl, sym, ◌∙◌, ap, subst, codes}
+use Rattle.std.proofs.Common.{◌≡◌, ◌≢◌, ◌↔◌, ℕ, ℤ, Bool, true, false, List, [], ◌++◌, length, refl, sym, ◌∙◌, ap}
 use Rattle.typed_formula.specs.Formula.{formula}
 use Rattle.typed_formula.specs.Truth.{Meaning, Truth}
 use Rattle.typed_formula.specs.declared.world.Table.{Table}
@@ -7,11 +7,10 @@ use Rattle.ground_truth.specs.Ground.{is_true}
 use Rattle.ground_truth.proofs.Meanings.{truth_meant}
 use Rattle.pri_typing.specs.declared.problem.Problem.{Problem}
 use Rattle.pri_typing.specs.Problems.{Holds, IsRefuted, IsRefutedAt, meaning_of}
-use Rattle.answers.specs.Answer.{Answer, says_line, line}
-use Rattle.problem_file.specs.Reads.{Reads}
+use Rattle.answers.specs.Answer.{Answer}
 use Rattle.problem_file.specs.Answers.{Poses, refused, unsupported, posed}
-use Rattle.solve_job.specs.Solved.{IsSolved, AnswersNumbers, overflow, valid, invalid}
-use Rattle.solve_job.specs.Headline.{Headline, Validates, Refutes}
+use Rattle.solve_job.specs.Solved.{IsSolved, overflow, valid, invalid}
+use Rattle.solve_job.specs.Headline.{Headline}
 use Rattle.solve_job.proofs.Grounding.{posed_ground, no_existentials, no_universals}
 
 -- the truth of the formula in any interpretation at any integers is that by its numbers

@@ -1,8 +1,6 @@
 -- Where each answer of `solve` comes.
 use Rattle.std.specs.Prelude.{◌≡◌, ◌↔◌, ℕ, List, codes}
-use Rattle.typed_formula.specs.Truth.{Meaning}
 use Rattle.pri_typing.specs.declared.problem.Problem.{Problem}
-use Rattle.pri_typing.specs.Problems.{Holds}
 use Rattle.answers.specs.Answer.{Answer, placed, refused_answer}
 use Rattle.problem_file.specs.Reads.{Refusal, FirstRefusal}
 use Rattle.problem_file.specs.Refusals.{refusal_name}

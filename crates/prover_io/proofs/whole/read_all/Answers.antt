@@ -1,5 +1,5 @@
 -- What is held and one piece more are at most the limit.
-use Rattle.std.proofs.Common.{inr, length, ap, arith}
+use Rattle.std.proofs.Common.{inr, arith}
 use Rattle.std.proofs.lemmas.List.{length-take}
 use Rattle.prover_io.proofs.Reading.{takes_piece}
 use Rattle.prover_io.proofs.whole.read_all.Goals as goal

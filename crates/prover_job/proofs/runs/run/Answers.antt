@@ -1,4 +1,3 @@
-use Rattle.std.proofs.Common.{ap, Some}
 use Rattle.prover_job.proofs.Telling.{says_valid, says_refuted}
 use Rattle.prover_job.proofs.runs.run.Goals as goal
 

@@ -1,4 +1,4 @@
-use Rattle.std.proofs.Common.{◌≡◌, ap, sym, rules}
+use Rattle.std.proofs.Common.{◌≡◌, rules}
 use Rattle.job_words.specs.Jobs.{solve, task_of}
 use Rattle.prover_job.proofs.tasks.job_output.Goals as goal
 
