@@ -1,4 +1,4 @@
-// The happy path; sums and products at the ends of the range are tried by whole problem files in prover_job.
+// The happy path; sums and products at the ends of the range are tried by whole problem files in run_rows.
 
 use crate::decide;
 use typed_formula::Typed;

@@ -1,6 +1,6 @@
 -- What the outside does in one call: bytes that are told or untold, faults that are counted, names that are begun or broken.
 -- Where a meaning is untold, nothing is said of it but that it stays untold.
-use Rattle.std.specs.Prelude.{◌≡◌, ℕ, ◌+◌, ◌-◌, ◌^◌, ◌≤◌, ◌<◌, ◌↔◌, Bool, true, false, List, [], ◌++◌, length, take, drop, min, Option, Some, None, ⊤}
+use Rattle.std.specs.Prelude.{◌≡◌, ℕ, ◌+◌, ◌-◌, ◌^◌, ◌≤◌, ◌<◌, ◌↔◌, ◌⊎◌, Bool, true, false, List, [], ◌++◌, length, take, drop, min, Option, Some, None, ⊤}
 
 -- a counter has gone up by one at least, or stands at the last value of 64 bits
 abbrev pub Rose : ℕ → ℕ → Type 0
@@ -48,3 +48,12 @@ IsLonger None most = ⊤
 abbrev pub LeavesPast : Option (List ℕ) → Option (List ℕ) → ℕ → Type 0
 LeavesPast (Some all) left most = left ≡ Some (drop (most + 1) all)
 LeavesPast None left most = left ≡ None
+
+-- of the bytes that were left at most n are taken from the front, where they are told
+abbrev pub TakesAtMost : Option (List ℕ) → Option (List ℕ) → ℕ → Type 0
+TakesAtMost (Some before) after n = (k : ℕ) × (k ≤ n) × (after ≡ Some (drop k before))
+TakesAtMost None after n = after ≡ None
+
+-- at most n bytes of a name are read: what was left before is left still, or all bytes of the name but so many
+abbrev pub ReadsAtMost : Option (List ℕ) → Option (List ℕ) → Option (List ℕ) → ℕ → Type 0
+ReadsAtMost bytes before after n = (after ≡ before) ⊎ TakesAtMost bytes after n

@@ -1,11 +1,11 @@
 // Real files as a source. It tells no bytes, since no clause can say what the system gives.
 
-ghost use Rattle.std.specs.Prelude.{◌≡◌, ◌&&◌, option_map, string_bytes, is_none, is_some, None};
+ghost use Rattle.std.specs.Prelude.{◌≡◌, ◌≤◌, ◌&&◌, length, option_map, string_bytes, is_none, is_some, None, IfOk};
 
 use crate::source::{BeginFault, Failed, Source};
 use std::alloc::Global;
 use std::fs;
-use std::io::Read;
+use std::io::{self, ErrorKind, Read};
 use std::rt::Files;
 
 /// The files of the system, by their paths.
@@ -20,7 +20,8 @@ pub struct FileSource<'a, R: Files> {
 }
 
 impl<'a, R: Files> FileSource<'a, R> {
-    /// A source of the files that `rt` gives. Each error of the system is a fault.
+    /// A source of the files that `rt` gives. A call of the system that is interrupted is made again; each other error of
+    /// the system is a fault.
     pub fn new(alloc: Global, rt: &'a R) -> FileSource<'a, R>
         ensures faults { ⟦<FileSource<'a, R> as Source>⟧.faults result ≡ 0 }
         ensures idle { ⟦<FileSource<'a, R> as Source>⟧.at result ≡ None }
@@ -51,7 +52,7 @@ impl<'a, R: Files> Source for FileSource<'a, R> {
             return Err(BeginFault::Memory);
         };
         self.name = Some(begun);
-        let Ok(file) = fs::open(self.rt, name) else {
+        let Ok(file) = open(self.rt, name) else {
             self.file = None;
             self.faults = self.faults.saturating_add(1);
             return Err(BeginFault::Failed);
@@ -64,11 +65,35 @@ impl<'a, R: Files> Source for FileSource<'a, R> {
         let Some(file) = &mut self.file else {
             unreachable!()
         };
-        let Ok(count) = file.read(buffer) else {
+        let Ok(count) = read_some(file, buffer) else {
             self.file = None;
             self.faults = self.faults.saturating_add(1);
             return Err(Failed);
         };
         Ok(count)
     }
+}
+
+// Opens a file, again where the call is interrupted.
+fn open<R: Files>(rt: &R, name: &str) -> io::Result<R::File> {
+    for _ in 0..u64::MAX {
+        match fs::open(rt, name) {
+            Err(e) if e.kind() == ErrorKind::Interrupted => {}
+            answer => return answer,
+        }
+    }
+    Err(io::Error::from(ErrorKind::Interrupted))
+}
+
+// Reads some bytes of a file, again where the call is interrupted.
+pub(crate) fn read_some<F: Read>(file: &mut F, buffer: &mut [u8]) -> io::Result<usize>
+    ensures { IfOk result (λ n. n ≤ length buffer.new) }
+{
+    for _ in 0..u64::MAX {
+        match file.read(buffer) {
+            Err(e) if e.kind() == ErrorKind::Interrupted => {}
+            answer => return answer,
+        }
+    }
+    Err(io::Error::from(ErrorKind::Interrupted))
 }

@@ -104,6 +104,7 @@ impl Source for MemorySource {
         ensures failed { IsErrOf result BeginFault.Failed → Broke (Some name.now) (name_of self.new) (is_broken self.new) }
         ensures fault { IsErrOf result BeginFault.Failed → faults_of self.new ≡ min (faults_of self.old + 1) (2 ^ 64 - 1) }
         ensures no_fault { OnOk result (faults_of self.new ≡ faults_of self.old) }
+        ensures unread { IsErrOf result BeginFault.Failed → rest_of self.new ≡ rest_of self.old }
         ensures later { faults_of self.old ≤ faults_of self.new }
         ensures counted { OnOk result (Counts self.old self.new) }
         ensures counted_too { IsErrOf result BeginFault.Failed → Counts self.old self.new }
@@ -142,6 +143,7 @@ impl Source for MemorySource {
         ensures bytes { IfOk result (λ n. Moves (rest_of self.old) (Some (rest_of self.new)) n buffer.new) }
         ensures unbroken { OnOk result (is_broken self.new ≡ false) }
         ensures failed { OnErr result (is_broken self.new ≡ true) }
+        ensures unread { OnErr result (rest_of self.new ≡ rest_of self.old) }
         ensures named { name_of self.new ≡ name_of self.old }
         ensures fault { OnErr result (faults_of self.new ≡ min (faults_of self.old + 1) (2 ^ 64 - 1)) }
         ensures no_fault { OnOk result (faults_of self.new ≡ faults_of self.old) }

@@ -32,17 +32,19 @@ pub trait Source {
     // Whether that `begin` or a `read` after it answered Failed.
     ghost broken: { Self → Bool };
 
-    /// Begins to read the bytes of a name, from their first on. Where memory is wanting nothing changes.
+    /// Begins to read the bytes of a name, from their first on. A begin that fails reads nothing. Where memory is wanting
+    /// nothing changes.
     fn begin(&mut self, name: &str) -> Result<(), BeginFault>
         ensures begun { OnOk result (Begun name.now (bytes_of self.old name.now) (left self.new) (at self.new) (broken self.new)) }
         ensures failed { IsErrOf result BeginFault.Failed → Broke (Some name.now) (at self.new) (broken self.new) }
         ensures cause { IsErrOf result BeginFault.Failed → Rose (faults self.old) (faults self.new) }
+        ensures unread { IsErrOf result BeginFault.Failed → left self.new ≡ left self.old }
         ensures memory { IsErrOf result BeginFault.Memory → self.new ≡ self.old }
         ensures later { faults self.old ≤ faults self.new }
         ensures same { (n : List ℕ) → bytes_of self.new n ≡ bytes_of self.old n };
 
-    /// Moves the next bytes of the name begun to the front of the buffer, and answers how many; 0 is the end. After a
-    /// failure nothing more is read of that name.
+    /// Moves the next bytes of the name begun to the front of the buffer, and answers how many; 0 is the end. A
+    /// call that fails takes nothing, and after it nothing more is read of that name.
     fn read(&mut self, buffer: &mut [u8]) -> Result<usize, Failed>
         requires begun { IsSome (at self.old) }
         requires unbroken { broken self.old ≡ false }
@@ -51,6 +53,7 @@ pub trait Source {
         ensures bytes { IfOk result (λ n. ReadGives (left self.old) (left self.new) n buffer.new) }
         ensures unbroken { OnOk result (broken self.new ≡ false) }
         ensures failed { OnErr result (broken self.new ≡ true) }
+        ensures unread { OnErr result (left self.new ≡ left self.old) }
         ensures named { at self.new ≡ at self.old }
         ensures cause { OnErr result (Rose (faults self.old) (faults self.new)) }
         ensures later { faults self.old ≤ faults self.new }

@@ -1,8 +1,26 @@
 // What no clause says: that the calls succeed, and what the system gives and takes.
 
 use super::*;
+use crate::file_source::read_some;
 use std::alloc::Global;
+use std::io::{self, ErrorKind, Read};
 use std::test::Fail;
+
+// A reader at its end, whose next calls are interrupted.
+#[derive(Drop)]
+struct Interrupted {
+    calls: u8,
+}
+
+impl Read for Interrupted {
+    fn read(&mut self, _buf: &mut [u8]) -> io::Result<usize> {
+        if self.calls == 0 {
+            return Ok(0);
+        }
+        self.calls -= 1;
+        Err(io::Error::from(ErrorKind::Interrupted))
+    }
+}
 
 fn source(alloc: Global, failing: &[u64]) -> Result<MemorySource, Fail> {
     let mut files = Vec::new(alloc);
@@ -81,5 +99,14 @@ fn reads_what_the_system_gives(rt: HostRuntime) -> Result<(), Fail> {
 fn prints(rt: HostRuntime) -> Result<(), Fail> {
     let mut sink = OutSink::new(&rt);
     assert_eq!(rt; sink.put(b"hello"), Ok(5));
+    Ok(())
+}
+
+#[test]
+fn goes_on_after_interrupted_calls(rt: HostRuntime) -> Result<(), Fail> {
+    let mut reader = Interrupted { calls: 3 };
+    let mut buffer = [0u8; 4];
+    let count = read_some(&mut reader, &mut buffer)?;
+    assert_eq!(rt; (count, reader.calls), (0, 0));
     Ok(())
 }

@@ -1,6 +1,6 @@
 // All bytes of a name, up to a limit.
 
-ghost use Rattle.prover_io.specs.Outside.{Broke, IsLonger, IsWhole, LeavesPast, ReadGives, Rose};
+ghost use Rattle.prover_io.specs.Outside.{Broke, IsLonger, IsWhole, LeavesPast, ReadGives, ReadsAtMost, Rose, TakesAtMost};
 ghost use Rattle.std.specs.Prelude.{◌≡◌, ℕ, ◌+◌, ◌^◌, ◌<◌, ◌≤◌, ◌++◌, List, length, take, false, true, Some, vec_len, IfOk, OnOk, OnErr, IsErrOf, IsSome};
 
 use crate::source::{BeginFault, Source};
@@ -21,8 +21,8 @@ pub enum ReadFault {
     Memory,
 }
 
-/// Reads all bytes of a name, in pieces of at most 65,536 bytes and at most one byte past `most`. Long where it has more
-/// than `most`; Failed where the source failed, which comes before Long.
+/// Reads all bytes of a name, in pieces of at most 65,536 bytes. Long where it has more than `most`; Failed where the source
+/// failed, which comes before Long. Whatever it answers, it reads at most one byte past `most`.
 pub fn read_all<S: Source>(
     alloc: Global,
     source: &mut S,
@@ -34,6 +34,8 @@ pub fn read_all<S: Source>(
     ensures within { IfOk result (λ bytes. vec_len bytes ≤ most) }
     ensures long { IsErrOf result ReadFault.Long → IsLonger (S.bytes_of source.old name.now) most }
     ensures stops { IsErrOf result ReadFault.Long → LeavesPast (S.bytes_of source.old name.now) (S.left source.new) most }
+    ensures past { ReadsAtMost (S.bytes_of source.old name.now) (S.left source.old) (S.left source.new) (most + 1) }
+    ensures named { ¬ (IsErrOf result ReadFault.Memory) → S.at source.new ≡ Some name.now }
     ensures failed { IsErrOf result ReadFault.Failed → Rose (S.faults source.old) (S.faults source.new) }
     ensures broke { IsErrOf result ReadFault.Failed → Broke (Some name.now) (S.at source.new) (S.broken source.new) }
     ensures later { S.faults source.old ≤ S.faults source.new }
@@ -71,6 +73,7 @@ fn read_piece<S: Source>(
     ensures bound { IfOk result (λ n. n ≤ length buffer.old) }
     ensures read { IfOk result (λ n. ReadGives (S.left source.old) (S.left source.new) n buffer.new) }
     ensures added { IfOk result (λ n. bytes.new.items ≡ bytes.old.items ++ take n buffer.new) }
+    ensures taken { TakesAtMost (S.left source.old) (S.left source.new) (length buffer.old) }
     ensures unbroken { OnOk result (S.broken source.new ≡ false) }
     ensures named { S.at source.new ≡ S.at source.old }
     ensures short { ¬ (IsErrOf result ReadFault.Long) }

@@ -1,19 +1,8 @@
-// The jobs of the prover: the words that name them, and the top call, which does a job over a source and a sink.
+// The top call of the prover: it does the job that its words name, over a source and a sink.
 #![tactic(auto)]
 
-mod jobs;
-mod puts;
-mod refusals;
 mod runs;
-mod special;
-mod statuses;
-mod verdicts;
-mod words;
+mod tasks;
 
-pub use jobs::{Job, WordsFault};
+pub use job_words::{Job, WordsFault, job, words_law};
 pub use runs::run;
-pub use verdicts::one_verdict_law;
-pub use words::{job, words_law};
-
-#[cfg(test)]
-mod tests;

@@ -1,0 +1,41 @@
+-- How answers meet the outside: a run that ends for a fault meets every answer, and what meets some answers meets all that
+-- they are.
+use Rattle.std.proofs.Common.{◌≡◌, ℕ, ◌+◌, ◌<◌, ◌≤◌, List, Option, Some, None, refl, length, arith}
+use Rattle.std.proofs.lemmas.List.{length-replicate}
+use Rattle.std.specs.Prelude.{replicate}
+use Rattle.prover_io.specs.Outside.{IsLonger, IsWhole}
+use Rattle.answers.specs.Answer.{Answer, long_answer}
+use Rattle.answers.specs.Outside.{Meets}
+use Rattle.answers.specs.Files.{AnswersSource, too_long, within}
+
+-- a run that ends since the source failed meets every answer
+pub meets_failed : (P : Answer → Type 0) (before after : Option (List ℕ)) → Meets P 6 before after
+meets_failed P before after = record { whole = λ not_six. absurd (not_six refl); part = λ six. absurd (cc) }
+
+-- a run that ends for want of memory meets every answer
+pub meets_wanting : (P : Answer → Type 0) (before after : Option (List ℕ)) → Meets P 8 before after
+meets_wanting P before after = record { whole = λ a b not_eight. absurd (not_eight refl); part = λ eight. absurd (cc) }
+
+-- what meets some answers meets all that they are
+pub meets_more : (P Q : Answer → Type 0) (ends : ℕ) (before after : Option (List ℕ)) → ((answer : Answer) → P answer → Q answer) → Meets P ends before after → Meets Q ends before after
+meets_more P Q ends before after more met = record {
+  whole = λ a b c. let given = met.whole a b c in record { answer = given.answer; is = more given.answer given.is; status = given.status; put = given.put };
+  part = λ seven. let given = met.part seven in record { answer = given.answer; is = more given.answer given.is; put = given.put };
+}
+
+-- a file that is held whole is answered
+pub whole_answered : (IsAnswer : List ℕ → Answer → Type 0) (told : Option (List ℕ)) (bytes : List ℕ) (answer : Answer) → IsWhole told bytes → length bytes ≤ 1048576
+    → IsAnswer bytes answer → AnswersSource IsAnswer told answer
+whole_answered IsAnswer told bytes answer whole few is = record { bytes = bytes; whole = whole; is = within few is }
+
+-- some bytes are longer than n
+longer_bytes : (n : ℕ) → (bytes : List ℕ) × (n < length bytes)
+longer_bytes n = let zero : ℕ = 0 in (replicate (n + 1) zero, rw (length-replicate (n + 1) zero) (omega arith))
+
+long_past : (IsAnswer : List ℕ → Answer → Type 0) (most : ℕ) → most ≡ 1048576 → (told : Option (List ℕ)) (answer : Answer) → IsLonger told most → answer ≡ long_answer → AnswersSource IsAnswer told answer
+long_past IsAnswer most m (Some all) answer longer e = record { bytes = all; whole = refl; is = too_long (omega (arith, longer, m)) e }
+long_past IsAnswer most m None answer longer e = let some = longer_bytes most in let past = some.1 in record { bytes = some.0; whole = tt; is = too_long (omega (arith, past, m)) e }
+
+-- a file past the limit is answered so
+pub long_answered : (IsAnswer : List ℕ → Answer → Type 0) (told : Option (List ℕ)) (answer : Answer) → IsLonger told 1048576 → answer ≡ long_answer → AnswersSource IsAnswer told answer
+long_answered IsAnswer told answer longer e = long_past IsAnswer 1048576 refl told answer longer e

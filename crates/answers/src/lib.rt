@@ -1,0 +1,14 @@
+// Answers: an exit status and a text. How their lines are made, and how they are put to a sink.
+#![tactic(auto)]
+
+mod lines;
+mod output;
+mod puts;
+pub mod status;
+
+pub use lines::{refused, refused_at, say, unknown};
+pub use output::Output;
+pub use puts::{put_all, put_answer};
+
+#[cfg(test)]
+mod tests;

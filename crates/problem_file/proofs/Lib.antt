@@ -1,0 +1,6 @@
+pub mod Answering
+pub mod Bytes
+mod Existing
+pub mod Places
+mod Specials
+mod Telling

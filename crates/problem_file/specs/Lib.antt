@@ -1,0 +1,5 @@
+pub mod Answers
+pub mod Faults
+pub mod Reads
+pub mod Refusals
+pub mod Special

@@ -1,0 +1,21 @@
+-- The names of refusals, with their places.
+use Rattle.std.specs.Prelude.{ℕ, List, [], codes}
+use Rattle.answers.specs.Answer.{placed}
+use Rattle.pri_reader.specs.declared.tree.ReadRefusal.TheVariants as reading
+use Rattle.pri_typing.specs.declared.problem.TypeRefusal.TheVariants as typing
+use Rattle.problem_file.specs.Reads.{Refusal, unread, untyped}
+
+-- what a refusal is called; want of memory is none
+abbrev pub refusal_name : Refusal → List ℕ
+refusal_name (unread (reading.Syntax at)) = placed (codes "Syntax") at
+refusal_name (unread (reading.Literal at)) = placed (codes "Literal") at
+refusal_name (unread (reading.Deep at)) = placed (codes "Deep") at
+refusal_name (untyped (typing.Undeclared at)) = placed (codes "Undeclared") at
+refusal_name (untyped (typing.Redeclared at)) = placed (codes "Redeclared") at
+refusal_name (untyped (typing.Arity at)) = placed (codes "Arity") at
+refusal_name (untyped (typing.Kind at)) = placed (codes "Kind") at
+refusal_name (untyped (typing.NonLinear at)) = placed (codes "NonLinear") at
+refusal_name (untyped (typing.Parts at)) = placed (codes "Parts") at
+refusal_name (untyped (typing.Many at)) = placed (codes "Many") at
+refusal_name (unread reading.Memory) = []
+refusal_name (untyped typing.Memory) = []

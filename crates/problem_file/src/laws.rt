@@ -1,0 +1,36 @@
+// What is read of a file's bytes, each the contract of a function with nothing to do.
+
+ghost use Rattle.problem_file.specs.Answers.{Poses, PosesUnsupported};
+ghost use Rattle.problem_file.specs.Reads.{AreSame, FirstRefusal, Reads, Refusal};
+ghost use Rattle.problem_file.specs.Special.{least_place};
+ghost use Rattle.pri_typing.specs.WellFormed.{HasDistinctNames, IsWellFormed};
+ghost use Rattle.pri_typing.specs.declared.problem.Problem.{Problem};
+ghost use Rattle.std.specs.Prelude.{◌≡◌, ◌≤◌, ◌⊎◌, ℕ, List, [], None, Some, All, Contains};
+
+/// Bytes pose a problem or have a first refusal, and not both; and of each at most one.
+pub fn one_problem_law()
+    ensures problem { (bytes : List ℕ) (p q : Problem) → Reads bytes p → Reads bytes q → AreSame p q }
+    ensures refusal { (bytes : List ℕ) (r s : Refusal) → FirstRefusal bytes r → FirstRefusal bytes s → r ≡ s }
+    ensures either { (bytes : List ℕ) (p : Problem) (r : Refusal) → Reads bytes p → FirstRefusal bytes r → ⊥ }
+    ensures some { (bytes : List ℕ) → ((p : Problem) × Reads bytes p) ⊎ ((r : Refusal) × FirstRefusal bytes r) }
+{}
+
+/// The problem that bytes pose is well formed, and its symbols have different names.
+pub fn problem_law()
+    ensures well_formed { (bytes : List ℕ) (p : Problem) → Reads bytes p → IsWellFormed p }
+    ensures distinct { (bytes : List ℕ) (p : Problem) → Reads bytes p → HasDistinctNames p }
+{}
+
+/// A problem that bytes pose is answered, or there is a first place of something that is not, and not both.
+pub fn unsupported_law()
+    ensures either { (bytes : List ℕ) (p : Problem) (at : ℕ) → Poses bytes p → PosesUnsupported bytes at → ⊥ }
+    ensures place { (bytes : List ℕ) (m n : ℕ) → PosesUnsupported bytes m → PosesUnsupported bytes n → m ≡ n }
+    ensures some { (bytes : List ℕ) (p : Problem) → Reads bytes p → Poses bytes p ⊎ ((at : ℕ) × PosesUnsupported bytes at) }
+{}
+
+/// The least of several places is one of them, and none is before it; only of no places there is none.
+pub fn first_place_law()
+    ensures among { (places : List ℕ) (at : ℕ) → least_place places ≡ Some at → Contains places at }
+    ensures first { (places : List ℕ) (at : ℕ) → least_place places ≡ Some at → All (λ place. at ≤ place) places }
+    ensures none { (places : List ℕ) → least_place places ≡ None → places ≡ [] }
+{}

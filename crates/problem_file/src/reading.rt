@@ -1,0 +1,41 @@
+// The problem that the bytes of a file pose.
+
+ghost use Rattle.problem_file.specs.Answers.{Poses};
+ghost use Rattle.problem_file.specs.Faults.{RefusesFile};
+ghost use Rattle.problem_file.specs.Reads.{IsFileOf};
+ghost use Rattle.pri_typing.specs.Limits.{IsResolvable};
+ghost use Rattle.std.specs.Prelude.{◌≡◌, ◌<◌, ◌^◌, ℕ, List, length, IfOk, IfErr};
+
+use crate::fault::FileFault;
+use crate::special::first_unsupported;
+use pri_reader::{File, read};
+use pri_typing::{Problem, resolve};
+use std::alloc::Global;
+
+/// The problem that the bytes of a file pose, of which there is at most one; or their first refusal, or the first place of
+/// something that is not answered yet.
+pub fn read_problem(alloc: Global, bytes: &[u8]) -> Result<Problem, FileFault>
+    requires { length bytes.now < 2 ^ 32 }
+    ensures posed { IfOk result (Poses bytes.now) }
+    ensures refused { IfErr result (RefusesFile bytes.now) }
+{
+    match read(alloc, bytes) {
+        Ok(file) => file_problem(alloc, &file),
+        Err(refusal) => Err(FileFault::Reading(refusal)),
+    }
+}
+
+// The problem that a file poses, for any bytes that are this file.
+fn file_problem(alloc: Global, file: &File) -> Result<Problem, FileFault>
+    requires { IsResolvable file.now.blocks }
+    ensures posed { (bytes : List ℕ) → IsFileOf bytes file.now → IfOk result (Poses bytes) }
+    ensures refused { (bytes : List ℕ) → IsFileOf bytes file.now → IfErr result (RefusesFile bytes) }
+{
+    match resolve(alloc, file) {
+        Ok(problem) => match first_unsupported(file) {
+            Some(at) => Err(FileFault::Unsupported(at)),
+            None => Ok(problem),
+        },
+        Err(refusal) => Err(FileFault::Typing(refusal)),
+    }
+}

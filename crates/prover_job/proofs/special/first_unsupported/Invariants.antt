@@ -1,6 +1,0 @@
-use Rattle.std.proofs.Common.{drop}
-use Rattle.prover_job.proofs.Specials.{Left, in_blocks}
-use Rattle.prover_job.proofs.special.first_unsupported.Given as goal
-
-abbrev pub invariant-loop-block : goal.invariant-loop-block
-invariant-loop-block l = Left in_blocks l.file.blocks (drop l.block-index l.file.blocks) l.first

@@ -1,0 +1,13 @@
+// Rows of whole runs over memory: the status and the bytes taken, for words, faults, limits and problem files.
+#![tactic(auto)]
+
+#[cfg(test)]
+mod decided;
+#[cfg(test)]
+mod limits;
+#[cfg(test)]
+mod refused;
+#[cfg(test)]
+mod runs;
+#[cfg(test)]
+mod words;

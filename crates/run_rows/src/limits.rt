@@ -1,0 +1,61 @@
+// Files at the limit on levels, and long ones.
+
+use crate::runs::ends;
+use std::alloc::Global;
+use std::test::Fail;
+
+// The bytes of `\problem { .. }` with this formula, in which each `@` stands for this many of a filling text.
+fn problem(alloc: Global, formula: &str, filling: &str, count: usize) -> Result<Vec<u8>, Fail> {
+    let mut bytes = Vec::from_slice(alloc, b"\\problem { ")?;
+    for byte in formula.as_bytes() {
+        if *byte == b'@' {
+            for _ in 0..count {
+                bytes.extend_from_slice(filling.as_bytes())?;
+            }
+        } else {
+            bytes.push(*byte)?;
+        }
+    }
+    bytes.extend_from_slice(b" }")?;
+    Ok(bytes)
+}
+
+#[test]
+fn two_hundred_levels_are_read(rt: HostRuntime) -> Result<(), Fail> {
+    let rows: [(&str, &str, usize, (u8, &str)); 8] = [
+        ("@true", "!", 200, (0, "VALID\n")),
+        ("@true", "!", 201, (3, "refused: Deep at 211\n")),
+        ("@(true)", "!", 199, (1, "INVALID\n")),
+        ("@(true)", "!", 200, (3, "refused: Deep at 211\n")),
+        ("@", "(", 201, (3, "refused: Deep at 211\n")),
+        ("@1 = 1", "-", 200, (0, "VALID\n")),
+        ("@true", "true <-> ", 200, (0, "VALID\n")),
+        ("true@", " ", 1_000, (0, "VALID\n")),
+    ];
+    for (formula, filling, count, (status, text)) in rows {
+        let bytes = problem(rt.alloc(), formula, filling, count)?;
+        let (ended, taken) = ends(rt.alloc(), &["solve", "f"], bytes.as_slice(), &[], &[])?;
+        assert_eq!(rt; ended, status, "at {formula} with {count}");
+        assert_eq!(rt;
+            taken.as_slice(),
+            text.as_bytes(),
+            "at {formula} with {count}"
+        );
+    }
+    Ok(())
+}
+
+#[test]
+fn long_chains_are_read(rt: HostRuntime) -> Result<(), Fail> {
+    for (formula, status) in [("true@", 1), ("true | true@", 0), ("0@ = 100000", 0)] {
+        let filling = if formula == "0@ = 100000" {
+            "+1"
+        } else {
+            " & 1<1"
+        };
+        let bytes = problem(rt.alloc(), formula, filling, 100_000)?;
+        let (ended, _taken) = ends(rt.alloc(), &["solve", "f"], bytes.as_slice(), &[], &[])?;
+        assert_eq!(rt; ended, status, "at {formula}");
+    }
+    Ok(())
+}

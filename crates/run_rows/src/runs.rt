@@ -1,0 +1,49 @@
+// Runs over memory.
+
+use prover_io::{MemorySink, MemorySource};
+use prover_job::run;
+use std::alloc::Global;
+use std::process::Abort;
+use std::test::Fail;
+use typed_formula::Table;
+
+// Runs these words over two files `f` and `-` of these bytes, and a sink that takes three bytes a call.
+pub fn ends(
+    alloc: Global,
+    words: &[&str],
+    bytes: &[u8],
+    source_fails: &[u64],
+    sink_fails: &[u64],
+) -> Result<(u8, Vec<u8>), Fail> {
+    let mut given = Vec::new(alloc);
+    for word in words {
+        given.push(String::from_str(alloc, word)?)?;
+    }
+    let mut files = Vec::new(alloc);
+    for name in ["f", "-"] {
+        files.push((
+            String::from_str(alloc, name)?,
+            Vec::from_slice(alloc, bytes)?,
+        ))?;
+    }
+    let mut source = MemorySource::new(files, Vec::from_slice(alloc, source_fails)?);
+    let mut sink = MemorySink::new(alloc, 1_048_576, 3, Vec::from_slice(alloc, sink_fails)?)?;
+    let status = run(
+        alloc,
+        given.as_slice(),
+        &mut source,
+        &mut sink,
+        &Table::empty(alloc),
+    );
+    Ok((status, Vec::from_slice(alloc, sink.taken())?))
+}
+
+// Runs each of these files, and asks for its answer.
+pub fn answers(rt: &impl Abort, alloc: Global, rows: &[(&str, (u8, &str))]) -> Result<(), Fail> {
+    for (file, (status, text)) in rows {
+        let (ended, taken) = ends(alloc, &["solve", "f"], file.as_bytes(), &[], &[])?;
+        assert_eq!(rt; ended, *status, "at {file}");
+        assert_eq!(rt; taken.as_slice(), text.as_bytes(), "at {file}");
+    }
+    Ok(())
+}

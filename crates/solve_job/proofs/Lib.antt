@@ -1,0 +1,4 @@
+mod Causing
+mod Exactly
+mod Grounding
+pub mod Meaning

@@ -1,0 +1,8 @@
+// The job `solve`: what it answers to the bytes of a problem's file, and what its answers mean.
+#![tactic(auto)]
+
+mod laws;
+mod solving;
+
+pub use laws::{causes_law, headline_law, numbers_law, one_answer_law};
+pub use solving::answer;
