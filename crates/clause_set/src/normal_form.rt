@@ -49,11 +49,15 @@ fn divided(alloc: Global, g: i128, pairs: &[(u32, i128)]) -> Result<Vec<(u32, i1
 }
 
 /// The term divided by a positive g that divides its coefficients, its constant rounded down.
+#[tactic(auto, using(crate::proofs::Owned::ones))]
 fn quotient(alloc: Global, g: i128, t: &Term) -> Result<Term, Memory>
     requires positive { pos 0 <ℤ g }
     requires divides { All (λ p. Divides g p.1) t.now.pairs }
     ensures { IfOk result (λ q. q ≡ quotient g t.now) }
 {
+    if g == 1 {
+        return t.copy();
+    }
     t.is_normal();
     let pairs = divided(alloc, g, t.pairs())?;
     let constant = floor_div(t.constant(), g);

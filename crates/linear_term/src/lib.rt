@@ -14,6 +14,3 @@ pub use laws::{
 pub use numbers::{bezout, floor_div, gcd};
 pub use range::{Memory, Place, TermFault, in_range};
 pub use term::Term;
-
-#[cfg(test)]
-mod tests;
