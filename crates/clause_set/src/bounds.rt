@@ -203,7 +203,7 @@ fn tightened_bound(
     requires range { (q : List (ℕ × ℤ)) → IfSome (bound_at table.now q) (λ k. InRange k) }
     ensures { IfOk result (λ o. o ≡ tight_or_void literals.now (Literal.Geq t.now)) }
 {
-    t.is_normal();
+    t.know_normal();
     let n = negated(alloc, t.pairs())?;
     let low = bound_at(table, t.pairs());
     let high = bound_at(table, n.as_slice());
@@ -230,7 +230,7 @@ fn kept_equation(
     requires range { (q : List (ℕ × ℤ)) → IfSome (bound_at table.now q) (λ k. InRange k) }
     ensures { IfOk result (λ o. o ≡ tight_or_void literals.now (Literal.Eq t.now)) }
 {
-    t.is_normal();
+    t.know_normal();
     let n = negated(alloc, t.pairs())?;
     if is_negative(bound_at(table, t.pairs()), bound_at(table, n.as_slice())) {
         return Ok(None);

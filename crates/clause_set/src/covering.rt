@@ -46,7 +46,7 @@ fn has_literal(c: &[Literal], l: &Literal) -> bool
 fn follows_bound(c: &[Literal], t: &Term) -> bool
     ensures { result ≡ follows c.now (Literal.Geq t.now) }
 {
-    t.is_normal();
+    t.know_normal();
     match slack(c, t.pairs()) {
         Some(k) => k <= t.constant(),
         None => false,

@@ -58,7 +58,7 @@ fn quotient(alloc: Global, g: i128, t: &Term) -> Result<Term, Memory>
     if g == 1 {
         return t.copy();
     }
-    t.is_normal();
+    t.know_normal();
     let pairs = divided(alloc, g, t.pairs())?;
     let constant = floor_div(t.constant(), g);
     Term::of(alloc, pairs.as_slice(), constant)
@@ -94,7 +94,7 @@ fn residue(alloc: Global, d: i128, t: &Term) -> Result<Term, Memory>
     requires { IsDivisor d }
     ensures { IfOk result (λ r. r ≡ residue d t.now) }
 {
-    t.is_normal();
+    t.know_normal();
     let pairs = residues(alloc, d, t.pairs())?;
     let constant = t.constant().rem_euclid(d);
     Term::of(alloc, pairs.as_slice(), constant)
@@ -110,7 +110,7 @@ fn content(g: i128, t: &Term) -> i128
     ensures divides { All (λ p. Divides result p.1) t.now.pairs }
     ensures range { InRange result }
 {
-    t.is_normal();
+    t.know_normal();
     gcd_with(g, t.pairs())
 }
 
@@ -131,7 +131,7 @@ fn reduced_equation(alloc: Global, g: i128, t: &Term) -> Result<Norm, Memory>
 fn turned_term(alloc: Global, t: &Term) -> Result<Term, Memory>
     ensures { IfOk result (λ q. q ≡ turned t.now) }
 {
-    t.is_normal();
+    t.know_normal();
     let opposite = negated(alloc, t.pairs())?;
     turned(alloc, t.pairs(), opposite.as_slice(), t.constant())
 }

@@ -54,7 +54,7 @@ fn copied(alloc: Global, pairs: &[(u32, i128)]) -> Result<Vec<(u32, i128)>, Memo
 fn put_equation(alloc: Global, table: &mut Table, t: &Term) -> Result<(), Memory>
     ensures { OnOk result ((q : List (ℕ × ℤ)) → bound_at table.new q ≡ least (bound_at table.old q) (slack_of (Literal.Eq t.now) q)) }
 {
-    t.is_normal();
+    t.know_normal();
     let opposite = negated(alloc, t.pairs())?;
     let same = same_pairs(t.pairs(), opposite.as_slice());
     put_bound(table, copied(alloc, t.pairs())?, t.constant())?;
@@ -71,7 +71,7 @@ fn put_literal(alloc: Global, table: &mut Table, l: &Literal) -> Result<(), Memo
     ensures exact { OnOk result ((q : List (ℕ × ℤ)) → bound_at table.new q ≡ least (bound_at table.old q) (slack_of l.now q)) }
     ensures range { (q : List (ℕ × ℤ)) → IfSome (slack_of l.now q) (λ k. InRange k) }
 {
-    l.term().is_normal();
+    l.term().know_normal();
     match l {
         Literal::Eq(t) => put_equation(alloc, table, t),
         Literal::Geq(t) => put_bound(table, copied(alloc, t.pairs())?, t.constant()),
