@@ -3,7 +3,7 @@ use Rattle.std.proofs.Common.{◌≡◌, ◌<◌, ◌≤◌, ◌+◌, ℕ, zero,
 use Rattle.std.specs.Cmp.{first_so, second_so, both_ways}
 use Rattle.std.specs.List.{list_all, list_any, filter}
 use Rattle.std.proofs.lemmas.Int.{ints}
-use Rattle.linear_term.specs.Linear.{value_of}
+use Rattle.linear_term.specs.Linear.{Linear, value_of}
 use Rattle.linear_term.proofs.Totals.{by_test}
 use Rattle.clause_set.specs.declared.literal.Literal.{Literal}
 use Rattle.clause_set.specs.declared.literal.Literal.TheVariants.{Eq, Geq, Div, NDiv}
@@ -12,7 +12,7 @@ use Rattle.clause_set.specs.Order.{literal_cmp, clause_cmp, is_literal, sorted_o
 use Rattle.clause_set.specs.Clauses.{same_pairs, least, slack_of, slack}
 use Rattle.clause_set.specs.Dnfs.{is_within, follows, is_implied, covers, outdoes, is_covered, uncovered, tidied}
 use Rattle.clause_set.proofs.NormalTruth.{le_decides}
-use Rattle.clause_set.proofs.Orders.{same_pairs-equal, literal_cmp-equal, clause_cmp-equal, is_eq-equal, sorted_once-any}
+use Rattle.clause_set.proofs.Orders.{same_pairs-equal, same_pairs-refl, literal_cmp-equal, clause_cmp-equal, is_eq-equal, sorted_once-any}
 use Rattle.clause_set.proofs.ClauseTruth.{Bounded, AtMost, least-left, least-right, slack-bounded, sum_of, value-is, by_first}
 
 -- x is one of xs
@@ -122,6 +122,35 @@ implied-slack c m p k h e =
     (λ t. let w = any_from (is_literal m) c t in
     slack-at w.element c p k w.among (ap (λ z. slack_of z p) (sym (same_literal_test m w.element w.passes)) ∙ e))
     (λ f. follows-slack c m p k f e)
+
+-- a bound that is in a clause follows from it
+held_follows : (c : List Literal) (t : Linear) → list_any (is_literal (Geq t)) c ≡ true → follows c (Geq t) ≡ true
+held_follows c t h =
+    let w = any_from (is_literal (Geq t)) c h in
+    let own : slack_of (Geq t) t.pairs ≡ Some t.constant = ap (λ b. cond b (Some t.constant) None) (same_pairs-refl t.pairs) in
+    within_to (slack c t.pairs) t.constant (slack-at w.element c t.pairs t.constant w.among (ap (λ z. slack_of z t.pairs) (sym (same_literal_test (Geq t) w.element w.passes)) ∙ own))
+
+or_so : (a b : Bool) → (a ≡ true → b ≡ true) → (a || b) ≡ b
+or_so true b h = sym (h refl)
+or_so false b h = refl
+
+or_none : (a : Bool) → (a || false) ≡ a
+or_none true = refl
+or_none false = refl
+
+pub implied_bound : (c : List Literal) (t : Linear) → is_implied c (Geq t) ≡ follows c (Geq t)
+implied_bound c t = or_so (list_any (is_literal (Geq t)) c) (follows c (Geq t)) (held_follows c t)
+
+pub implied_equation : (c : List Literal) (t : Linear) → is_implied c (Eq t) ≡ list_any (is_literal (Eq t)) c
+implied_equation c t = or_none (list_any (is_literal (Eq t)) c)
+
+pub implied_div : (c : List Literal) (d : ℤ) (t : Linear) → is_implied c (Div d t) ≡ list_any (is_literal (Div d t)) c
+implied_div c d t = or_none (list_any (is_literal (Div d t)) c)
+
+pub implied_ndiv : (c : List Literal) (d : ℤ) (t : Linear) → is_implied c (NDiv d t) ≡ list_any (is_literal (NDiv d t)) c
+implied_ndiv c d t = or_none (list_any (is_literal (NDiv d t)) c)
+
+pub ruleset implied = (implied_bound, implied_equation, implied_div, implied_ndiv)
 
 -- ---- chains
 pub within_some : (P : Type 0) (a : Option ℤ) (k : ℤ) → is_within a k ≡ true → ((j : ℤ) → a ≡ Some j → j ≤ℤ k → P) → P

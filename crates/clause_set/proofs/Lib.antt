@@ -30,3 +30,4 @@ pub mod Shapes
 pub mod Tested
 pub mod Putting
 pub mod Opposites
+pub mod Tightening

@@ -41,6 +41,11 @@ divided-one (p ∷ ps) = ap (λ k. (p.0, k) ∷ divided (pos 1) ps) (by_one p.1)
 quotient-one : (t : Linear) → quotient (pos 1) t ≡ t
 quotient-one t = λ i. record { pairs = divided-one t.pairs i; constant = by_one t.constant i }
 
+pub quotient_by_one : (g : ℤ) (t s : Linear) → g ≡ pos 1 → s ≡ t → s ≡ quotient g t
+quotient_by_one g t s one is = is ∙ sym (ap (λ k. quotient k t) one ∙ quotient-one t)
+
+pub ruleset ones = (quotient_by_one)
+
 all_by_one : (k : ℤ) → divides 1 k ≡ true
 all_by_one k = test_from_Divides 1 k (record { quotient = k; is = omega (arith, ints) })
 

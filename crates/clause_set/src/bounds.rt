@@ -1,17 +1,16 @@
 // The bounds that literals set to a linear form.
 
-ghost use Rattle.clause_set.specs.Clauses.{bounds_apart, extent, is_negative, is_void, is_zero, least, same_pairs, slack_of, slack, tightened, with_constant};
+ghost use Rattle.clause_set.specs.Clauses.{bounds_apart, is_negative, is_zero, least, same_pairs, slack_of, slack, with_constant};
 ghost use Rattle.clause_set.specs.Normal.{leads_negative, negated, turned};
-ghost use Rattle.clause_set.specs.Table.{bound_at};
+ghost use Rattle.clause_set.specs.Table.{bound_at, tight_or_void};
 ghost use Rattle.linear_term.specs.Linear.{IsNormal};
 ghost use Rattle.linear_term.specs.Range.{InRange};
 ghost use Rattle.std.specs.Prelude.{◌≡◌, ◌↔◌, ◌+ℤ◌, pos, int_lt, neg_ℤ, All, IfOk, IfSome, IsTrue, List, ℕ, ℤ};
 
 use super::literal::Literal;
-use super::table::bound_at;
+use super::table::{Table, bound_at};
 use linear_term::{Memory, Term};
 use std::alloc::Global;
-use std::collections::BTreeMap;
 
 /// Each coefficient negated.
 pub(crate) fn negated(alloc: Global, pairs: &[(u32, i128)]) -> Result<Vec<(u32, i128)>, Memory>
@@ -157,39 +156,6 @@ fn is_zero(j: Option<i128>, k: Option<i128>) -> bool
     first == -second
 }
 
-/// Whether no value lies between the literals' bounds of the term's coefficients.
-#[tactic(auto, using(crate::proofs::Terms::terms))]
-fn is_void_bound(alloc: Global, table: &BTreeMap<Vec<(u32, i128)>, i128>, literals: &[Literal], t: &Term) -> Result<bool, Memory>
-    requires exact { (q : List (ℕ × ℤ)) → bound_at table.now q ≡ slack literals.now q }
-    requires range { (q : List (ℕ × ℤ)) → IfSome (bound_at table.now q) (λ k. InRange k) }
-    ensures { IfOk result (λ b. b ≡ is_negative (extent literals.now t.now.pairs)) }
-{
-    t.is_normal();
-    let n = negated(alloc, t.pairs())?;
-    let low = bound_at(table, t.pairs());
-    let high = bound_at(table, n.as_slice());
-    Ok(is_negative(low, high))
-}
-
-/// Whether no value lies between the literals' bounds of this one's coefficients.
-pub(crate) fn is_void(
-    alloc: Global,
-    table: &BTreeMap<Vec<(u32, i128)>, i128>,
-    literals: &[Literal],
-    literal: &Literal,
-) -> Result<bool, Memory>
-    requires exact { (q : List (ℕ × ℤ)) → bound_at table.now q ≡ slack literals.now q }
-    requires range { (q : List (ℕ × ℤ)) → IfSome (bound_at table.now q) (λ k. InRange k) }
-    ensures { IfOk result (λ b. b ≡ is_void literals.now literal.now) }
-{
-    match literal {
-        Literal::Eq(t) => is_void_bound(alloc, table, literals, t),
-        Literal::Geq(t) => is_void_bound(alloc, table, literals, t),
-        Literal::Div(_, _) => Ok(false),
-        Literal::NDiv(_, _) => Ok(false),
-    }
-}
-
 /// The term of these coefficients and this constant, or its opposite: the one whose first coefficient is positive.
 #[tactic(auto, using(crate::proofs::Terms::turning))]
 pub(crate) fn turned(
@@ -224,22 +190,52 @@ fn leads_negative(pairs: &[(u32, i128)]) -> bool
     first.1 < 0
 }
 
-/// The bound t ≥ 0 as the tightest one of the literals, as an equation where its coefficients have one value alone.
+/// The bound t ≥ 0 as the tightest one of the literals, as an equation where its coefficients have one value alone; none
+/// where they have no value.
 #[tactic(auto, using(crate::proofs::Terms::turning))]
-fn tightened_bound(alloc: Global, table: &BTreeMap<Vec<(u32, i128)>, i128>, literals: &[Literal], t: &Term) -> Result<Literal, Memory>
+fn tightened_bound(
+    alloc: Global,
+    table: &Table,
+    literals: &[Literal],
+    t: &Term,
+) -> Result<Option<Literal>, Memory>
     requires exact { (q : List (ℕ × ℤ)) → bound_at table.now q ≡ slack literals.now q }
     requires range { (q : List (ℕ × ℤ)) → IfSome (bound_at table.now q) (λ k. InRange k) }
-    ensures { IfOk result (λ l. l ≡ tightened literals.now (Literal.Geq t.now)) }
+    ensures { IfOk result (λ o. o ≡ tight_or_void literals.now (Literal.Geq t.now)) }
 {
-    t.is_normal();
+    t.know_normal();
     let n = negated(alloc, t.pairs())?;
     let low = bound_at(table, t.pairs());
     let high = bound_at(table, n.as_slice());
+    if is_negative(low, high) {
+        return Ok(None);
+    }
     let constant = constant_of(low, t);
     if is_zero(low, high) {
-        return Ok(Literal::Eq(turned(alloc, t.pairs(), n.as_slice(), constant)?));
+        let point = turned(alloc, t.pairs(), n.as_slice(), constant)?;
+        return Ok(Some(Literal::Eq(point)));
     }
-    Ok(Literal::Geq(Term::of(alloc, t.pairs(), constant)?))
+    Ok(Some(Literal::Geq(Term::of(alloc, t.pairs(), constant)?)))
+}
+
+/// The equation t = 0; none where its coefficients have no value.
+#[tactic(auto, using(crate::proofs::Terms::terms))]
+fn kept_equation(
+    alloc: Global,
+    table: &Table,
+    literals: &[Literal],
+    t: &Term,
+) -> Result<Option<Literal>, Memory>
+    requires exact { (q : List (ℕ × ℤ)) → bound_at table.now q ≡ slack literals.now q }
+    requires range { (q : List (ℕ × ℤ)) → IfSome (bound_at table.now q) (λ k. InRange k) }
+    ensures { IfOk result (λ o. o ≡ tight_or_void literals.now (Literal.Eq t.now)) }
+{
+    t.know_normal();
+    let n = negated(alloc, t.pairs())?;
+    if is_negative(bound_at(table, t.pairs()), bound_at(table, n.as_slice())) {
+        return Ok(None);
+    }
+    Ok(Some(Literal::Eq(t.copy()?)))
 }
 
 fn constant_of(k: Option<i128>, t: &Term) -> i128
@@ -253,21 +249,21 @@ fn constant_of(k: Option<i128>, t: &Term) -> i128
     }
 }
 
-/// The literal as the others tighten it.
+/// The literal as the others tighten it; none where its coefficients have no value.
 pub(crate) fn tightened(
     alloc: Global,
-    table: &BTreeMap<Vec<(u32, i128)>, i128>,
+    table: &Table,
     literals: &[Literal],
     literal: &Literal,
-) -> Result<Literal, Memory>
+) -> Result<Option<Literal>, Memory>
     requires exact { (q : List (ℕ × ℤ)) → bound_at table.now q ≡ slack literals.now q }
     requires range { (q : List (ℕ × ℤ)) → IfSome (bound_at table.now q) (λ k. InRange k) }
-    ensures { IfOk result (λ l. l ≡ tightened literals.now literal.now) }
+    ensures { IfOk result (λ o. o ≡ tight_or_void literals.now literal.now) }
 {
     match literal {
         Literal::Geq(t) => tightened_bound(alloc, table, literals, t),
-        Literal::Eq(_) => literal.copy(),
-        Literal::Div(_, _) => literal.copy(),
-        Literal::NDiv(_, _) => literal.copy(),
+        Literal::Eq(t) => kept_equation(alloc, table, literals, t),
+        Literal::Div(_, _) => Ok(Some(literal.copy()?)),
+        Literal::NDiv(_, _) => Ok(Some(literal.copy()?)),
     }
 }

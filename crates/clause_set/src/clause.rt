@@ -23,7 +23,7 @@ pub fn normal(alloc: Global, l: Literal) -> Result<Norm, Memory>
     ensures form { IfOk result (λ n. n ≡ normal_of l) }
     ensures truth { IfOk result (λ n. (e : List ℤ) → norm_truth n e ≡ literal_truth l e) }
 {
-    l.term().is_normal();
+    l.term().know_normal();
     normalized(alloc, &l)
 }
 
@@ -59,7 +59,7 @@ fn know_literals(ls: &[Literal])
     ensures divisors { All HasDivisor ls.now }
 {
     for l in ls {
-        l.term().is_normal();
+        l.term().know_normal();
     }
 }
 
@@ -117,7 +117,7 @@ impl Clause {
     }
 
     /// A clause is a normal form: this call does nothing, and tells its caller so.
-    pub fn is_clause(&self)
+    pub fn know_clause(&self)
         ensures { IsClause self.now }
     {
         let _ = &self.literals;

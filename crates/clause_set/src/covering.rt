@@ -46,29 +46,24 @@ fn has_literal(c: &[Literal], l: &Literal) -> bool
 fn follows_bound(c: &[Literal], t: &Term) -> bool
     ensures { result ≡ follows c.now (Literal.Geq t.now) }
 {
-    t.is_normal();
+    t.know_normal();
     match slack(c, t.pairs()) {
         Some(k) => k <= t.constant(),
         None => false,
     }
 }
 
-fn follows(c: &[Literal], l: &Literal) -> bool
-    ensures { result ≡ follows c.now l.now }
-{
-    match l {
-        Literal::Geq(t) => follows_bound(c, t),
-        Literal::Eq(_) => false,
-        Literal::Div(_, _) => false,
-        Literal::NDiv(_, _) => false,
-    }
-}
-
-/// Whether the literal is in the clause, or follows from its bounds.
+/// Whether the literal is in the clause, or follows from its bounds: a bound that is in it follows.
+#[tactic(auto, using(crate::proofs::Covers::implied))]
 fn is_implied(c: &[Literal], l: &Literal) -> bool
     ensures { result ≡ is_implied c.now l.now }
 {
-    has_literal(c, l) || follows(c, l)
+    match l {
+        Literal::Geq(t) => follows_bound(c, t),
+        Literal::Eq(_) => has_literal(c, l),
+        Literal::Div(_, _) => has_literal(c, l),
+        Literal::NDiv(_, _) => has_literal(c, l),
+    }
 }
 
 /// Whether the clause d covers the clause c: each literal of d is in c, or follows from its bounds.

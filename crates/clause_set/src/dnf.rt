@@ -66,7 +66,7 @@ impl Dnf {
     }
 
     /// The clauses are in form: this call does nothing, and tells its caller so.
-    pub fn is_dnf(&self)
+    pub fn know_dnf(&self)
         ensures { IsDnf self.now }
     {
         let _ = &self.clauses;
@@ -159,7 +159,7 @@ fn know_clauses(cs: &[Clause])
     ensures { AreLiterals cs.now }
 {
     for c in cs {
-        c.is_clause();
+        c.know_clause();
     }
 }
 
@@ -232,8 +232,8 @@ fn joined_with(alloc: Global, c: &Clause, d: &[Clause]) -> Result<Items<Clause>,
 fn push_joined(alloc: Global, c: &Clause, e: &Clause, out: &mut Items<Clause>) -> Result<(), Memory>
     ensures { OnOk result (out.new ≡ out.old ++ found (clause_of (c.now ++ e.now))) }
 {
-    c.is_clause();
-    e.is_clause();
+    c.know_clause();
+    e.know_clause();
     let mut literals = copy_literals(alloc, c.literals())?;
     literals.append(copy_literals(alloc, e.literals())?)?;
     out.append(found(alloc, Clause::of(alloc, literals)?)?)?;
@@ -359,7 +359,7 @@ fn negated_clause(alloc: Global, c: &Clause, purse: &mut Purse) -> Result<Items<
     ensures { Charged (negated_clause c.now) purse.old result purse.new }
 {
     purse.step(negation_charge(c))?;
-    c.is_clause();
+    c.know_clause();
     let mut out = Items::new(alloc);
     for l in c.literals() {
         out.append(negated_literal(alloc, l)?)?;

@@ -22,6 +22,3 @@ pub use laws::{
 pub use literal::{Literal, Norm};
 pub use order::{Ordered, sort_once};
 pub use purse::{ElimFault, ElimLog, Entry, Purse, Spent, StepFault};
-
-#[cfg(test)]
-mod tests;

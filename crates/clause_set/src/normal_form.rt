@@ -49,12 +49,16 @@ fn divided(alloc: Global, g: i128, pairs: &[(u32, i128)]) -> Result<Vec<(u32, i1
 }
 
 /// The term divided by a positive g that divides its coefficients, its constant rounded down.
+#[tactic(auto, using(crate::proofs::Owned::ones))]
 fn quotient(alloc: Global, g: i128, t: &Term) -> Result<Term, Memory>
     requires positive { pos 0 <ℤ g }
     requires divides { All (λ p. Divides g p.1) t.now.pairs }
     ensures { IfOk result (λ q. q ≡ quotient g t.now) }
 {
-    t.is_normal();
+    if g == 1 {
+        return t.copy();
+    }
+    t.know_normal();
     let pairs = divided(alloc, g, t.pairs())?;
     let constant = floor_div(t.constant(), g);
     Term::of(alloc, pairs.as_slice(), constant)
@@ -90,7 +94,7 @@ fn residue(alloc: Global, d: i128, t: &Term) -> Result<Term, Memory>
     requires { IsDivisor d }
     ensures { IfOk result (λ r. r ≡ residue d t.now) }
 {
-    t.is_normal();
+    t.know_normal();
     let pairs = residues(alloc, d, t.pairs())?;
     let constant = t.constant().rem_euclid(d);
     Term::of(alloc, pairs.as_slice(), constant)
@@ -106,7 +110,7 @@ fn content(g: i128, t: &Term) -> i128
     ensures divides { All (λ p. Divides result p.1) t.now.pairs }
     ensures range { InRange result }
 {
-    t.is_normal();
+    t.know_normal();
     gcd_with(g, t.pairs())
 }
 
@@ -127,7 +131,7 @@ fn reduced_equation(alloc: Global, g: i128, t: &Term) -> Result<Norm, Memory>
 fn turned_term(alloc: Global, t: &Term) -> Result<Term, Memory>
     ensures { IfOk result (λ q. q ≡ turned t.now) }
 {
-    t.is_normal();
+    t.know_normal();
     let opposite = negated(alloc, t.pairs())?;
     turned(alloc, t.pairs(), opposite.as_slice(), t.constant())
 }

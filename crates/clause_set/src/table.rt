@@ -11,8 +11,11 @@ use linear_term::{Memory, Term};
 use std::alloc::Global;
 use std::collections::BTreeMap;
 
+/// For each list of coefficients p that literals bound, the least k of which they say p + k ≥ 0.
+pub(crate) type Table = BTreeMap<Vec<(u32, i128)>, i128>;
+
 /// The least number that stands at p.
-pub(crate) fn bound_at(table: &BTreeMap<Vec<(u32, i128)>, i128>, p: &[(u32, i128)]) -> Option<i128>
+pub(crate) fn bound_at(table: &Table, p: &[(u32, i128)]) -> Option<i128>
     ensures { result ≡ bound_at table.now p.now }
 {
     table.get(p).copied()
@@ -28,7 +31,7 @@ fn lesser(held: Option<i128>, k: i128) -> i128
 }
 
 /// Puts the bound p + k ≥ 0 into a table of the least bounds.
-fn put_bound(table: &mut BTreeMap<Vec<(u32, i128)>, i128>, p: Vec<(u32, i128)>, k: i128) -> Result<(), Memory>
+fn put_bound(table: &mut Table, p: Vec<(u32, i128)>, k: i128) -> Result<(), Memory>
     ensures { OnOk result ((q : List (ℕ × ℤ)) → bound_at table.new q ≡ least (bound_at table.old q) (cond (same_pairs p.items q) (Some k) None)) }
 {
     let bound = lesser(bound_at(table, p.as_slice()), k);
@@ -48,10 +51,10 @@ fn copied(alloc: Global, pairs: &[(u32, i128)]) -> Result<Vec<(u32, i128)>, Memo
 
 /// Puts both bounds of t = 0 into a table.
 #[tactic(auto, using(crate::proofs::Terms::terms))]
-fn put_equation(alloc: Global, table: &mut BTreeMap<Vec<(u32, i128)>, i128>, t: &Term) -> Result<(), Memory>
+fn put_equation(alloc: Global, table: &mut Table, t: &Term) -> Result<(), Memory>
     ensures { OnOk result ((q : List (ℕ × ℤ)) → bound_at table.new q ≡ least (bound_at table.old q) (slack_of (Literal.Eq t.now) q)) }
 {
-    t.is_normal();
+    t.know_normal();
     let opposite = negated(alloc, t.pairs())?;
     let same = same_pairs(t.pairs(), opposite.as_slice());
     put_bound(table, copied(alloc, t.pairs())?, t.constant())?;
@@ -64,11 +67,11 @@ fn put_equation(alloc: Global, table: &mut BTreeMap<Vec<(u32, i128)>, i128>, t: 
 
 /// Puts the bounds that a literal sets into a table.
 #[tactic(auto, using(crate::proofs::Tables::tables))]
-fn put_literal(alloc: Global, table: &mut BTreeMap<Vec<(u32, i128)>, i128>, l: &Literal) -> Result<(), Memory>
+fn put_literal(alloc: Global, table: &mut Table, l: &Literal) -> Result<(), Memory>
     ensures exact { OnOk result ((q : List (ℕ × ℤ)) → bound_at table.new q ≡ least (bound_at table.old q) (slack_of l.now q)) }
     ensures range { (q : List (ℕ × ℤ)) → IfSome (slack_of l.now q) (λ k. InRange k) }
 {
-    l.term().is_normal();
+    l.term().know_normal();
     match l {
         Literal::Eq(t) => put_equation(alloc, table, t),
         Literal::Geq(t) => put_bound(table, copied(alloc, t.pairs())?, t.constant()),
@@ -79,7 +82,7 @@ fn put_literal(alloc: Global, table: &mut BTreeMap<Vec<(u32, i128)>, i128>, l: &
 
 /// The least bounds that the literals set to each list of coefficients.
 #[tactic(auto, using(crate::proofs::Tables::tables))]
-pub(crate) fn table_of(alloc: Global, literals: &[Literal]) -> Result<BTreeMap<Vec<(u32, i128)>, i128>, Memory>
+pub(crate) fn table_of(alloc: Global, literals: &[Literal]) -> Result<Table, Memory>
     ensures exact { IfOk result (λ m. (q : List (ℕ × ℤ)) → bound_at m q ≡ slack literals.now q) }
     ensures range { IfOk result (λ m. (q : List (ℕ × ℤ)) → IfSome (bound_at m q) (λ k. InRange k)) }
 {

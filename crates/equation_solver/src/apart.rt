@@ -89,7 +89,7 @@ fn by_remainders(
     requires within { i < length c.now }
     ensures { Charged (apart_at i c.now (Some (NDiv (divisor_of l.now) (term_of l.now)))) purse.old result purse.new }
 {
-    c.is_clause();
+    c.know_clause();
     let count = divisor(l).unsigned_abs() - 1;
     purse.step(charge(alloc, c, count)?)?;
     with_remainders(alloc, c.literals(), i, l, count)
@@ -108,7 +108,7 @@ pub fn free_ndiv(
     ensures exact { IfOk result (λ ds. (e : List ℤ) → IsMet (c.now ∷ []) x e ↔ IsMet ds x e) }
     ensures nearer { list_any (is_equation x) c.now ≡ false → IfOk result (λ ds. All (λ r. measure x r < measure x c.now) ds) }
 {
-    c.is_clause();
+    c.know_clause();
     let l = c.get(i);
     by_remainders(alloc, c, i, l, purse)
 }

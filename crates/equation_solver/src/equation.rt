@@ -226,7 +226,7 @@ fn at_literal(
     requires { applies x c.now (Equation i) ≡ true }
     ensures { Charged (rule x c.now (Equation i)) purse.old result purse.new }
 {
-    c.is_clause();
+    c.know_clause();
     let rest = all_but(alloc, c.literals(), i)?;
     by_literal(alloc, c, x, rest.as_slice(), c.get(i), purse)
 }
@@ -247,7 +247,7 @@ pub fn by_equation(
     ensures free { IfOk result (λ r. All (λ d. list_any (has x) d ≡ false) (found r)) }
     ensures nearer { IfOk result (λ r. All (λ d. measure x d < measure x c.now) (found r)) }
 {
-    c.is_clause();
+    c.know_clause();
     let clauses = at_literal(alloc, c, x, i, purse)?;
     Ok(first(clauses))
 }

@@ -136,7 +136,7 @@ fn at_literals(
     requires { applies x c.now (Merge i j) ≡ true }
     ensures { Charged (rule x c.now (Merge i j)) purse.old result purse.new }
 {
-    c.is_clause();
+    c.know_clause();
     let others = all_but(alloc, c.literals(), j)?;
     let rest = dropped(others, i);
     merged(alloc, c, x, rest, c.get(i), c.get(j), purse)
@@ -158,7 +158,7 @@ pub fn merge_divs(
     ensures exact { IfOk result (λ r. (e : List ℤ) → IsMet (c.now ∷ []) x e ↔ IsMet (found r) x e) }
     ensures nearer { list_any (is_equation x) c.now ≡ false → IfOk result (λ r. All (λ d. measure x d < measure x c.now) (found r)) }
 {
-    c.is_clause();
+    c.know_clause();
     let clauses = at_literals(alloc, c, x, i, j, purse)?;
     Ok(first(clauses))
 }

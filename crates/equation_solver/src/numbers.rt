@@ -69,6 +69,6 @@ pub(crate) fn with_name(alloc: Global, x: u32, k: i128, t: &Term) -> Result<Term
     ensures exact { IfOk result (λ u. u ≡ with_name x k t.now) }
     ensures memory { IfErr result (λ e. e ≡ Memory) }
 {
-    t.is_normal();
+    t.know_normal();
     Ok(Term::combine(1, t, k, &Term::name(alloc, x))?)
 }

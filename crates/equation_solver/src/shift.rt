@@ -163,7 +163,7 @@ fn at_literal(
     requires { applies x c.now (Shift i) ≡ true }
     ensures { Charged (rule x c.now (Shift i)) purse.old result purse.new }
 {
-    c.is_clause();
+    c.know_clause();
     let l = c.get(i);
     let z = own_coefficients(x, l);
     let rest = all_but(alloc, c.literals(), i)?;
@@ -185,7 +185,7 @@ pub fn shift_div(
     ensures exact { IfOk result (λ r. (e : List ℤ) → IsMet (c.now ∷ []) x e ↔ IsMet (found r) x e) }
     ensures nearer { IfOk result (λ r. All (λ d. measure x d < measure x c.now) (found r)) }
 {
-    c.is_clause();
+    c.know_clause();
     let clauses = at_literal(alloc, c, x, i, purse)?;
     Ok(first(clauses))
 }

@@ -75,7 +75,7 @@ pub fn reduced_law()
 {}
 
 /// The order of terms is total, and only equal terms are equal in it.
-pub fn order_law()
+pub fn term_order_law()
     ensures total { IsTotalOrder linear_cmp }
     ensures equal { (s : Linear) (t : Linear) → linear_cmp s t ≡ Equal → s ≡ t }
 {}

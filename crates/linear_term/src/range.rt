@@ -98,6 +98,7 @@ impl Place {
     }
 }
 
+/// a·b for sizes below 2^63: one product of 64 bits.
 #[tactic(auto, using(crate::proofs::Small::small))]
 fn small_product(a: i128, b: i128) -> i128
     requires left { unsigned_abs a < 2 ^ 63 }
@@ -105,7 +106,8 @@ fn small_product(a: i128, b: i128) -> i128
     ensures exact { result ≡ a *ℤ b }
     ensures small { unsigned_abs result < 2 ^ 126 }
 {
-    a * b
+    let (narrow_a, narrow_b) = (a as i64, b as i64);
+    narrow_a as i128 * narrow_b as i128
 }
 
 /// Whether |n| is below 2^63: two products of such numbers, and their sum, are in the range.

@@ -78,7 +78,7 @@ impl Term {
     }
 
     /// A term is in its normal form: this call does nothing, and tells its caller so.
-    pub fn is_normal(&self)
+    pub fn know_normal(&self)
         ensures { IsNormal self.now }
     {
         let _ = &self.constant;

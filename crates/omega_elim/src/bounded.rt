@@ -44,7 +44,7 @@ pub fn project(
     ensures exact { IfOk result (λ r. (e : List ℤ) → IsMet (c.now ∷ []) x e ↔ IsMet r.1 x e) }
     ensures nearer { IfOk result (λ r. All (λ d. measure x d < measure x c.now) r.1) }
 {
-    c.is_clause();
+    c.know_clause();
     let lows = literals_on(alloc, c.literals(), x, Side::Lower)?;
     let ups = literals_on(alloc, c.literals(), x, Side::Upper)?;
     by_bounds(alloc, c, x, lows.as_slice(), ups.as_slice(), purse)

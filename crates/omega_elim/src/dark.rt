@@ -101,7 +101,7 @@ pub(crate) fn dark(
     ensures { Charged (dark x c.now) purse.old result purse.new }
 {
     let a = greatest_factor(ups, x);
-    c.is_clause();
+    c.know_clause();
     let mut first = literals_on(alloc, c.literals(), x, Side::Without)?;
     pay(alloc, c, x, first.len(), lows, ups, a, purse)?;
     first.append(shadows(alloc, Shadow::Dark, lows, ups, x)?)?;

@@ -10,6 +10,3 @@ pub use fault::{ElimFault, StepFault};
 pub use laws::{cut_law, followed_law};
 pub use log::{ElimLog, Entry};
 pub use purse::{Purse, Spent};
-
-#[cfg(test)]
-mod tests;

@@ -5,4 +5,4 @@ use Rattle.clause_set.proofs.clause.normal.Goals as goal
 
 pub returns-clause-truth : goal.returns-clause-truth
 returns-clause-truth c =
-    normal_answer c.normalized.result c.args.l (literal_is c.args.l (subst IsNormal c.term.ensures c.is_normal.ensures) c.requires) c.normalized.ensures
+    normal_answer c.normalized.result c.args.l (literal_is c.args.l (subst IsNormal c.term.ensures c.know_normal.ensures) c.requires) c.normalized.ensures

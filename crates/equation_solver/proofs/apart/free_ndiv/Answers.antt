@@ -11,7 +11,7 @@ pub get-l-requires : goal.get-l-requires
 get-l-requires c = apart_below c.args.x c.args.i c.args.c.now c.requires
 
 pub by_remainders-requires-clause-divisor : goal.by_remainders-requires-clause-divisor
-by_remainders-requires-clause-divisor c = apart_divisor c.args.x c.args.i c.args.c.now c.get-l.result.now c.is_clause.ensures.divisors c.requires c.get-l.ensures
+by_remainders-requires-clause-divisor c = apart_divisor c.args.x c.args.i c.args.c.now c.get-l.result.now c.know_clause.ensures.divisors c.requires c.get-l.ensures
 
 pub by_remainders-requires-clause-within : goal.by_remainders-requires-clause-within
 by_remainders-requires-clause-within c = apart_below c.args.x c.args.i c.args.c.now c.requires
@@ -23,7 +23,7 @@ pub returns-clause-exact : goal.returns-clause-exact
 returns-clause-exact c =
     let work = apart_work c.args.x c.args.i c.args.c.now c.get-l.result.now _ _ c.by_remainders.result c.requires c.get-l.ensures c.by_remainders.ensures in
     met_ok c.args.x c.args.c.now (rule c.args.x c.args.c.now (Apart c.args.i)) c.by_remainders.result work
-    (apart-keeps c.args.x c.args.i c.args.c.now (clause-is_formed c.args.c.now c.is_clause.ensures) c.requires).met
+    (apart-keeps c.args.x c.args.i c.args.c.now (clause-is_formed c.args.c.now c.know_clause.ensures) c.requires).met
 
 pub returns-clause-nearer : goal.returns-clause-nearer
 returns-clause-nearer c = λ none.

@@ -10,7 +10,7 @@ use Rattle.equation_solver.proofs.equation.by_equation.Goals as goal
 pub returns-clause-exact : goal.returns-clause-exact
 returns-clause-exact c =
     let is = answer_is (rule c.args.x c.args.c.now (Equation c.args.i)) c.in_ok-clauses.clauses c.first.result c.in_ok-clauses.ensures c.first.ensures (equation_single c.args.x c.args.i c.args.c.now) in
-    met_by c.args.x c.args.c.now _ _ is (equation-keeps c.args.x c.args.i c.args.c.now (clause-is_formed c.args.c.now c.is_clause.ensures) c.requires).met
+    met_by c.args.x c.args.c.now _ _ is (equation-keeps c.args.x c.args.i c.args.c.now (clause-is_formed c.args.c.now c.know_clause.ensures) c.requires).met
 
 pub returns-clause-free : goal.returns-clause-free
 returns-clause-free c =

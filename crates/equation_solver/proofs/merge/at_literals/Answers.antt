@@ -20,15 +20,15 @@ pub get-requires-2 : goal.get-requires-2
 get-requires-2 c = second_below c.args.x c.args.i c.args.j c.args.c.now c.args.c.now c.requires refl
 
 pub merged-requires-clause-first : goal.merged-requires-clause-first
-merged-requires-clause-first c = congruence_at c.args.x c.args.i c.args.c.now c.get.result.now c.is_clause.ensures (merge_applies c.args.x c.args.i c.args.j c.args.c.now c.requires).first c.get.ensures
+merged-requires-clause-first c = congruence_at c.args.x c.args.i c.args.c.now c.get.result.now c.know_clause.ensures (merge_applies c.args.x c.args.i c.args.j c.args.c.now c.requires).first c.get.ensures
 
 pub merged-requires-clause-second : goal.merged-requires-clause-second
 merged-requires-clause-second c =
-    congruence_at c.args.x c.args.j c.args.c.now c.get-2.result.now c.is_clause.ensures (merge_applies c.args.x c.args.i c.args.j c.args.c.now c.requires).second c.get-2.ensures
+    congruence_at c.args.x c.args.j c.args.c.now c.get-2.result.now c.know_clause.ensures (merge_applies c.args.x c.args.i c.args.j c.args.c.now c.requires).second c.get-2.ensures
 
 pub merged-requires-clause-divisors : goal.merged-requires-clause-divisors
 merged-requires-clause-divisors c =
-    two_divisors c.args.i c.args.j c.args.c.now c.literals.result.now c.in_ok-others.others c.dropped-rest.result c.is_clause.ensures.divisors c.literals.ensures c.in_ok-others.ensures c.dropped-rest.ensures
+    two_divisors c.args.i c.args.j c.args.c.now c.literals.result.now c.in_ok-others.others c.dropped-rest.result c.know_clause.ensures.divisors c.literals.ensures c.in_ok-others.ensures c.dropped-rest.ensures
 
 pub returns : goal.returns
 returns c =

@@ -11,7 +11,7 @@ pub returns-clause-exact : goal.returns-clause-exact
 returns-clause-exact c =
     let is = answer_is (rule c.args.x c.args.c.now (Merge c.args.i c.args.j)) c.in_ok-clauses.clauses c.first.result c.in_ok-clauses.ensures c.first.ensures
     (merge_single c.args.x c.args.i c.args.j c.args.c.now c.requires) in
-    met_by c.args.x c.args.c.now _ _ is (merge-keeps c.args.x c.args.i c.args.j c.args.c.now (clause-is_formed c.args.c.now c.is_clause.ensures) c.requires).met
+    met_by c.args.x c.args.c.now _ _ is (merge-keeps c.args.x c.args.i c.args.j c.args.c.now (clause-is_formed c.args.c.now c.know_clause.ensures) c.requires).met
 
 pub returns-clause-nearer : goal.returns-clause-nearer
 returns-clause-nearer c = λ none.

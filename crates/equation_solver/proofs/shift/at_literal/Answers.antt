@@ -10,7 +10,7 @@ pub get-l-requires : goal.get-l-requires
 get-l-requires c = shift_below c.args.x c.args.i c.args.c.now c.requires
 
 pub own_coefficients-z-requires : goal.own_coefficients-z-requires
-own_coefficients-z-requires c = congruence_at c.args.x c.args.i c.args.c.now c.get-l.result.now c.is_clause.ensures (shift_applies c.args.x c.args.i c.args.c.now c.requires).literal c.get-l.ensures
+own_coefficients-z-requires c = congruence_at c.args.x c.args.i c.args.c.now c.get-l.result.now c.know_clause.ensures (shift_applies c.args.x c.args.i c.args.c.now c.requires).literal c.get-l.ensures
 
 pub all_but-requires : goal.all_but-requires
 all_but-requires c = subst (λ z. c.args.i < length z) (sym c.literals.ensures) (shift_below c.args.x c.args.i c.args.c.now c.requires)
@@ -19,7 +19,7 @@ pub returns-in_err-rest : goal.returns-in_err-rest
 returns-in_err-rest c = no_memory c.from_residual.result c.from_residual.ensures.1
 
 pub shift_by-requires-clause-divisors : goal.shift_by-requires-clause-divisors
-shift_by-requires-clause-divisors c = rest_divisors c.args.i c.args.c.now c.literals.result.now c.as_slice.result.now c.is_clause.ensures.divisors c.literals.ensures (c.as_slice.ensures ∙ c.in_ok-rest.ensures)
+shift_by-requires-clause-divisors c = rest_divisors c.args.i c.args.c.now c.literals.result.now c.as_slice.result.now c.know_clause.ensures.divisors c.literals.ensures (c.as_slice.ensures ∙ c.in_ok-rest.ensures)
 
 pub returns : goal.returns
 returns c =

@@ -63,9 +63,9 @@ clauses-requires c =
     all_divisors c.append.new.self c.in_ok-splinters.field-0 c.as_slice.result.now
     (c.as_slice.ensures ∙ collected c.append.new.self c.new-all.result c.push.new.self c.append-2.new.self c.in_ok-splinters.field-0 c.new-all.ensures c.in_ok-push.ensures.ok c.in_ok-append-2.ensures)
     (append_divisors c.in_ok-first.first c.in_ok-shadows.field-0 c.append.new.self c.in_ok-append.ensures
-    (filter_divisors _ c.args.c.now c.literals.result.now c.in_ok-first.first c.is_clause.ensures.divisors c.literals.ensures c.in_ok-first.ensures)
+    (filter_divisors _ c.args.c.now c.literals.result.now c.in_ok-first.first c.know_clause.ensures.divisors c.literals.ensures c.in_ok-first.ensures)
     (shadows_divisors Dark c.args.x c.args.lows.now c.args.ups.now c.in_ok-shadows.field-0 c.in_ok-shadows.ensures))
-    (splinters_divisors c.args.x c.args.c.now c.args.lows.now c.greatest_factor-a.result c.in_ok-splinters.field-0 c.is_clause.ensures.divisors
+    (splinters_divisors c.args.x c.args.c.now c.args.lows.now c.greatest_factor-a.result c.in_ok-splinters.field-0 c.know_clause.ensures.divisors
     (rw c.literals-2.ensures at (simp to_z-of_z at c.in_ok-splinters.ensures)))
 
 pub returns-in_err-clauses : goal.returns-in_err-clauses

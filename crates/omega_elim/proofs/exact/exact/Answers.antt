@@ -11,7 +11,7 @@ returns-in_err-shadows c =
 pub in_form-requires : goal.in_form-requires
 in_form-requires c =
     append_divisors c.in_ok-literals.literals c.in_ok-shadows.field-0 c.append.new.self c.in_ok-append.ensures
-    (filter_divisors _ c.args.c.now c.literals.result.now c.in_ok-literals.literals c.is_clause.ensures.divisors c.literals.ensures c.in_ok-literals.ensures)
+    (filter_divisors _ c.args.c.now c.literals.result.now c.in_ok-literals.literals c.know_clause.ensures.divisors c.literals.ensures c.in_ok-literals.ensures)
     (shadows_divisors Real c.args.x c.args.lows.now c.args.ups.now c.in_ok-shadows.field-0 c.in_ok-shadows.ensures)
 
 pub returns : goal.returns

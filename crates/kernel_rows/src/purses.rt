@@ -1,7 +1,7 @@
 // Charges at the edges of a budget, and the words of the faults.
 
-use super::*;
 use linear_term::{Memory, Place, TermFault};
+use purse::{ElimLog, Entry, Purse, StepFault};
 use sqlite_items::Items;
 use std::alloc::AllocError;
 

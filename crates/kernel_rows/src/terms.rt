@@ -1,6 +1,6 @@
 // Numbers and terms at worked values and at both ends of the range.
 
-use super::*;
+use linear_term::{Memory, Place, Term, TermFault, bezout, floor_div, gcd, in_range};
 use std::alloc::Global;
 use std::process::Abort;
 
@@ -149,7 +149,7 @@ fn reads_a_term(rt: HostRuntime) -> Result<(), TermFault> {
         assert_eq!(&rt; t.coef(x), want, "name {x}");
     }
     assert!(&rt; is(&t.copy()?, written));
-    t.is_normal();
+    t.know_normal();
     assert!(&rt; is(&Term::of(rt.alloc(), t.pairs(), t.constant())?, written));
     assert!(&rt;
         is(
@@ -232,4 +232,13 @@ fn numbers(rt: HostRuntime) {
         assert!(&rt; in_range(a) && 0 < b);
         assert_eq!(&rt; floor_div(a, b), want, "{a} and {b}");
     }
+}
+
+#[test]
+fn grows_by_monomials(rt: HostRuntime) -> Result<(), TermFault> {
+    let mut made = Term::number(rt.alloc(), 0);
+    made.push(2, 7)?;
+    made.set_constant(LEAST);
+    assert!(rt; is(&made, (&[(2, 7)], LEAST)));
+    Ok(())
 }

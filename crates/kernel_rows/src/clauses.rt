@@ -3,8 +3,9 @@
 ghost use Rattle.clause_set.specs.Literals.{HasDivisor};
 ghost use Rattle.std.specs.Prelude.{IfOk};
 
-use super::*;
+use clause_set::{Clause, Dnf, Literal, Norm, Ordered, and, normal, not, or};
 use linear_term::{Memory, Term};
+use purse::{Purse, StepFault};
 use sqlite_items::Items;
 use std::alloc::Global;
 
@@ -222,5 +223,17 @@ fn numbers_reach_both_ends_of_the_range(rt: HostRuntime) -> Result<(), StepFault
     assert!(rt; matches!(not(alloc, &above, &mut purse), Err(StepFault::Overflow(_))));
     let far = and(alloc, &below, &above, &mut purse)?;
     assert!(rt; far.len() == 1 && far.get(0).len() == 1);
+    Ok(())
+}
+
+#[test]
+fn tidies_without_a_charge(rt: HostRuntime) -> Result<(), StepFault> {
+    let alloc = rt.alloc();
+    let mut clauses = Items::new(alloc);
+    for constant in [-3, -2, -3] {
+        push_clause(alloc, 1, constant, &mut clauses)?;
+    }
+    let d = Dnf::tidied(alloc, clauses)?;
+    assert!(rt; d.len() == 1 && has_bounds(alloc, &d, 0, &[(1, -2)])?);
     Ok(())
 }
