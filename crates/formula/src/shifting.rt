@@ -29,7 +29,7 @@ fn raise(alloc: Global, t: &Term, from: u32, by: u32) -> Result<Term, Memory>
     requires { IsOver (2 ^ 32 - by) t.now }
     ensures { IfOk result (λ u. u ≡ raised from by t.now) }
 {
-    t.is_normal();
+    t.know_normal();
     let mut pairs = Items::new(alloc);
     for pair in t.pairs() {
         pairs.push(raised_pair(pair, from, by))?;

@@ -10,7 +10,7 @@ of-requires c =
     let f : SFits w128 c.constant.result = search rules in
     rw to_z-of_z (subst IsNormal
     (raised_whole c.args.from c.args.by c.loop-pair.pair-index c.args.t.now c.as_slice.result.now c.loop-pair.pairs c.constant.result c.as_slice.ensures c.loop-pair.invariant (omega (arith, ap length c.pairs-pair-items.ensures)) c.constant.ensures.exact)
-    (raised_normal c.args.from c.args.by (2 ^ 32 - c.args.by) c.args.t.now (omega arith) c.requires c.is_normal.ensures))
+    (raised_normal c.args.from c.args.by (2 ^ 32 - c.args.by) c.args.t.now (omega arith) c.requires c.know_normal.ensures))
 
 pub returns : goal.returns
 returns c =
