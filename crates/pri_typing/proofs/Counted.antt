@@ -150,7 +150,7 @@ names_tokens (grammar.names_first t) = let a = taken t in omega (arith, a)
 names_tokens (grammar.names_next m c t) = let h = names_tokens m in let a = taken c in let b = taken t in omega (arith, h, a, b)
 
 constants_tokens : {s : Setting} {names : List Name} {tokens rest : List Lexeme} → Constants s names tokens rest → length rest ≤ length tokens
-constants_tokens constants_none = omega arith
+constants_tokens grammar.constants_none = omega arith
 constants_tokens (grammar.constants_line m i n c) = let h = constants_tokens m in let a = taken i in let b = names_tokens n in let k = taken c in omega (arith, h, a, b, k)
 
 parameter_tokens : {tokens rest : List Lexeme} → Parameter tokens rest → length rest ≤ length tokens
@@ -171,7 +171,7 @@ items_tokens (grammar.items_first i) = item_tokens i
 items_tokens (grammar.items_next m c i) = let h = items_tokens m in let a = taken c in let b = item_tokens i in omega (arith, h, a, b)
 
 lines_tokens : {s : Setting} {typed : Bool} {is : List Item} {tokens rest : List Lexeme} → ItemLines s typed is tokens rest → length rest ≤ length tokens
-lines_tokens lines_none = omega arith
+lines_tokens grammar.lines_none = omega arith
 lines_tokens (grammar.line_function m i n c) = let h = lines_tokens m in let a = taken i in let b = items_tokens n in let k = taken c in omega (arith, h, a, b, k)
 lines_tokens (grammar.line_predicate m n c) = let h = lines_tokens m in let b = items_tokens n in let k = taken c in omega (arith, h, b, k)
 
@@ -201,7 +201,7 @@ blocks_more [] b = omega arith
 blocks_more (c ∷ blocks) b = let h = blocks_more blocks b in omega (arith, h)
 
 blocks_tokens : {s : Setting} {blocks : List Block} {tokens rest : List Lexeme} → Blocks s blocks tokens rest → blocks_count blocks + length rest ≤ length tokens
-blocks_tokens blocks_none = omega arith
+blocks_tokens grammar.blocks_none = omega arith
 blocks_tokens (grammar.blocks_next {blocks = blocks} {b = b} m d n) = let i = blocks_more blocks b in let h = blocks_tokens m in let k = block_tokens d in omega (arith, i, h, k)
 
 problem_count : (blocks : List Block) → length (parts_in (problem_of blocks)) ≤ blocks_count blocks

@@ -1,5 +1,5 @@
 -- The names that a file declares are identifiers.
-use Rattle.std.proofs.Common.{◌≡◌, ℕ, true, false, List, [], ◌∷◌, ◌++◌, map, subst, sym, All, flat_map, append-nil, refl, ap, ◌∙◌}
+use Rattle.std.proofs.Common.{◌≡◌, ℕ, true, false, List, [], ◌∷◌, ◌++◌, map, subst, sym, All, append-nil, ap, ◌∙◌}
 use Rattle.std.specs.List.{AllByRecursion}
 use Rattle.std.proofs.lemmas.Grind.{flat_map-append}
 use Rattle.std.proofs.lemmas.List.Elements.{All-from_recursion, recursion_from_All}
@@ -16,7 +16,6 @@ use Rattle.pri_reader.specs.declared.tree.Name.{Name}
 use Rattle.pri_reader.specs.declared.tree.NameSet.{NameSet}
 use Rattle.pri_reader.specs.declared.tree.Item.{Item}
 use Rattle.pri_reader.specs.declared.tree.Block.{Block}
-use Rattle.pri_reader.specs.declared.tree.Block.TheVariants as block
 use Rattle.pri_reader.specs.declared.tree.File.{File}
 use Rattle.pri_reader.specs.Grammar as grammar
 use Rattle.pri_reader.specs.Grammar.{Setting, Chain, Part, Takes, Binding, Derives, Members, Terms, Arguments, Names, Constants, Parameter, Parameters, Declares, Items, ItemLines, Sets, Declaration, Blocks, IsFile}
@@ -207,7 +206,7 @@ file_identified s f h = All-from_recursion (λ d. IsIdentifier d.text) (declarat
 
 -- Symbols by their kinds.
 
-split : {A : Type 0} (P : A → Type 0) (xs ys : List A) → AllByRecursion P (xs ++ ys) → AllByRecursion P xs × AllByRecursion P ys
+pub split : {A : Type 0} (P : A → Type 0) (xs ys : List A) → AllByRecursion P (xs ++ ys) → AllByRecursion P xs × AllByRecursion P ys
 split P [] ys h = (tt, h)
 split P (x ∷ xs) ys h = let rest = split P xs ys h.1 in ((h.0, rest.0), rest.1)
 

@@ -29,3 +29,4 @@ pub mod Sides
 pub mod CutConstants
 pub mod Saying
 pub mod Identified
+pub mod Carried

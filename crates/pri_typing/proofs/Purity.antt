@@ -1,10 +1,10 @@
 -- A file without applications poses a pure problem, and no other file does.
-use Rattle.std.proofs.Common.{◌≡◌, ◌↔◌, ℕ, zero, suc, ◌+◌, Bool, true, false, List, [], ◌∷◌, ◌++◌, length, Option, Some, None, refl, sym, ap, subst, ◌∙◌, arith, nat_eq, if◌then◌else◌}
+use Rattle.std.proofs.Common.{◌≡◌, ◌↔◌, ℕ, ◌+◌, List, [], ◌∷◌, ◌++◌, length, Option, Some, None, refl, sym, ap, subst, ◌∙◌, arith, nat_eq, if◌then◌else◌}
 use Rattle.pri_reader.specs.declared.tree.Name.{Name}
 use Rattle.pri_reader.specs.declared.tree.File.{File}
-use Rattle.typed_formula.specs.Formula.{Formula, Expression, Expressions, formula}
+use Rattle.typed_formula.specs.Formula.{Expressions}
 use Rattle.pri_typing.specs.declared.problem.Problem.{Problem}
-use Rattle.pri_typing.specs.declared.problem.TypeRefusal.TheVariants.{Undeclared, Arity, Kind}
+use Rattle.pri_typing.specs.declared.problem.TypeRefusal.TheVariants.{Arity}
 use Rattle.pri_typing.specs.declared.scope.Category.TheVariants as category
 use Rattle.pri_typing.specs.declared.scope.Referent.{Referent}
 use Rattle.pri_typing.specs.declared.scope.Referent.TheVariants as referent
@@ -16,7 +16,7 @@ use Rattle.pri_typing.specs.Typing.{says, value, members, terms, signed_terms, u
 use Rattle.pri_typing.specs.Everywhere.{Property, Everywhere, AllEverywhere, TermEverywhere, TermsEverywhere}
 use Rattle.pri_typing.specs.Problems.{IsNoPredicate, IsNoCall, IsPure}
 use Rattle.pri_typing.proofs.Everywhere.{IsLax, under, with_sign, beneath, without_sign}
-use Rattle.pri_typing.proofs.WellFormed.{nil_cons, nil_split}
+use Rattle.pri_typing.proofs.WellFormed.{nil_cons, nil_split, same_count}
 
 abbrev pub unapplied : Property
 unapplied = record { of_formula = IsNoPredicate; of_term = IsNoCall }
@@ -109,14 +109,6 @@ mutual
 
 -- What says a formula without an application has none, where it has no faults.
 
--- what a use of a name asks, without faults
-right_count : (n m : ℕ) (at : ℕ) → (if nat_eq n m then [] else Arity at ∷ []) ≡ [] → n ≡ m
-right_count n m at e = by (nat_eq n m) refl e
-  where
-    by : (b : Bool) → nat_eq n m ≡ b → (if b then [] else Arity at ∷ []) ≡ [] → n ≡ m
-    by true h k = grind (arith, h)
-    by false h k = absurd (nil_cons (Arity at) [] k)
-
 no_arguments : (s : Scope) (ps : Phrases) → count ps ≡ 0 → all_applications s ps ≡ []
 no_arguments s no_phrase e = refl
 no_arguments s (and_phrase p ps) e = absurd (omega (arith, e))
@@ -131,7 +123,7 @@ formula_used s at n x ps (Some (referent.Predicate p m)) e h = absurd h.0
 term_used : (s : Scope) (at n : ℕ) (x : Name) (ps : Phrases) (r : Option Referent) → use_faults category.Term at x.at (count ps) r ≡ []
     → TermEverywhere unapplied n (use_value r (terms s ps)) → use_applies x.at r ++ all_applications s ps ≡ []
 term_used s at n x ps None e h = absurd (nil_cons _ _ e)
-term_used s at n x ps (Some (referent.Name y)) e h = no_arguments s ps (right_count (count ps) 0 x.at (nil_split (if nat_eq (count ps) 0 then [] else Arity x.at ∷ []) [] e).0)
+term_used s at n x ps (Some (referent.Name y)) e h = no_arguments s ps (same_count (count ps) 0 x.at (nil_split (if nat_eq (count ps) 0 then [] else Arity x.at ∷ []) [] e).0)
 term_used s at n x ps (Some (referent.Function f m)) e h = absurd h.0
 term_used s at n x ps (Some (referent.Predicate p m)) e h = absurd (nil_cons _ _ (nil_split (if nat_eq (count ps) m then [] else Arity x.at ∷ []) _ e).1)
 

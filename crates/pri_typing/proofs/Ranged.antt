@@ -116,7 +116,7 @@ behind_ranged [] b h k = (k, tt {0})
 behind_ranged (c ∷ blocks) b h k = (h.0, behind_ranged blocks b h.1 k)
 
 blocks_ranged : {s : Setting} {blocks : List Block} {tokens rest : List Lexeme} → IsSmall s → Blocks s blocks tokens rest → AreBlocksRanged blocks
-blocks_ranged s blocks_none = tt {0}
+blocks_ranged s grammar.blocks_none = tt {0}
 blocks_ranged s (grammar.blocks_next {blocks = blocks} {b = b} m d n) = behind_ranged blocks b (blocks_ranged s m) (block_ranged s d)
 
 problem_in : (blocks : List Block) → AreBlocksRanged blocks → IsRanged (problem_of blocks)

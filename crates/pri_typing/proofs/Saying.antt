@@ -1,5 +1,5 @@
 -- A phrase has the same faults, and says the same, wherever its names stand for the same.
-use Rattle.std.proofs.Common.{◌≡◌, ℕ, ◌+◌, List, [], ◌∷◌, ◌++◌, length, Option, Some, None, refl, sym, ap, subst, ◌∙◌}
+use Rattle.std.proofs.Common.{◌≡◌, ℕ, ◌+◌, List, [], ◌++◌, length, Option, Some, None, refl, sym, ap, ◌∙◌}
 use Rattle.pri_tokens.specs.Lexemes.{lexemes_of}
 use Rattle.pri_reader.specs.declared.tree.Name.{Name}
 use Rattle.pri_reader.specs.declared.tree.Expr.{Expr}
@@ -7,7 +7,6 @@ use Rattle.pri_reader.specs.declared.tree.File.{File}
 use Rattle.pri_reader.specs.Grammar.{Derives, whole}
 use Rattle.typed_formula.specs.Formula as logic
 use Rattle.pri_typing.specs.declared.problem.Problem.{Problem}
-use Rattle.pri_typing.specs.declared.problem.TypeRefusal.{TypeRefusal}
 use Rattle.pri_typing.specs.declared.scope.Category.{Category}
 use Rattle.pri_typing.specs.declared.scope.Category.TheVariants as category
 use Rattle.pri_typing.specs.declared.scope.Referent.TheVariants as referent

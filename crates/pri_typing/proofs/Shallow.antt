@@ -156,7 +156,7 @@ behind_shallow [] b h k = (k, tt {0})
 behind_shallow (c ∷ blocks) b h k = (h.0, behind_shallow blocks b h.1 k)
 
 blocks_shallow : {s : Setting} {blocks : List Block} {tokens rest : List Lexeme} → IsLimited s → Blocks s blocks tokens rest → AreBlocksShallow blocks
-blocks_shallow s blocks_none = tt {0}
+blocks_shallow s grammar.blocks_none = tt {0}
 blocks_shallow s (grammar.blocks_next {blocks = blocks} {b = b} m d n) = behind_shallow blocks b (blocks_shallow s m) (block_shallow s d)
 
 problem_in : (blocks : List Block) → AreBlocksShallow blocks → IsShallow 0 (problem_of blocks)

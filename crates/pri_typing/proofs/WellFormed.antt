@@ -135,7 +135,7 @@ any_term = (tt {0}, tt {0}, tt {0}, tt {0}, tt {0})
 any_formula : Unit {0} × Unit {0}
 any_formula = (tt {0}, tt {0})
 
-same_count : (n m : ℕ) (at : ℕ) → (if nat_eq n m then [] else Arity at ∷ []) ≡ [] → n ≡ m
+pub same_count : (n m : ℕ) (at : ℕ) → (if nat_eq n m then [] else Arity at ∷ []) ≡ [] → n ≡ m
 same_count n m at e = by (nat_eq n m) refl e
   where
     by : (b : Bool) → nat_eq n m ≡ b → (if b then [] else Arity at ∷ []) ≡ [] → n ≡ m

@@ -8,7 +8,7 @@ ghost use Rattle.pri_typing.specs.Phrase.{addends_of, phrase, phrases_of};
 ghost use Rattle.pri_typing.specs.Scope.{inside, place, refers};
 ghost use Rattle.pri_typing.specs.Typing.{members, quantifiers, relation_of, says, signed, signed_terms, terms, use_says, use_value, value};
 
-use crate::scope::{BoundNames, Site, Referent, refer};
+use crate::scope::{BoundNames, Referent, Site, refer};
 use linear_term::Memory;
 use pri_reader::{Added, Comparison, Expr, Form, Name};
 use sqlite_items::{Boxed, Items};

@@ -9,7 +9,7 @@ ghost use Rattle.pri_typing.specs.Scope.{refers};
 
 use crate::problem::TypeRefusal;
 use crate::refusals::earlier_of;
-use crate::scope::{BoundNames, Site, Category, use_at};
+use crate::scope::{BoundNames, Category, Site, use_at};
 use pri_reader::{Added, Expr, Form, Name};
 
 /// A formula where a term is needed, or a term where a formula is needed.
@@ -171,10 +171,16 @@ fn fault_at(site: &Site, want: Category, at: u64, expr: &Expr) -> Option<TypeRef
         }
         Form::Part(_, body) => with_one(site, formula, Category::Formula, body.get()),
         Form::And(members) => {
-            earlier_of(formula, faults_of(site, Category::Formula, members.as_slice()))
+            earlier_of(
+                formula,
+                faults_of(site, Category::Formula, members.as_slice()),
+            )
         }
         Form::Or(members) => {
-            earlier_of(formula, faults_of(site, Category::Formula, members.as_slice()))
+            earlier_of(
+                formula,
+                faults_of(site, Category::Formula, members.as_slice()),
+            )
         }
         Form::Implies(left, right) => {
             with_one(

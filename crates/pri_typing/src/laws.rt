@@ -6,13 +6,15 @@ ghost use Rattle.typed_formula.specs.Formula.{Formula, every, formula, formulas}
 ghost use Rattle.typed_formula.specs.Truth.{Meaning, Truth};
 ghost use Rattle.pri_reader.specs.declared.tree.File.{File};
 ghost use Rattle.pri_reader.specs.declared.tree.Expr.{Expr};
-ghost use Rattle.pri_reader.specs.Grammar.{Derives, IsFile, whole};
+ghost use Rattle.pri_reader.specs.Grammar.{Derives, IsFile, Setting, whole};
 ghost use Rattle.pri_reader.specs.Reading.{file_setting};
 ghost use Rattle.pri_typing.specs.Limits.{IsResolvable};
 ghost use Rattle.pri_typing.specs.Faults.{is_before, least};
 ghost use Rattle.pri_typing.specs.Least.{IsStrictWeakOrder, least_by};
 ghost use Rattle.pri_typing.specs.Files.{IsTyped, file_faults, problem_of, scope_of};
+ghost use Rattle.pri_tokens.specs.declared.terminals.Lexeme.{Lexeme};
 ghost use Rattle.pri_tokens.specs.Lexemes.{lexemes_of};
+ghost use Rattle.pri_tokens.specs.Numerals.{text_of};
 ghost use Rattle.pri_typing.specs.Phrase.{phrase};
 ghost use Rattle.pri_typing.specs.Problems.{Holds, IsTrueAt, SpeaksOfExistentials, IsPure, IsRefuted, IsPlainlyValid, IsUniversal, assumed, assumed_by, scope_of_problem, Says, text_setting};
 ghost use Rattle.pri_typing.specs.Scope.{refers};
@@ -66,10 +68,14 @@ pub fn names_law()
         → refers (scope_of_problem p) text ≡ refers (scope_of f.blocks) text }
 {}
 
-/// A text that is derived as the formula of a file's problem says that formula, with the symbols of the problem declared.
+/// A text that is derived as the formula of a file's problem says that formula, with the symbols of the problem declared;
+/// and so does a text whose tokens are those of which the file's formula is derived, with the same bytes.
 pub fn says_law()
-    ensures { (f : File) (p : Problem) (text : List ℕ) (e : Expr) → least (file_faults f) ≡ None → IsTyped f p → phrase e ≡ problem_of f.blocks
+    ensures derived { (f : File) (p : Problem) (text : List ℕ) (e : Expr) → least (file_faults f) ≡ None → IsTyped f p → phrase e ≡ problem_of f.blocks
         → Derives (text_setting text) 0 whole e (lexemes_of text) [] → Says text p (formula p.formula) }
+    ensures between { (s : Setting) (f : File) (p : Problem) (e : Expr) (between rest : List Lexeme) (text : List ℕ) → least (file_faults f) ≡ None
+        → IsTyped f p → phrase e ≡ problem_of f.blocks → Derives s 0 whole e (between ++ rest) rest → lexemes_of text ≡ between
+        → All (λ x. text_of text x ≡ text_of s.bytes x) between → Says text p (formula p.formula) }
 {}
 
 /// The formula of a problem is false where all that its components assume is true.

@@ -20,7 +20,7 @@ use crate::faults::fault;
 use crate::parts::{asks_cuts, blocks_fault, formula_fault};
 use crate::problem::{Problem, TypeRefusal};
 use crate::refusals::earlier_of;
-use crate::scope::{BoundNames, Site, Category};
+use crate::scope::{BoundNames, Category, Site};
 use crate::symbols::Symbols;
 use crate::texts::Texts;
 use linear_term::Memory;

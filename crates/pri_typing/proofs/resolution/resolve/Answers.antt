@@ -1,8 +1,8 @@
-use Rattle.std.proofs.Common.{None, ◌≡◌, subst, ◌⊎◌, Some}
-use Rattle.std.specs.Result.{IfErr, IfOk, OnOk}
+use Rattle.std.proofs.Common.{◌≡◌, subst, ◌⊎◌, Some}
+use Rattle.std.specs.Result.{IfErr}
 use Rattle.pri_typing.specs.declared.problem.TypeRefusal.TheVariants.{Memory}
 use Rattle.pri_typing.specs.Faults.{least}
-use Rattle.pri_typing.specs.Files.{IsTyped, file_faults}
+use Rattle.pri_typing.specs.Files.{file_faults}
 use Rattle.pri_typing.proofs.Answered.{answered, if_more}
 use Rattle.pri_typing.proofs.resolution.resolve.Goals as goal
 
