@@ -1,6 +1,6 @@
 // Answers of one line.
 
-ghost use Rattle.answers.specs.Answer.{answer_of, line, placed, refused_answer, says_line, unknown_answer};
+ghost use Rattle.answers.specs.Answer.{answer_of, placed, refused_answer, says_line, unknown_answer};
 ghost use Rattle.std.specs.Prelude.{◌≡◌, ◌++◌, IfOk};
 
 use crate::output::Output;

@@ -13,7 +13,7 @@ use Rattle.pri_typing.specs.declared.problem.Problem.{Problem}
 use Rattle.pri_typing.specs.Faults.{least}
 use Rattle.pri_typing.specs.Files.{file_faults, IsTyped}
 use Rattle.pri_typing.specs.WellFormed.{HasDistinctNames, IsWellFormed}
-use Rattle.pri_typing.proofs.Declared.{none_least}
+use Rattle.pri_typing.proofs.Least.{least-none}
 use Rattle.pri_typing.proofs.Divisions.{cuts_proper}
 use Rattle.pri_typing.proofs.Formed.{well_formed, names_differ}
 use Rattle.pri_typing.proofs.Ranged.{file_ranged}
@@ -55,7 +55,7 @@ read_or_refused bytes p (untyped e) h k = let same = ap (λ f. least (file_fault
 
 pub reads_formed : (bytes : List ℕ) (p : Problem) → Reads bytes p → IsWellFormed p
 reads_formed bytes p h =
-    well_formed h.file p (none_least _ h.sound) h.typed (file_ranged (λ rest n small. ltb-true n (2 ^ 127) small) h.read) (cuts_proper (h.read).blocks_are)
+    well_formed h.file p (least-none _ h.sound) h.typed (file_ranged (λ rest n small. ltb-true n (2 ^ 127) small) h.read) (cuts_proper (h.read).blocks_are)
 
 pub reads_distinct : (bytes : List ℕ) (p : Problem) → Reads bytes p → HasDistinctNames p
-reads_distinct bytes p h = names_differ h.file p (none_least _ h.sound) h.typed
+reads_distinct bytes p h = names_differ h.file p (least-none _ h.sound) h.typed

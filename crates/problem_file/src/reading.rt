@@ -4,7 +4,7 @@ ghost use Rattle.problem_file.specs.Answers.{Poses};
 ghost use Rattle.problem_file.specs.Faults.{RefusesFile};
 ghost use Rattle.problem_file.specs.Reads.{IsFileOf};
 ghost use Rattle.pri_typing.specs.Limits.{IsResolvable};
-ghost use Rattle.std.specs.Prelude.{◌≡◌, ◌<◌, ◌^◌, ℕ, List, length, IfOk, IfErr};
+ghost use Rattle.std.specs.Prelude.{◌<◌, ◌^◌, ℕ, List, length, IfOk, IfErr};
 
 use crate::fault::FileFault;
 use crate::special::first_unsupported;

@@ -1,7 +1,7 @@
 // What this program does not answer yet, and where it first stands.
 
 ghost use Rattle.pri_typing.specs.Phrase.{addends_of, phrase, phrases_of};
-ghost use Rattle.problem_file.specs.Special.{added_special, all_special, block_special, if_any, least_place, lesser_of, special, unsupported};
+ghost use Rattle.problem_file.specs.Special.{added_special, all_special, block_special, least_place, lesser_of, special, unsupported};
 ghost use Rattle.std.specs.Prelude.{◌≡◌, Some};
 
 use pri_reader::{Added, Block, Expr, File, Form};

@@ -1,7 +1,7 @@
 // What the answers of `solve` are and mean, each the contract of a function with nothing to do.
 
 ghost use Rattle.answers.specs.Answer.{Answer};
-ghost use Rattle.ground_truth.specs.Ground.{IsGround};
+ghost use Rattle.ground_truth.specs.Ground.{IsGround, is_true};
 ghost use Rattle.problem_file.specs.Answers.{Poses};
 ghost use Rattle.pri_typing.specs.Problems.{Holds, IsRefuted};
 ghost use Rattle.pri_typing.specs.declared.problem.Problem.{Problem};
@@ -10,8 +10,7 @@ ghost use Rattle.solve_job.specs.Headline.{Headline};
 ghost use Rattle.solve_job.specs.Solved.{IsSolved};
 ghost use Rattle.typed_formula.specs.Formula.{formula};
 ghost use Rattle.typed_formula.specs.Truth.{Meaning};
-ghost use Rattle.std.specs.Prelude.{◌≡◌, ◌↔◌, ℕ, List, [], true, false, IsTrue};
-ghost use Rattle.ground_truth.specs.Ground.{is_true};
+ghost use Rattle.std.specs.Prelude.{◌≡◌, ◌↔◌, ℕ, List, [], true, false};
 
 /// Each file has exactly one answer.
 pub fn one_answer_law()
