@@ -1,5 +1,5 @@
 -- Numbers below 2^63: a sum of two products of them stays in the range.
-use Rattle.std.proofs.Common.{◌≡◌, ℕ, ◌+◌, ◌*◌, ◌<◌, ◌≤◌, ◌^◌, ℤ, ◌+ℤ◌, ◌*ℤ◌, FitsSigned, to_z, of_z, to_z-of_z, ap, ◌∙◌, mul-le-mul, arith}
+use Rattle.std.proofs.Common.{◌≡◌, ◌*◌, ◌<◌, ◌≤◌, ◌^◌, ℤ, ◌+ℤ◌, ◌*ℤ◌, FitsSigned, to_z, of_z, to_z-of_z, ap, ◌∙◌, mul-le-mul, arith}
 use Rattle.std.specs.Prelude.{unsigned_abs}
 use Rattle.std.proofs.lemmas.Int.{unsigned_abs-mul, fits_signed_mul, fits_signed_from_abs, ints}
 use mir.Syntax.{w128}
