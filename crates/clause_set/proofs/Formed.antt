@@ -1,8 +1,8 @@
 -- The literals of a clause that is made of literals: their terms are reduced, their divisors positive, and so are
 -- the coefficients behind a divisor.
-use Rattle.std.proofs.Common.{◌≡◌, ◌≢◌, ◌+◌, ℕ, ℤ, pos, neg_ℤ, ◌*ℤ◌, ◌<ℤ◌, unsigned_abs, int_le, Bool, true, false, not, cond, List, [], ◌∷◌, map, Option, Some, None, refl, sym, ◌∙◌, ap, subst, arith}
+use Rattle.std.proofs.Common.{◌≡◌, ◌≢◌, ◌+◌, ℕ, ℤ, pos, neg_ℤ, ◌*ℤ◌, ◌<ℤ◌, unsigned_abs, int_le, Bool, true, false, not, cond, List, [], ◌∷◌, Option, Some, None, refl, sym, ◌∙◌, ap, subst, arith}
 use Rattle.std.specs.Prelude.{All}
-use Rattle.std.specs.List.{AllByRecursion, list_any, flat_map}
+use Rattle.std.specs.List.{AllByRecursion, flat_map}
 use Rattle.std.specs.Int.{int_div_euclid, int_rem_euclid}
 use Rattle.std.specs.Ordering.{int_eq}
 use Rattle.std.proofs.lemmas.Int.{ints}
@@ -23,8 +23,7 @@ use Rattle.clause_set.specs.Literals.{IsLiteral}
 use Rattle.clause_set.specs.Clause.{IsClause}
 use Rattle.clause_set.specs.Formed.{IsFormed}
 use Rattle.clause_set.specs.Normal.{gcd_with, divided, quotient, negated, leads_negative, turned, residues, residue, decided, denied, normal_equation, normal_inequality, normal_divisibility, normal_of}
-use Rattle.clause_set.specs.Order.{literal_cmp, sorted_once}
-use Rattle.clause_set.specs.Clauses.{slack, extent, is_zero, is_void, with_constant, tightened, compact, is_false, literals_of, clause_of, found, clauses_of}
+use Rattle.clause_set.specs.Clauses.{slack, extent, is_zero, with_constant, tightened, literals_of, clause_of, clauses_of}
 use Rattle.clause_set.proofs.Contents.{gcd_with-positive, gcd_with-divides, gcd_with-divides_all, gcd_positive_right, quotient_exact}
 use Rattle.clause_set.proofs.Kept.{Keeps, normals-kept, clause-kept, clauses-kept}
 

@@ -1,10 +1,9 @@
 -- Negations of literals and clauses are true where these are not.
-use Rattle.std.proofs.Common.{◌≡◌, ◌≢◌, ℤ, pos, negsuc, neg_ℤ, ◌+ℤ◌, ◌*ℤ◌, int_le, Bool, true, false, not, ◌&&◌, ◌||◌, List, [], ◌∷◌, ◌++◌, refl, sym, ◌∙◌, ap, arith}
+use Rattle.std.proofs.Common.{◌≡◌, ◌≢◌, ℤ, pos, negsuc, neg_ℤ, ◌+ℤ◌, ◌*ℤ◌, int_le, Bool, true, false, not, ◌&&◌, ◌||◌, List, [], ◌∷◌, refl, ◌∙◌, ap, arith}
 use Rattle.std.specs.Prelude.{All, unsigned_abs}
 use Rattle.std.specs.List.{AllByRecursion, flat_map}
 use Rattle.std.specs.Ordering.{int_eq}
 use Rattle.std.proofs.lemmas.Int.{ints}
-use Rattle.std.proofs.lemmas.List.{append-nil}
 use Rattle.std.proofs.lemmas.List.Folds.{list_any-append}
 use Rattle.std.proofs.lemmas.List.Elements.{All-from_recursion, recursion_from_All}
 use Rattle.integers.specs.Divides.{divides}
@@ -12,7 +11,7 @@ use Rattle.linear_term.specs.Linear.{Linear, IsReduced, number, value_of}
 use Rattle.linear_term.specs.Combination.{combination}
 use Rattle.linear_term.proofs.Totals.{value_of-combination, value_of-number}
 use Rattle.linear_term.proofs.Names.{reduced-combination}
-use Rattle.purse.specs.Trace.{Traced, just, step, next, each}
+use Rattle.purse.specs.Trace.{just, step, next}
 use Rattle.purse.proofs.Tracing.{each-value}
 use Rattle.clause_set.specs.declared.literal.Literal.{Literal}
 use Rattle.clause_set.specs.declared.literal.Literal.TheVariants.{Eq, Geq, Div, NDiv}

@@ -1,28 +1,21 @@
 -- A clause is its own form.
-use Rattle.std.proofs.Common.{◌≡◌, ◌≢◌, ◌+◌, ℕ, ℤ, pos, negsuc, neg_ℤ, ◌+ℤ◌, ◌*ℤ◌, ◌≤ℤ◌, ◌<ℤ◌, unsigned_abs, int_lt, int_le, Bool, true, false, not, ◌||◌, cond, List, [], ◌∷◌, ◌++◌, map, Option, Some, None, inl, inr, refl, sym, ◌∙◌, ap, subst, arith}
-use Rattle.std.specs.Prelude.{All, ◌⊎◌}
+use Rattle.std.proofs.Common.{◌≡◌, ◌≢◌, ℕ, ℤ, pos, neg_ℤ, ◌≤ℤ◌, ◌<ℤ◌, unsigned_abs, int_lt, int_le, true, false, not, ◌||◌, cond, List, [], ◌∷◌, ◌++◌, refl, sym, ◌∙◌, ap, subst, arith}
+use Rattle.std.specs.Prelude.{All}
 use Rattle.std.specs.List.{AllByRecursion, list_any, flat_map}
-use Rattle.std.specs.List.Sorted.{IsStrictlySortedBy}
 use Rattle.std.specs.Int.{int_div_euclid, int_rem_euclid}
 use Rattle.std.specs.Ordering.{int_eq}
-use Rattle.std.proofs.lemmas.Int.{ints, by_lt_z}
-use Rattle.std.proofs.lemmas.Bool.Decides.{Decides-int_eq}
+use Rattle.std.proofs.lemmas.Int.{ints}
 use Rattle.std.proofs.lemmas.List.Elements.{recursion_from_All, All-from_recursion}
 use Rattle.integers.specs.Divides.{Divides, divides}
 use Rattle.integers.specs.Gcd.{gcd}
-use Rattle.integers.specs.Residue.{IsResidue}
-use Rattle.integers.proofs.Order.{mul_cancel}
 use Rattle.integers.proofs.Divisors.{Divides-zero, test_from_Divides}
 use Rattle.integers.proofs.Residues.{residue-is, residue-only}
-use Rattle.linear_term.specs.Linear.{Linear, IsReduced}
-use Rattle.linear_term.proofs.Totals.{by_test}
+use Rattle.linear_term.specs.Linear.{Linear}
 use Rattle.clause_set.specs.declared.literal.Literal.{Literal}
 use Rattle.clause_set.specs.declared.literal.Literal.TheVariants.{Eq, Geq, Div, NDiv}
-use Rattle.clause_set.specs.declared.literal.Norm.{Norm}
 use Rattle.clause_set.specs.declared.literal.Norm.TheVariants.{True, False, Lit}
 use Rattle.clause_set.specs.Literals.{IsLiteral}
 use Rattle.clause_set.specs.Clause.{IsClause}
-use Rattle.clause_set.specs.Formed.{IsFormed}
 use Rattle.clause_set.specs.Primitive.{AreCoprime, LeadsPositive, IsReducedModulo, IsPrimitive}
 use Rattle.clause_set.specs.Normal.{gcd_with, divided, quotient, negated, leads_negative, turned, residues, residue, decided, denied, normal_equation, normal_inequality, normal_divisibility, normal_of}
 use Rattle.clause_set.specs.Clauses.{literals_of, is_false}

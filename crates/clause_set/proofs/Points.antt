@@ -1,8 +1,8 @@
 -- Two opposite bounds of a clause leave more than one value, so a clause is its own form; a conjunction has none only where
 -- a literal is false by itself or an interval is empty.
-use Rattle.std.proofs.Common.{◌≡◌, ◌≢◌, ℕ, ℤ, pos, neg_ℤ, ◌+ℤ◌, ◌≤ℤ◌, ◌<ℤ◌, Bool, true, false, ◌||◌, cond, List, [], ◌∷◌, map, Option, Some, None, inl, inr, refl, sym, ◌∙◌, ap, subst, arith}
-use Rattle.std.specs.Prelude.{◌⊎◌, ◌↔◌, Contains}
-use Rattle.std.specs.List.{AllByRecursion, list_any, flat_map}
+use Rattle.std.proofs.Common.{◌≡◌, ℕ, ℤ, pos, neg_ℤ, ◌+ℤ◌, ◌≤ℤ◌, ◌<ℤ◌, true, false, ◌||◌, cond, List, [], ◌∷◌, map, Option, Some, None, inl, inr, refl, sym, ◌∙◌, ap, subst, arith}
+use Rattle.std.specs.Prelude.{◌⊎◌, ◌↔◌}
+use Rattle.std.specs.List.{AllByRecursion, list_any}
 use Rattle.std.specs.List.Sorted.{IsStrictlySortedBy}
 use Rattle.std.specs.Ordering.{int_eq}
 use Rattle.std.specs.declared.cmp.Ordering.{Ordering}
@@ -14,19 +14,17 @@ use Rattle.linear_term.specs.Linear.{Linear}
 use Rattle.linear_term.proofs.Totals.{by_test}
 use Rattle.clause_set.specs.declared.literal.Literal.{Literal}
 use Rattle.clause_set.specs.declared.literal.Literal.TheVariants.{Eq, Geq, Div, NDiv}
-use Rattle.clause_set.specs.declared.literal.Norm.{Norm}
-use Rattle.clause_set.specs.declared.literal.Norm.TheVariants as norm
 use Rattle.clause_set.specs.Clause.{IsClause}
-use Rattle.clause_set.specs.Primitive.{LeadsPositive, IsPrimitive, normals, HasEmptyInterval}
+use Rattle.clause_set.specs.Primitive.{LeadsPositive, normals, HasEmptyInterval}
 use Rattle.clause_set.specs.Normal.{negated, normal_of}
 use Rattle.clause_set.specs.Order.{literal_cmp, is_literal, insert_at, insert_once, inserted, sorted_once}
 use Rattle.clause_set.specs.Normal.{turned}
-use Rattle.clause_set.specs.Clauses.{same_pairs, slack_of, slack, bounds_apart, extent, is_negative, is_zero, is_void, with_constant, tightened, compact, is_false, literals_of, clause_of}
-use Rattle.clause_set.proofs.ClauseTruth.{AtMost, by_first}
-use Rattle.clause_set.proofs.Covers.{Among, Witness, any_from, any_with, by_no, slack-at, slack-witness}
-use Rattle.clause_set.proofs.Orders.{same_pairs-equal, same_pairs-refl}
-use Rattle.clause_set.proofs.Sorted.{literal_cmp-total, sorted_once-sorted, sorted-same, all_among}
-use Rattle.clause_set.proofs.Intervals.{Fits, AreIntervals, clause-intervals, one_bound, one_equation, not_both, not_opposite, own_slack, held, equation-slack, bound-slack, extent-negated, negated_twice, slack_of-own, slack_of-bound, slack_of-opposite}
+use Rattle.clause_set.specs.Clauses.{same_pairs, slack_of, slack, bounds_apart, extent, is_negative, is_zero, is_void, with_constant, tightened, compact, is_false, clause_of}
+use Rattle.clause_set.proofs.ClauseTruth.{AtMost}
+use Rattle.clause_set.proofs.Covers.{Among, any_from, any_with, by_no, slack-at, slack-witness}
+use Rattle.clause_set.proofs.Orders.{same_pairs-equal}
+use Rattle.clause_set.proofs.Sorted.{all_among}
+use Rattle.clause_set.proofs.Intervals.{Fits, AreIntervals, clause-intervals, one_equation, not_both, not_opposite, own_slack, held, equation-slack, bound-slack, extent-negated, negated_twice, slack_of-own, slack_of-bound, slack_of-opposite}
 use Rattle.clause_set.proofs.Primitive.{IsNormalLiteral}
 use Rattle.clause_set.proofs.Owned.{clause-normal, normals-own, none_false}
 
@@ -110,6 +108,7 @@ open_some j k lt = record { not_negative = no (j +ℤ k) lt; not_zero = apart_fr
   where
     no : (a : ℤ) → pos 0 <ℤ a → int_lt a (pos 0) ≡ false
     no a h = grind (arith, ints)
+
     apart_from : (a : ℤ) → pos 0 <ℤ a → int_eq a (pos 0) ≡ false
     apart_from a h = grind (arith, ints)
 

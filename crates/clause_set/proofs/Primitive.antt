@@ -1,7 +1,6 @@
 -- Normal forms are in lowest terms.
-use Rattle.std.proofs.Common.{◌≡◌, ◌≢◌, ◌+◌, ℕ, zero, suc, ℤ, pos, negsuc, neg_ℤ, ◌+ℤ◌, ◌*ℤ◌, ◌≤ℤ◌, ◌<ℤ◌, unsigned_abs, int_lt, int_le, Bool, true, false, not, cond, List, [], ◌∷◌, Option, Some, None, refl, sym, ◌∙◌, ap, subst, arith}
-use Rattle.std.specs.Prelude.{All}
-use Rattle.std.specs.List.{AllByRecursion, flat_map}
+use Rattle.std.proofs.Common.{◌≡◌, ◌≢◌, ℕ, ℤ, pos, neg_ℤ, ◌*ℤ◌, ◌≤ℤ◌, ◌<ℤ◌, unsigned_abs, int_lt, int_le, Bool, true, false, not, cond, List, [], ◌∷◌, Option, Some, None, refl, sym, ◌∙◌, ap, subst, arith}
+use Rattle.std.specs.List.{AllByRecursion}
 use Rattle.std.specs.Int.{int_div_euclid, int_rem_euclid}
 use Rattle.std.specs.Ordering.{int_eq}
 use Rattle.std.proofs.lemmas.Int.{ints, by_lt_z}
@@ -26,7 +25,7 @@ use Rattle.clause_set.specs.Primitive.{AreCoprime, LeadsPositive, IsReducedModul
 use Rattle.clause_set.specs.Normal.{gcd_with, divided, quotient, negated, leads_negative, turned, residues, residue, decided, denied, normal_equation, normal_inequality, normal_divisibility, normal_of}
 use Rattle.clause_set.specs.Clauses.{slack, extent, is_zero, with_constant, tightened, literals_of}
 use Rattle.clause_set.proofs.Contents.{gcd_with-positive, gcd_with-divides, gcd_with-divides_all, gcd_positive_right, quotient_exact}
-use Rattle.clause_set.proofs.Formed.{quotient-reduced, residue-reduced, residues-positive, divided-positive, with_constant-reduced, quotient_positive, normal-formed, tightened-formed}
+use Rattle.clause_set.proofs.Formed.{quotient-reduced, residues-positive, divided-positive, with_constant-reduced, quotient_positive, normal-formed, tightened-formed}
 use Rattle.clause_set.proofs.Kept.{Keeps}
 
 -- ---- divisors

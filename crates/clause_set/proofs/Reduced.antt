@@ -1,7 +1,6 @@
 -- The negation of a disjunction is true where this is not.
 use Rattle.std.proofs.Common.{◌≡◌, Bool, true, false, not, ◌&&◌, ◌||◌, ℤ, List, [], ◌∷◌, refl, sym, ◌∙◌, ap}
 use Rattle.std.specs.Prelude.{All}
-use Rattle.std.specs.List.{AllByRecursion}
 use Rattle.std.proofs.lemmas.List.Elements.{All-from_recursion, recursion_from_All}
 use Rattle.purse.specs.Trace.{just, next}
 use Rattle.clause_set.specs.declared.literal.Literal.{Literal}

@@ -1,15 +1,15 @@
 -- A literal in lowest terms has a name, and a single name has no divisor in common with the rest; no name comes in.
-use Rattle.std.proofs.Common.{◌≡◌, ◌≢◌, ℕ, zero, suc, ℤ, pos, negsuc, neg_ℤ, ◌+ℤ◌, ◌*ℤ◌, ◌≤ℤ◌, ◌<ℤ◌, unsigned_abs, int_le, nat_eq, Bool, true, false, not, ◌||◌, cond, List, [], ◌∷◌, Option, Some, None, inl, inr, refl, sym, ◌∙◌, ap, subst, arith}
+use Rattle.std.proofs.Common.{◌≡◌, ◌≢◌, ℕ, ℤ, pos, negsuc, neg_ℤ, ◌<ℤ◌, unsigned_abs, int_le, nat_eq, Bool, true, false, not, ◌||◌, cond, List, [], ◌∷◌, Option, Some, None, inl, inr, refl, sym, ◌∙◌, ap, arith}
 use Rattle.std.specs.Prelude.{All}
-use Rattle.std.specs.List.{AllByRecursion, list_any, flat_map}
+use Rattle.std.specs.List.{AllByRecursion, list_any}
 use Rattle.std.specs.Int.{int_div_euclid, int_rem_euclid}
 use Rattle.std.specs.Ordering.{int_eq}
-use Rattle.std.proofs.lemmas.Int.{ints, by_lt_z}
+use Rattle.std.proofs.lemmas.Int.{ints}
 use Rattle.std.proofs.lemmas.List.Elements.{recursion_from_All, All-from_recursion}
 use Rattle.integers.specs.Divides.{Divides, divides}
 use Rattle.integers.specs.Gcd.{gcd}
-use Rattle.integers.proofs.Divisors.{Divides-zero, Divides-refl, Divides-trans, Divides_from_size}
-use Rattle.integers.proofs.Divisor.{gcd-divides_left, gcd-divides_right, gcd-positive, gcd-comm, gcd-zero}
+use Rattle.integers.proofs.Divisors.{Divides-zero, Divides-refl}
+use Rattle.integers.proofs.Divisor.{gcd-divides_left, gcd-divides_right, gcd-positive, gcd-zero}
 use Rattle.linear_term.specs.Linear.{Linear, has_name, mentions, number}
 use Rattle.linear_term.proofs.Totals.{by_test}
 use Rattle.linear_term.proofs.Names.{combination-unmentioned}
@@ -22,11 +22,10 @@ use Rattle.clause_set.specs.Literals.{IsLiteral, AreLiterals, term_of}
 use Rattle.clause_set.specs.Formed.{IsFormed}
 use Rattle.clause_set.specs.Kept.{AreFormed, AreFree}
 use Rattle.clause_set.specs.Names.{has}
-use Rattle.clause_set.specs.Primitive.{AreCoprime, LeadsPositive, IsReducedModulo, IsPrimitive, IsSingleWith, IsUnit, IsShaped}
+use Rattle.clause_set.specs.Primitive.{AreCoprime, LeadsPositive, IsReducedModulo, IsSingleWith, IsUnit, IsShaped}
 use Rattle.clause_set.specs.Normal.{gcd_with, divided, quotient, negated, leads_negative, turned, residues, residue, decided, denied, normal_equation, normal_inequality, normal_divisibility, normal_of}
 use Rattle.clause_set.specs.Clauses.{slack, extent, is_zero, with_constant, tightened, literals_of, clauses_of}
 use Rattle.clause_set.specs.Dnfs.{tidied, conjunction, disjunction, negation}
-use Rattle.clause_set.proofs.Covers.{by_no}
 use Rattle.clause_set.proofs.Formed.{formed-keeps}
 use Rattle.clause_set.proofs.Negations.{less, more, less_is, more_is}
 use Rattle.clause_set.proofs.Primitive.{IsNormalLiteral, normal-keeps}

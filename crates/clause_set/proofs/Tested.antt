@@ -1,12 +1,12 @@
 -- What is kept, said of tests.
-use Rattle.std.proofs.Common.{◌≡◌, Bool, true, false, ◌&&◌, List, [], ◌∷◌, refl, sym, ◌∙◌, ap}
+use Rattle.std.proofs.Common.{◌≡◌, Bool, true, false, ◌&&◌, List, [], ◌∷◌, refl}
 use Rattle.std.specs.List.{AllByRecursion, list_all}
 use Rattle.std.specs.Cmp.{first_so, second_so}
 use Rattle.clause_set.specs.declared.literal.Literal.{Literal}
 use Rattle.clause_set.specs.Normal.{normal_of}
 use Rattle.clause_set.specs.Clauses.{tightened, literals_of, clauses_of}
 use Rattle.clause_set.specs.Dnfs.{tidied}
-use Rattle.clause_set.proofs.Kept.{Each, Keeps, clauses-kept, tidied-kept}
+use Rattle.clause_set.proofs.Kept.{Each, clauses-kept, tidied-kept}
 
 both_so : (a b : Bool) → a ≡ true → b ≡ true → (a && b) ≡ true
 both_so true b h k = k

@@ -1,5 +1,5 @@
 -- The answers of charged operations on disjunctions are true where the definitions of their work say so.
-use Rattle.std.proofs.Common.{◌≡◌, ℤ, Bool, not, ◌&&◌, ◌||◌, List, ◌++◌, Result, Ok, Err, IfOk, ◌∙◌, ap}
+use Rattle.std.proofs.Common.{◌≡◌, ℤ, Bool, not, ◌&&◌, ◌||◌, List, Result, Ok, Err, IfOk, ◌∙◌, ap}
 use Rattle.purse.specs.declared.fault.StepFault.{StepFault}
 use Rattle.purse.specs.Trace.{At, Traced, just, step, next}
 use Rattle.purse.specs.Work.{ChargedAt}

@@ -1,9 +1,8 @@
 -- Numbers below 2^63: a sum of two products of them stays in the range.
-use Rattle.std.proofs.Common.{◌≡◌, ℕ, ◌+◌, ◌*◌, ◌<◌, ◌≤◌, ◌^◌, ℤ, ◌+ℤ◌, ◌*ℤ◌, FitsSigned, to_z, of_z, to_z-of_z, ap, ◌∙◌, mul-le-mul, arith}
+use Rattle.std.proofs.Common.{◌≡◌, ◌*◌, ◌<◌, ◌≤◌, ◌^◌, ℤ, ◌+ℤ◌, ◌*ℤ◌, FitsSigned, to_z, of_z, to_z-of_z, ap, ◌∙◌, mul-le-mul, arith}
 use Rattle.std.specs.Prelude.{unsigned_abs}
 use Rattle.std.proofs.lemmas.Int.{unsigned_abs-mul, fits_signed_mul, fits_signed_from_abs, ints}
-use mir.Syntax.{w64, w128}
-use mir.Val.{SFits}
+use mir.Syntax.{w128}
 
 -- the largest number below 2^63, squared, is below 2^126
 pub small_product : (a b : ℤ) → unsigned_abs a < 2 ^ 63 → unsigned_abs b < 2 ^ 63 → unsigned_abs (a *ℤ b) < 2 ^ 126
@@ -18,12 +17,6 @@ pub small_fits : (a b : ℤ) → unsigned_abs a < 2 ^ 63 → unsigned_abs b < 2 
 small_fits a b h k = fits_signed_mul w128 a b 9223372036854775807 9223372036854775807 (omega (arith, h)) (omega (arith, k)) (omega arith)
 
 pub ruleset small = (small_product, small_fits)
-
--- a number below 2^63, made narrow and wide again
-pub widened : (a : ℤ) → SFits w128 a → unsigned_abs a < 2 ^ 63 → to_z w128 (of_z w128 (to_z w64 (of_z w64 (to_z w128 (of_z w128 a))))) ≡ a
-widened a fits h =
-    let narrow : FitsSigned w64 a = fits_signed_from_abs w64 a (omega (arith, h)) in
-    ap (λ z. to_z w128 (of_z w128 (to_z w64 (of_z w64 z)))) (to_z-of_z fits) ∙ ap (λ z. to_z w128 (of_z w128 z)) (to_z-of_z narrow) ∙ to_z-of_z fits
 
 pub exact_product : (a b x y : ℤ) → x ≡ a → y ≡ b → unsigned_abs a < 2 ^ 63 → unsigned_abs b < 2 ^ 63 → to_z w128 (of_z w128 (x *ℤ y)) ≡ a *ℤ b
 exact_product a b x y e f h k =

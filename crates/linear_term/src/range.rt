@@ -74,7 +74,7 @@ impl<T: Drop> From<AllocFailed<T>> for TermFault {
 }
 
 impl Place {
-    /// The number m·a + n·b, or Overflow with this place where it leaves the range.
+    /// The number m·a + n·b, or Overflow with this place where it leaves the range. Numbers of 64 bits go a short way.
     #[tactic(auto, using(crate::proofs::Small::small), unfolding(crate::specs::Range::stays))]
     pub fn value(&self) -> Result<i128, TermFault>
         ensures exact { IfOk result (λ k. k ≡ (self.now.m *ℤ self.now.a) +ℤ (self.now.n *ℤ self.now.b)) }
@@ -85,6 +85,17 @@ impl Place {
         if is_small(self.m) && is_small(self.a) && is_small(self.n) && is_small(self.b) {
             return Ok(small_product(self.m, self.a) + small_product(self.n, self.b));
         }
+        self.wide_value()
+    }
+
+    /// The same for numbers of any size.
+    #[tactic(auto, unfolding(crate::specs::Range::stays))]
+    fn wide_value(&self) -> Result<i128, TermFault>
+        ensures exact { IfOk result (λ k. k ≡ (self.now.m *ℤ self.now.a) +ℤ (self.now.n *ℤ self.now.b)) }
+        ensures range { IfOk result InRange }
+        ensures stays { OnOk result (stays self.now ≡ true) }
+        ensures overflow { IfErr result (λ fault. (fault ≡ TermFault.Overflow self.now) × (stays self.now ≡ false)) }
+    {
         let Some(left) = product(self.m, self.a) else {
             return Err(TermFault::Overflow(*self));
         };
@@ -98,7 +109,7 @@ impl Place {
     }
 }
 
-/// a·b for sizes below 2^63: one product of 64 bits.
+/// a·b for sizes below 2^63.
 #[tactic(auto, using(crate::proofs::Small::small))]
 fn small_product(a: i128, b: i128) -> i128
     requires left { unsigned_abs a < 2 ^ 63 }
@@ -106,8 +117,7 @@ fn small_product(a: i128, b: i128) -> i128
     ensures exact { result ≡ a *ℤ b }
     ensures small { unsigned_abs result < 2 ^ 126 }
 {
-    let (narrow_a, narrow_b) = (a as i64, b as i64);
-    narrow_a as i128 * narrow_b as i128
+    a * b
 }
 
 /// Whether |n| is below 2^63: two products of such numbers, and their sum, are in the range.

@@ -1,5 +1,5 @@
 -- A run only goes on, and a summary holds the notes as far as the run came.
-use Rattle.std.proofs.Common.{◌≡◌, ℕ, ◌+◌, ◌≤◌, false, List, [], ◌∷◌, ◌++◌, refl, sym, ◌∙◌, ap, subst, arith, Contains, Result, Ok, Err}
+use Rattle.std.proofs.Common.{◌≡◌, ℕ, ◌+◌, ◌≤◌, false, List, [], refl, ◌∙◌, ap, subst, arith, Contains, Result, Ok, Err}
 use Rattle.linear_term.specs.declared.range.Place.{Place}
 use Rattle.linear_term.specs.Range.{stays}
 use Rattle.purse.specs.declared.fault.StepFault.{StepFault}

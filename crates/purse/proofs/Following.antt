@@ -1,11 +1,10 @@
 -- Calls that keep a summary of their notes, joined: `following` serves them as `charging` serves calls without notes, and
 -- the lemmas on `Going` serve their loops.
-use Rattle.std.proofs.Common.{◌≡◌, ℕ, List, [], ◌∷◌, ◌++◌, refl, sym, ◌∙◌, ap, subst, append_assoc, Result, Ok, Err, IsErrAnd}
+use Rattle.std.proofs.Common.{◌≡◌, List, [], ◌∷◌, ◌++◌, refl, sym, ◌∙◌, ap, subst, Result, Ok, Err, IsErrAnd}
 use Rattle.std.proofs.lemmas.List.{append-nil}
-use Rattle.linear_term.specs.declared.range.Place.{Place}
 use Rattle.purse.specs.declared.fault.StepFault.{StepFault}
 use Rattle.purse.specs.declared.fault.StepFault.TheVariants.{Steps, Overflow, Memory}
-use Rattle.purse.specs.Trace.{Funds, Mark, At, at, Traced, just, step, next, pay, note}
+use Rattle.purse.specs.Trace.{Funds, Mark, at, Traced, just, next, note}
 use Rattle.purse.specs.Work.{ChargedAt, Charged, Worked}
 use Rattle.purse.proofs.Charging.{then_ok, then_fault, then_just, no_memory, charged_behind, after_note, charged_value}
 use Rattle.purse.specs.Followed.{after_notes, UnlessMemory, Followed}

@@ -2,7 +2,7 @@
 use Rattle.std.specs.Prelude.{◌≡◌, ◌≤◌, List, [], ◌∷◌, Result, Ok, Err}
 use Rattle.purse.specs.declared.fault.StepFault.{StepFault}
 use Rattle.purse.specs.declared.fault.StepFault.TheVariants.{Steps, Overflow, Memory}
-use Rattle.purse.specs.Trace.{Funds, Mark, At, at, Traced}
+use Rattle.purse.specs.Trace.{Funds, Mark, at, Traced}
 use Rattle.purse.specs.Work.{ChargedAt}
 
 -- the summary s after the notes ms

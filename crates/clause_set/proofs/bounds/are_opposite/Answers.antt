@@ -1,4 +1,4 @@
-use Rattle.std.proofs.Common.{◌≡◌, ℤ, neg_ℤ, rules, sym, ◌∙◌}
+use Rattle.std.proofs.Common.{◌≡◌, neg_ℤ, rules, sym, ◌∙◌}
 use Rattle.clause_set.proofs.Opposites.{opposite_front, range_rest}
 use Rattle.clause_set.proofs.bounds.are_opposite.Goals as goal
 

@@ -1,4 +1,4 @@
-use Rattle.std.proofs.Common.{rules, ◌≡◌, sym, ◌∙◌, ap, cond, Some, to_z-of_z}
+use Rattle.std.proofs.Common.{rules, ◌∙◌, ap, cond, Some, to_z-of_z}
 use mir.Syntax.{w128}
 use mir.Val.{SFits}
 use Rattle.std.specs.Map.{lookup}

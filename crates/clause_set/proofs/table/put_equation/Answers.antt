@@ -1,4 +1,4 @@
-use Rattle.std.proofs.Common.{rules, ◌≡◌, true, false, neg_ℤ, sym, ◌∙◌, ap, to_z-of_z}
+use Rattle.std.proofs.Common.{rules, ◌≡◌, true, false, neg_ℤ, ◌∙◌, ap, to_z-of_z}
 use mir.Syntax.{w128}
 use mir.Val.{SFits}
 use Rattle.clause_set.specs.Clauses.{same_pairs}

@@ -1,15 +1,15 @@
-use Rattle.std.proofs.Common.{rules, subst, sym, ◌<◌, ◌^◌}
+use Rattle.std.proofs.Common.{rules, to_z-of_z, subst, sym, ◌<◌, ◌^◌}
 use Rattle.std.specs.Prelude.{unsigned_abs}
 use mir.Syntax.{w128}
 use mir.Val.{SFits}
-use Rattle.linear_term.proofs.Small.{small_product, exact_product, widened}
+use Rattle.linear_term.proofs.Small.{small_product, exact_product}
 use Rattle.linear_term.proofs.range.small_product.Goals as goal
 
 pub returns-clause-exact : goal.returns-clause-exact
 returns-clause-exact c =
     let a : SFits w128 c.args.a = search rules in
     let b : SFits w128 c.args.b = search rules in
-    exact_product c.args.a c.args.b _ _ (widened c.args.a a c.requires.left) (widened c.args.b b c.requires.right) c.requires.left c.requires.right
+    exact_product c.args.a c.args.b _ _ (to_z-of_z a) (to_z-of_z b) c.requires.left c.requires.right
 
 pub returns-clause-small : goal.returns-clause-small
 returns-clause-small c =
