@@ -49,8 +49,8 @@ eliminated-same (suc m) (suc k) n (tree.existential f) lt le = ap (λ w. next w 
 eliminated-same (suc m) (suc k) n (tree.universal f) lt le =
     let same = dual-depth f in
     next-same (pay (size f)) _ _ (
-      next-same (dual f) _ _
-      (ap (λ w. next w (λ d. next (exists_name n d) negation)) (eliminated-same m k (suc n) (dual f).value (omega (arith, lt, same)) (omega (arith, le, same))))
+    next-same (dual f) _ _
+    (ap (λ w. next w (λ d. next (exists_name n d) negation)) (eliminated-same m k (suc n) (dual f).value (omega (arith, lt, same)) (omega (arith, le, same))))
     )
 
 pub names_does : (n : ℕ) (d : List (List Literal)) → Does (names_by_log n d) (names_out n d)

@@ -28,8 +28,7 @@ use Rattle.shadow_rules.proofs.Values.{one_sided-value, exact-value, dark-value}
 use Rattle.shadow_rules.specs.Results.{shadow_term, dark_term, inequalities, with_splinter, splinters_of, one_sided_results, exact_results, dark_results}
 use Rattle.elim_rules.specs.Elimination.{by_first, rules_deep, taken_out, exists_name}
 use Rattle.elim_rules.specs.Whole.{Lacks}
-use Rattle.elim_rules.proofs.Forms.{tidied-kept}
-
+use Rattle.clause_set.proofs.Kept.{tidied-kept}
 
 -- ---- terms
 neither : (b r : Bool) → cond b true r ≡ false → (b ≡ false) × (r ≡ false)

@@ -26,7 +26,7 @@ use Rattle.formula.specs.Duals.{dual}
 use Rattle.elim_rules.proofs.Duals.{less}
 use Rattle.elim_rules.specs.Whole.{Lacks, AreOver, all_of, any_of, eliminated, IsExact}
 use Rattle.elim_rules.proofs.Duals.{dual-proper, dual-depth}
-use Rattle.elim_rules.proofs.Forms.{tidied-kept}
+use Rattle.clause_set.proofs.Kept.{tidied-kept}
 use Rattle.elim_rules.proofs.Names.{found-lacks, clauses-lack, number-lacks, all_flat, exists_name-lacks}
 use Rattle.elim_rules.proofs.Taking.{exists_name-out}
 use Rattle.elim_rules.proofs.Whole.{eliminated-exact}

@@ -7,8 +7,8 @@ ghost use Rattle.typed_formula.specs.Lists.{sum_of};
 ghost use Rattle.linear_term.specs.Range.{InRange};
 ghost use Rattle.std.specs.Prelude.{◌≡◌, [], ◌∷◌, ◌*ℤ◌, ◌+ℤ◌, ◌++◌, IfSome, pos};
 
-use typed_formula::TypedTerm;
 use linear_term::Place;
+use typed_formula::TypedTerm;
 
 /// The number m·a + n·b of the place, where it and both products stay in the range.
 #[tactic(auto, using(crate::proofs::Steps::raws))]

@@ -2,12 +2,12 @@
 // ends the program.
 #![tactic(auto)]
 
-use typed_formula::Table;
 use prover_io::{FileSource, OutSink};
 use prover_job::run;
 use std::alloc::AllocError;
 use std::env;
 use std::process::ExitCode;
+use typed_formula::Table;
 
 /// The status where the words cannot be read from the system; the top call never answers it.
 const NO_WORDS: u8 = 10;

@@ -10,7 +10,8 @@ use Rattle.typed_formula.proofs.Folds as fold
 use Rattle.pri_tokens.specs.Lexemes.{lexemes_of}
 use Rattle.pri_reader.specs.declared.tree.File.{File}
 use Rattle.pri_reader.specs.declared.tree.ReadRefusal.{ReadRefusal}
-use Rattle.pri_reader.specs.Machine.{a_block, run}
+use Rattle.pri_reader.specs.Machine.{run}
+use Rattle.pri_reader.specs.MachineStates.{a_block}
 use Rattle.pri_reader.specs.Reading.{file_setting}
 use Rattle.pri_reader.proofs.FirstRefusal.{first_refused}
 use Rattle.pri_reader.proofs.Sound.{file_sound}

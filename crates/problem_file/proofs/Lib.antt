@@ -3,4 +3,3 @@ pub mod Bytes
 mod Existing
 pub mod Places
 mod Specials
-mod Telling

@@ -10,7 +10,8 @@ use std::test::Fail;
 
 /// Declarations of a constant c, a function f of one argument and one without, g, and a predicate p of one argument and
 /// one without, q: 89 bytes, so that a formula behind them and `\problem { ` stands at 100.
-const DECLARED: &str = "\\existentialConstants { int c; } \\functions { int f(int), g; } \\predicates { p(int), q; }";
+const DECLARED: &str =
+    "\\existentialConstants { int c; } \\functions { int f(int), g; } \\predicates { p(int), q; }";
 
 /// The least fault of a file of the grammar; none where it poses a problem.
 #[tactic(auto, using(pri_typing::proofs::Answered::file_resolvable))]

@@ -7,8 +7,8 @@ use Rattle.pri_reader.specs.Reading.{file_setting}
 use Rattle.pri_reader.specs.declared.tree.Block.{Block}
 use Rattle.pri_reader.specs.declared.tree.Block.TheVariants as block
 use Rattle.pri_typing.specs.declared.problem.TypeRefusal.{TypeRefusal}
-use Rattle.pri_typing.specs.declared.scope.Sort.{Sort}
-use Rattle.pri_typing.specs.declared.scope.Sort.TheVariants.{Formula, Term}
+use Rattle.pri_typing.specs.declared.scope.Category.{Category}
+use Rattle.pri_typing.specs.declared.scope.Category.TheVariants.{Formula, Term}
 use Rattle.pri_typing.specs.Phrase.{phrase, Phrase, first_token, number, truth, used, group, choice, absolute, lesser, greater, minus, product, sum, compared, negation, quantified, part, conjunction, disjunction, implication, equivalence, Phrases, no_phrase, and_phrase, Addends, no_addend, and_addend}
 use Rattle.pri_typing.specs.Ranges.{IsRanged, AreRanged, AreAddedRanged}
 use Rattle.pri_typing.specs.Scope.{Scope, refers, bound_or_declared, declarations, declared_from, existentials, universals}
@@ -33,7 +33,7 @@ nil_both (x ∷ xs) ys h = absurd cc
 abbrev pub NamesNothing : Scope → Type 0
 NamesNothing s = (text : List ℕ) → refers s text ≡ None
 
-undeclared : (s : Scope) (want : Sort) (at name_at n : ℕ) (text : List ℕ) (rest : List TypeRefusal) → NamesNothing s → use_faults want at name_at n (refers s text) ++ rest ≡ [] → ⊥
+undeclared : (s : Scope) (want : Category) (at name_at n : ℕ) (text : List ℕ) (rest : List TypeRefusal) → NamesNothing s → use_faults want at name_at n (refers s text) ++ rest ≡ [] → ⊥
 undeclared s want at name_at n text rest none h =
     let bad : use_faults want at name_at n None ++ rest ≡ [] = subst (λ r. use_faults want at name_at n r ++ rest ≡ []) (none text) h in absurd cc
 
