@@ -78,14 +78,14 @@ splinters-proper x c a h =
 one_proper : (d : List Literal) → All IsLiteral d → All (λ d. All IsLiteral d) (d ∷ [])
 one_proper d h = All-cons (λ d. All IsLiteral d) d [] h (All-nil (λ d. All IsLiteral d))
 
-one_sided-proper : (x : ℕ) (c : List Literal) → All IsLiteral c → All (λ d. All IsLiteral d) (one_sided_results x c)
+pub one_sided-proper : (x : ℕ) (c : List Literal) → All IsLiteral c → All (λ d. All IsLiteral d) (one_sided_results x c)
 one_sided-proper x c h = one_proper (others x c) (others-proper x c h)
 
-exact-proper : (x : ℕ) (c : List Literal) → All IsLiteral c → All (λ d. All IsLiteral d) (exact_results x c)
+pub exact-proper : (x : ℕ) (c : List Literal) → All IsLiteral c → All (λ d. All IsLiteral d) (exact_results x c)
 exact-proper x c h =
     one_proper (others x c ++ inequalities (shadow_term x) (lowers x c) (uppers x c)) (shadows-proper x (shadow_term x) (shadow-proper x) c h)
 
-dark_results-proper : (x : ℕ) (c : List Literal) → All IsLiteral c → All (λ d. All IsLiteral d) (dark_results x c)
+pub dark_results-proper : (x : ℕ) (c : List Literal) → All IsLiteral c → All (λ d. All IsLiteral d) (dark_results x c)
 dark_results-proper x c h =
     All-cons (λ d. All IsLiteral d) (others x c ++ inequalities (dark_term x) (lowers x c) (uppers x c)) (flat_map (splinters_of x c (pos (greatest_factor x (uppers x c)))) (lowers x c))
     (shadows-proper x (dark_term x) (dark-proper x) c h) (splinters-proper x c (pos (greatest_factor x (uppers x c))) h)

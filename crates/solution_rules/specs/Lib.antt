@@ -1,0 +1,4 @@
+pub mod Best
+pub mod Nearest
+pub mod Candidates
+pub mod Solutions
