@@ -62,10 +62,6 @@ rule x c Dark = dark x c
 abbrev pub unused : List Literal → Traced (List (List Literal))
 unused c = next (pay 1) (λ _. just (c ∷ []))
 
--- the size of the coefficient of x in an equation
-abbrev pub equation_size : ℕ → Literal → Option ℕ
-equation_size x l = cond (is_equation x l) (Some (unsigned_abs (coefficient x l))) None
-
 -- no equation of the clause has a smaller coefficient of x than the equation l
 abbrev pub is_least_equation : ℕ → List Literal → Literal → Bool
 is_least_equation x c l =

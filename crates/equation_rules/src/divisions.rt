@@ -34,7 +34,7 @@ pub fn merged_law()
 
 /// For positive b and d with (g, u, _) = bezout(b, d): d divides b·x + t exactly where g divides t and x is
 /// −u·t/g + k·d/g for some integer k.
-pub fn congruence_law()
+pub fn divisibility_law()
     ensures { (b : ℤ) (d : ℤ) (t : ℤ) (x : ℤ) → pos 0 <ℤ b → pos 0 <ℤ d
         → Divides d ((b *ℤ x) +ℤ t) ↔ (Divides (bezout b d).g t × IsSolution d (bezout b d) t x) }
 {}

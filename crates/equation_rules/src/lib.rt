@@ -6,5 +6,5 @@
 mod divisions;
 mod rules;
 
-pub use divisions::{bezout_law, congruence_law, merged_law, remainder_law, solvable_law};
+pub use divisions::{bezout_law, divisibility_law, merged_law, remainder_law, solvable_law};
 pub use rules::{apart_rule_law, equation_rule_law, merge_rule_law, shift_rule_law, unused_law};

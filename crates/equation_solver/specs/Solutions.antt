@@ -4,6 +4,6 @@ use Rattle.linear_term.specs.Range.{InRange}
 use Rattle.equation_solver.specs.declared.equation.Solution.{Solution}
 
 -- a is in the range, and not 0
-pub record IsSolution (q : Solution) : Type 0 where
+pub record HasCoefficient (q : Solution) : Type 0 where
   pub in_range : InRange q.a
   pub not_zero : q.a ≢ pos 0

@@ -9,7 +9,7 @@ ghost use Rattle.clause_set.specs.Names.{coefficient, has, product};
 ghost use Rattle.clause_set.specs.Rules.{applies, measure, rule};
 ghost use Rattle.clause_set.specs.declared.literal.Literal.TheVariants.{Div, Eq, Geq, NDiv};
 ghost use Rattle.equation_solver.specs.Answers.{with_first};
-ghost use Rattle.equation_solver.specs.Solutions.{IsSolution};
+ghost use Rattle.equation_solver.specs.Solutions.{HasCoefficient};
 ghost use Rattle.linear_term.specs.Linear.{coef_of, without};
 ghost use Rattle.linear_term.specs.Range.{InRange};
 ghost use Rattle.purse.specs.Trace.{compute, each};
@@ -38,7 +38,7 @@ pub struct Solution {
 /// The equation t = 0 for x.
 fn solved_for(x: u32, t: &Term) -> Result<Solution, Memory>
     requires { coef_of t.now x ≢ pos 0 }
-    ensures solution { IfOk result IsSolution }
+    ensures solution { IfOk result HasCoefficient }
     ensures name { IfOk result (λ q. q.x ≡ x) }
     ensures coefficient { IfOk result (λ q. q.a ≡ coef_of t.now x) }
     ensures rest { IfOk result (λ q. q.s ≡ without t.now x) }
@@ -62,7 +62,7 @@ fn opposed(q: &Solution, b: i128) -> i128
 
 /// |a|.
 fn size(q: &Solution) -> i128
-    requires solution { IsSolution q.now }
+    requires solution { HasCoefficient q.now }
     ensures exact { result ≡ size_of q.now.a }
     ensures divisor { IsDivisor result }
 {
@@ -73,7 +73,7 @@ fn size(q: &Solution) -> i128
 #[tactic(auto, using(crate::proofs::Products::positive_products))]
 fn scaled_divisor(d: i128, q: &Solution) -> Result<i128, StepFault>
     requires divisor { IsDivisor d }
-    requires solution { IsSolution q.now }
+    requires solution { HasCoefficient q.now }
     ensures exact { IfOk result (λ k. k ≡ d *ℤ size_of q.now.a) }
     ensures divisor { IfOk result IsDivisor }
     ensures stays { OnOk result (Worked (compute (product d (size_of q.now.a) ∷ [])) (Ok (tt {0}))) }
@@ -87,7 +87,7 @@ fn scaled_divisor(d: i128, q: &Solution) -> Result<i128, StepFault>
 /// |a|·t − σ·b·s for a literal's term b·x + t.
 #[tactic(auto, using(purse::proofs::Charging::working))]
 fn solved_term(q: &Solution, u: &Term) -> Result<Term, StepFault>
-    requires solution { IsSolution q.now }
+    requires solution { HasCoefficient q.now }
     ensures { Worked (solved_term q.now.x q.now.a q.now.s u.now) result }
 {
     let rest = u.without(q.x)?;
@@ -96,7 +96,7 @@ fn solved_term(q: &Solution, u: &Term) -> Result<Term, StepFault>
 
 #[tactic(auto, using(purse::proofs::Charging::working, crate::proofs::Steps::divisors))]
 fn solved_equality(alloc: Global, q: &Solution, u: &Term) -> Result<Items<Literal>, StepFault>
-    requires solution { IsSolution q.now }
+    requires solution { HasCoefficient q.now }
     ensures work { Worked (solved q.now.x q.now.a q.now.s (Eq u.now)) result }
     ensures divisors { IfOk result (λ ls. All HasDivisor ls) }
 {
@@ -106,7 +106,7 @@ fn solved_equality(alloc: Global, q: &Solution, u: &Term) -> Result<Items<Litera
 
 #[tactic(auto, using(purse::proofs::Charging::working, crate::proofs::Steps::divisors))]
 fn solved_bound(alloc: Global, q: &Solution, u: &Term) -> Result<Items<Literal>, StepFault>
-    requires solution { IsSolution q.now }
+    requires solution { HasCoefficient q.now }
     ensures work { Worked (solved q.now.x q.now.a q.now.s (Geq u.now)) result }
     ensures divisors { IfOk result (λ ls. All HasDivisor ls) }
 {
@@ -121,7 +121,7 @@ fn solved_divisibility(
     d: i128,
     u: &Term,
 ) -> Result<Items<Literal>, StepFault>
-    requires solution { IsSolution q.now }
+    requires solution { HasCoefficient q.now }
     requires divisor { IsDivisor d }
     ensures work { Worked (solved q.now.x q.now.a q.now.s (Div d u.now)) result }
     ensures divisors { IfOk result (λ ls. All HasDivisor ls) }
@@ -138,7 +138,7 @@ fn solved_indivisibility(
     d: i128,
     u: &Term,
 ) -> Result<Items<Literal>, StepFault>
-    requires solution { IsSolution q.now }
+    requires solution { HasCoefficient q.now }
     requires divisor { IsDivisor d }
     ensures work { Worked (solved q.now.x q.now.a q.now.s (NDiv d u.now)) result }
     ensures divisors { IfOk result (λ ls. All HasDivisor ls) }
@@ -150,7 +150,7 @@ fn solved_indivisibility(
 
 /// A literal with x, multiplied by |a|.
 fn solved(alloc: Global, q: &Solution, l: &Literal) -> Result<Items<Literal>, StepFault>
-    requires solution { IsSolution q.now }
+    requires solution { HasCoefficient q.now }
     requires divisor { HasDivisor l.now }
     ensures work { Worked (solved q.now.x q.now.a q.now.s l.now) result }
     ensures divisors { IfOk result (λ ls. All HasDivisor ls) }
@@ -165,7 +165,7 @@ fn solved(alloc: Global, q: &Solution, l: &Literal) -> Result<Items<Literal>, St
 
 #[tactic(auto, using(purse::proofs::Charging::working, crate::proofs::Steps::divisors))]
 fn solved_or_kept(alloc: Global, q: &Solution, l: &Literal) -> Result<Items<Literal>, StepFault>
-    requires solution { IsSolution q.now }
+    requires solution { HasCoefficient q.now }
     requires divisor { HasDivisor l.now }
     ensures work { Worked (solved_or_kept q.now.x q.now.a q.now.s l.now) result }
     ensures divisors { IfOk result (λ ls. All HasDivisor ls) }
@@ -180,7 +180,7 @@ fn solved_or_kept(alloc: Global, q: &Solution, l: &Literal) -> Result<Items<Lite
 /// The other literals, without x.
 #[tactic(auto, using(purse::proofs::Charging::leaving))]
 fn all_solved(alloc: Global, q: &Solution, rest: &[Literal]) -> Result<Items<Literal>, StepFault>
-    requires solution { IsSolution q.now }
+    requires solution { HasCoefficient q.now }
     requires divisors { All HasDivisor rest.now }
     ensures work { Worked (each (solved_or_kept q.now.x q.now.a q.now.s) rest.now []) result }
     ensures divisors { IfOk result (λ ls. All HasDivisor ls) }

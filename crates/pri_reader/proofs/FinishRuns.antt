@@ -12,7 +12,7 @@ use Rattle.pri_reader.specs.Grammar.{Limit, Setting, value_of}
 use Rattle.pri_reader.specs.MachineStates.{Frame, Want, a_block, Move, bad, on, numeral, level}
 use Rattle.pri_reader.specs.Machine.{moves, limited, goes_on, ends, run}
 use Rattle.pri_reader.specs.First.{with_limits, AsksNumber}
-use Rattle.pri_reader.specs.First.{any, unlimited, asked_before, in_front_of, Begins}
+use Rattle.pri_reader.specs.First.{any, unlimited, asked_before, in_front_of, BeginsFile}
 use Rattle.pri_reader.proofs.CompleteBlocks.{file_complete}
 use Rattle.pri_reader.proofs.Sound.{file_sound}
 use Rattle.pri_reader.proofs.Finish.{IsWhole, completes, or_true}
@@ -203,7 +203,7 @@ run_free s small shallow most end u v (x ∷ tokens) h want frames =
 
 -- A front begins a file exactly where there is a state behind it.
 
-pub begins_after : (s : Setting) → AsksNumber s.small → AsksNumber s.shallow → (front : List Lexeme) (state : State) → after s front (a_block []) [] ≡ Ok state → Begins s front
+pub begins_after : (s : Setting) → AsksNumber s.small → AsksNumber s.shallow → (front : List Lexeme) (state : State) → after s front (a_block []) [] ≡ Ok state → BeginsFile s front
 begins_after s u v front state e =
     let c = completes s state.0 state.1 (state_whole s front state e) in
     record {
@@ -225,7 +225,7 @@ taken_by : (more : Rest) (o : Result State ReadRefusal) (file : File) → goes_o
 taken_by more (Ok state) file e = record { state = state; is = refl }
 taken_by more (Err e) file q = absurd cc
 
-pub after_begins : (s : Setting) → AsksNumber s.small → AsksNumber s.shallow → (front : List Lexeme) → Begins s front → IsTaken (after s front (a_block []) [])
+pub after_begins : (s : Setting) → AsksNumber s.small → AsksNumber s.shallow → (front : List Lexeme) → BeginsFile s front → IsTaken (after s front (a_block []) [])
 after_begins s u v front b =
     taken_by (run (in_front_of b.more s) 0 b.more) (after s front (a_block []) []) b.file
     (sym (run_front s (asked_before b.more s.small) (asked_before b.more s.shallow) 0 b.more front (a_block []) [] (asked b.more s.small u) (asked b.more s.shallow v))

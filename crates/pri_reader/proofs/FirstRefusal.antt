@@ -10,7 +10,7 @@ use Rattle.pri_reader.specs.Grammar.{Setting, value_of, has_problem, IsFile}
 use Rattle.pri_reader.specs.MachineStates.{Frame, Want, a_block, Move, bad, on, numeral, level}
 use Rattle.pri_reader.specs.Machine.{moves, limited, goes_on, ends, run}
 use Rattle.pri_reader.specs.First.{AsksNumber}
-use Rattle.pri_reader.specs.First.{any, opens_level, unlimited, without_levels, Begins, FirstAt, IsFirstRefusal, first_syntax, first_literal, first_deep, first_end}
+use Rattle.pri_reader.specs.First.{any, opens_level, unlimited, without_levels, BeginsFile, FirstAt, IsFirstRefusal, first_syntax, first_literal, first_deep, first_end}
 use Rattle.pri_reader.proofs.CompleteBlocks.{file_complete}
 use Rattle.pri_reader.proofs.Sound.{file_sound}
 use Rattle.pri_reader.proofs.FinishMoves.{is_number, Keeps, moves_keep}
@@ -174,7 +174,7 @@ run_stop s u v end tokens front back x state e p r h =
     ∙ ap (and_then (after s (x ∷ back))) r ∙ ap (and_then (after s back)) h)
 
 -- a token that nothing takes is Syntax
-move_syntax : (s : Setting) (front : List Lexeme) (x : Lexeme) (state : State) → after s front (a_block []) [] ≡ Ok state → (Begins (unlimited s) (front ++ x ∷ []) → ⊥)
+move_syntax : (s : Setting) (front : List Lexeme) (x : Lexeme) (state : State) → after s front (a_block []) [] ≡ Ok state → (BeginsFile (unlimited s) (front ++ x ∷ []) → ⊥)
     → (m : Move) → moves s x x.terminal state.0 state.1 ≡ m → limited (s.small []) (s.shallow []) x.at m ≡ Err (refusal.Syntax x.at)
 move_syntax s front x state r b bad q = refl
 move_syntax s front x state r b (on want frames) q =
@@ -185,7 +185,7 @@ move_syntax s front x state r b (level n want frames) q =
     absurd (b (begins_after (unlimited s) asks_none asks_none (front ++ x ∷ []) (want, frames) (one_more_unlimited s front x state (level n want frames) r q)))
 
 -- a number that fits and is too large is Literal
-move_literal : (s : Setting) → AsksNumber s.small → (front back : List Lexeme) (x : Lexeme) (state : State) → after s front (a_block []) [] ≡ Ok state → Begins (unlimited s) (front ++ x ∷ [])
+move_literal : (s : Setting) → AsksNumber s.small → (front back : List Lexeme) (x : Lexeme) (state : State) → after s front (a_block []) [] ≡ Ok state → BeginsFile (unlimited s) (front ++ x ∷ [])
     → x.terminal ≡ t.Number → s.small back (value_of s x) ≡ false → (m : Move) → moves s x x.terminal state.0 state.1 ≡ m → Keeps x.terminal (value_of s x) m
     → limited (s.small []) (s.shallow []) x.at m ≡ Err (refusal.Literal x.at)
 move_literal s u front back x state r b i large bad q k =
@@ -203,7 +203,7 @@ kept_or false = inr refl
 
 -- a token that fits below any number of levels, and not within the limit, is Deep
 move_deep : (s : Setting) → AsksNumber s.small → AsksNumber s.shallow → (front : List Lexeme) (x : Lexeme) (state : State) → after s front (a_block []) [] ≡ Ok state
-    → Begins (without_levels s) (front ++ x ∷ []) → (Begins s (front ++ x ∷ []) → ⊥) → (m : Move) → moves s x x.terminal state.0 state.1 ≡ m
+    → BeginsFile (without_levels s) (front ++ x ∷ []) → (BeginsFile s (front ++ x ∷ []) → ⊥) → (m : Move) → moves s x x.terminal state.0 state.1 ≡ m
     → limited (s.small []) (s.shallow []) x.at m ≡ Err (refusal.Deep x.at)
 move_deep s u v front x state r b none bad q =
     absurd (not_taken (after (without_levels s) (front ++ x ∷ []) (a_block []) []) (limited (s.small []) (any []) x.at bad) (refusal.Syntax x.at)

@@ -41,7 +41,7 @@ in_front_of more s = with_limits s (asked_before more s.small) (asked_before mor
 
 -- The tokens begin a file: some tokens behind them make them one, in which their own numerals and the levels that they open
 -- themselves keep to the limits.
-pub record Begins (s : Setting) (front : List Lexeme) : Type 0 where
+pub record BeginsFile (s : Setting) (front : List Lexeme) : Type 0 where
   pub more : List Lexeme
   pub file : File
   pub is_file : IsFile (in_front_of more s) file (front ++ more)
@@ -53,7 +53,7 @@ pub record FirstAt (s : Setting) (tokens : List Lexeme) (at : ℕ) : Type 0 wher
   pub back : List Lexeme
   pub parts : tokens ≡ front ++ x ∷ back
   pub place : x.at ≡ at
-  pub begins : Begins s front
+  pub begins : BeginsFile s front
 
 -- the tokens up to and with this one
 abbrev pub up_to : {s : Setting} {tokens : List Lexeme} {at : ℕ} → FirstAt s tokens at → List Lexeme
@@ -62,12 +62,12 @@ up_to first = first.front ++ first.x ∷ []
 -- no file goes on with the token at this offset, whatever its numerals and levels are
 pub record SyntaxAt (s : Setting) (tokens : List Lexeme) (at : ℕ) : Type 0 where
   pub first : FirstAt s tokens at
-  pub none : Begins (unlimited s) (up_to first) → ⊥
+  pub none : BeginsFile (unlimited s) (up_to first) → ⊥
 
 -- some file goes on with the token at this offset, which is a numeral of too large a value
 pub record LiteralAt (s : Setting) (tokens : List Lexeme) (at : ℕ) : Type 0 where
   pub first : FirstAt s tokens at
-  pub fits : Begins (unlimited s) (up_to first)
+  pub fits : BeginsFile (unlimited s) (up_to first)
   pub numeral : first.x.terminal ≡ t.Number
   pub large : s.small first.back (value_of s first.x) ≡ false
 
@@ -87,13 +87,13 @@ opens_level _ = false
 -- levels, too: the token opens a level, and it is one too many
 pub record DeepAt (s : Setting) (tokens : List Lexeme) (at : ℕ) : Type 0 where
   pub first : FirstAt s tokens at
-  pub fits : Begins (without_levels s) (up_to first)
+  pub fits : BeginsFile (without_levels s) (up_to first)
   pub opens : opens_level first.x.terminal ≡ true
-  pub none : Begins s (up_to first) → ⊥
+  pub none : BeginsFile s (up_to first) → ⊥
 
 -- the tokens begin a file and are none
 pub record EndsEarly (s : Setting) (tokens : List Lexeme) : Type 0 where
-  pub begins : Begins s tokens
+  pub begins : BeginsFile s tokens
   pub none : (file : File) → IsFile s file tokens → ⊥
 
 -- this is the first refusal of tokens that end at this offset

@@ -32,7 +32,7 @@ pub fn least_law<T>()
 {}
 
 /// Offsets come in a strict weak order, and faults: by offset, and at one offset by number.
-pub fn order_law()
+pub fn place_order_law()
     ensures offsets { IsStrictWeakOrder nat_lt }
     ensures faults { IsStrictWeakOrder is_before }
 {}

@@ -19,7 +19,7 @@ mod texts;
 
 pub use laws::{
     components_law, cuts_law, existentials_law, holds_law, least_law, limits_law, names_law,
-    order_law, purity_law, says_law, well_formed_law,
+    place_order_law, purity_law, says_law, well_formed_law,
 };
 pub use problem::{Cut, Problem, Symbol, TypeRefusal};
 pub use resolution::resolve;

@@ -1,5 +1,5 @@
 -- The first place of what is not answered yet, form by form, and through lists.
-use Rattle.std.proofs.Common.{◌≡◌, ℕ, ℤ, ◌+◌, ◌<◌, ◌≤◌, min, Bool, List, [], ◌∷◌, ◌++◌, drop, get_or, length, Option, Some, None, refl, sym, ◌∙◌, ap, arith}
+use Rattle.std.proofs.Common.{◌≡◌, ℕ, nat_lt, ℤ, ◌+◌, ◌<◌, ◌≤◌, Bool, List, [], ◌∷◌, ◌++◌, drop, get_or, length, Option, Some, None, refl, sym, ◌∙◌, ap}
 use Rattle.std.specs.List.{flat_map}
 use Rattle.std.proofs.lemmas.List.{drop_more}
 use Rattle.std.proofs.Math.ListN.{drop_of_length-le}
@@ -12,24 +12,17 @@ use Rattle.pri_reader.specs.declared.tree.Added.{Added}
 use Rattle.pri_reader.specs.declared.tree.Block.{Block}
 use Rattle.pri_typing.specs.Phrase.{and_addend, Phrase, phrase, phrase_of, phrases_of, addends_of}
 use Rattle.pri_typing.proofs.Folds.{phrase-form, addend-term, phrase-Number, phrase-Truth, phrase-Use, phrase-Group, phrase-If, phrase-Abs, phrase-Min, phrase-Max, phrase-Minus, phrase-Product, phrase-Sum, phrase-Compare, phrase-Not, phrase-Quantified, phrase-Part, phrase-And, phrase-Or, phrase-Implies, phrase-Iff}
+use Rattle.pri_typing.proofs.Least.{earlier_by-none, earlier_by-assoc, least_by-append, offsets_ordered}
 use Rattle.problem_file.specs.Special.{special, all_special, added_special, block_special, lesser_of, least_place}
 
 lesser-none : (a : Option ℕ) → lesser_of a None ≡ a
-lesser-none None = refl
-lesser-none (Some a) = refl
-
-lesser-three : (a b c : ℕ) → min (min a b) c ≡ min a (min b c)
-lesser-three a b c = omega arith
+lesser-none = earlier_by-none nat_lt
 
 lesser-assoc : (a b c : Option ℕ) → lesser_of (lesser_of a b) c ≡ lesser_of a (lesser_of b c)
-lesser-assoc None b c = refl
-lesser-assoc (Some a) None c = refl
-lesser-assoc (Some a) (Some b) None = refl
-lesser-assoc (Some a) (Some b) (Some c) = ap (λ z. Some z) (lesser-three a b c)
+lesser-assoc = earlier_by-assoc nat_lt offsets_ordered
 
 least-append : (xs ys : List ℕ) → least_place (xs ++ ys) ≡ lesser_of (least_place xs) (least_place ys)
-least-append [] ys = refl
-least-append (x ∷ xs) ys = ap (lesser_of (Some x)) (least-append xs ys) ∙ sym (lesser-assoc (Some x) (least_place xs) (least_place ys))
+least-append = least_by-append nat_lt offsets_ordered
 
 abbrev place_in : Expr → Option ℕ
 place_in e = least_place (special (phrase e))

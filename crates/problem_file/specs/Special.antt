@@ -1,10 +1,11 @@
 -- What this program does not answer yet: declared symbols, sets of parts, quantifiers, `\if`, `\abs`, `\min` and `\max`.
-use Rattle.std.specs.Prelude.{ℕ, List, [], ◌∷◌, ◌++◌, min, Option, Some, None}
+use Rattle.std.specs.Prelude.{ℕ, nat_lt, List, [], ◌∷◌, ◌++◌, Option}
 use Rattle.std.specs.List.{flat_map}
 use Rattle.pri_reader.specs.declared.tree.Block.{Block}
 use Rattle.pri_reader.specs.declared.tree.Block.TheVariants as block
 use Rattle.pri_reader.specs.declared.tree.File.{File}
 use Rattle.pri_typing.specs.declared.problem.Problem.{Problem}
+use Rattle.pri_typing.specs.Least.{earlier_by, least_by}
 use Rattle.pri_typing.specs.Phrase.{Phrase, phrase, number, truth, used, group, choice, absolute, lesser, greater, minus, product, sum, compared, negation, quantified, part, conjunction, disjunction, implication, equivalence, Phrases, no_phrase, and_phrase, Addends, no_addend, and_addend}
 
 unfoldable mutual
@@ -58,16 +59,12 @@ block_special (block.Interpolant at sets) = at ∷ []
 abbrev pub unsupported : File → List ℕ
 unsupported f = flat_map block_special f.blocks
 
--- the lesser of two offsets, where there are two
+-- the lesser of two offsets, where there are two, and the least of several
 abbrev pub lesser_of : Option ℕ → Option ℕ → Option ℕ
-lesser_of None b = b
-lesser_of (Some a) None = Some a
-lesser_of (Some a) (Some b) = Some (min a b)
+lesser_of = earlier_by nat_lt
 
--- the least offset
 abbrev pub least_place : List ℕ → Option ℕ
-least_place [] = None
-least_place (at ∷ places) = lesser_of (Some at) (least_place places)
+least_place = least_by nat_lt
 
 -- the first offset of what is not answered in a file and the problem that it poses
 abbrev pub first_unsupported : File → Problem → Option ℕ

@@ -27,10 +27,3 @@ pub fn unsupported_law()
     ensures place { (bytes : List ℕ) (m n : ℕ) → PosesUnsupported bytes m → PosesUnsupported bytes n → m ≡ n }
     ensures some { (bytes : List ℕ) (p : Problem) → Reads bytes p → Poses bytes p ⊎ ((at : ℕ) × PosesUnsupported bytes at) }
 {}
-
-/// The least of several places is one of them, and none is before it; only of no places there is none.
-pub fn first_place_law()
-    ensures among { (places : List ℕ) (at : ℕ) → least_place places ≡ Some at → Contains places at }
-    ensures first { (places : List ℕ) (at : ℕ) → least_place places ≡ Some at → All (λ place. at ≤ place) places }
-    ensures none { (places : List ℕ) → least_place places ≡ None → places ≡ [] }
-{}

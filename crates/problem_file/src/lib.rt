@@ -8,6 +8,6 @@ mod refusals;
 mod special;
 
 pub use fault::FileFault;
-pub use laws::{first_place_law, one_problem_law, problem_law, unsupported_law};
+pub use laws::{one_problem_law, problem_law, unsupported_law};
 pub use reading::read_problem;
 pub use refusals::refuse;

@@ -3,7 +3,7 @@
 use pri_reader::read;
 use pri_typing::{
     TypeRefusal, components_law, cuts_law, existentials_law, holds_law, least_law, limits_law,
-    names_law, order_law, purity_law, resolve, says_law, well_formed_law,
+    names_law, place_order_law, purity_law, resolve, says_law, well_formed_law,
 };
 use std::alloc::{AllocError, Global};
 use std::test::Fail;
@@ -39,7 +39,7 @@ fn formulas_are_typed(rt: HostRuntime) -> Result<(), Fail> {
     names_law();
     well_formed_law();
     least_law::<u64>();
-    order_law();
+    place_order_law();
     for (formula, wanted) in [
         ("f(g) = c", None),
         ("x = c", Some(TypeRefusal::Undeclared(100))),

@@ -1,5 +1,5 @@
 use Rattle.pri_typing.proofs.Least.{faults_ordered, offsets_ordered}
-use Rattle.pri_typing.proofs.laws.order_law.Goals as goal
+use Rattle.pri_typing.proofs.laws.place_order_law.Goals as goal
 
 pub returns-clause-offsets : goal.returns-clause-offsets
 returns-clause-offsets c = offsets_ordered
