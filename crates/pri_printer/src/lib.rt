@@ -1,0 +1,14 @@
+// The texts in which the program prints what it found about a problem: a constraint as a formula of the problem's own
+// language, which is read back as one that is true where the constraint is, and the values of its constants.
+#![tactic(auto)]
+
+mod constraint;
+mod laws;
+mod literal;
+mod quotient;
+mod solution;
+mod term;
+
+pub use constraint::print_dnf;
+pub use laws::{constraint_law, quotient_law};
+pub use solution::print_solution;
