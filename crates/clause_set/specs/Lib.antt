@@ -17,5 +17,4 @@ pub mod Met
 pub mod Formed
 pub mod Primitive
 pub mod Kept
-pub mod Text
 pub mod Table
