@@ -1,0 +1,4 @@
+pub mod Budgets
+pub mod Choices
+pub mod Singles
+pub mod ByRule

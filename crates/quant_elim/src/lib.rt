@@ -1,0 +1,9 @@
+// Elimination of quantifiers, performed: of one name out of a disjunction of clauses by the rules that come first, and
+// of all quantifiers of a formula (Cooper 1972; Pugh 1992), with the log of the rules.
+#![tactic(auto)]
+
+mod choice;
+mod rows;
+mod taking;
+
+pub use taking::{exists_name, forall_last};
