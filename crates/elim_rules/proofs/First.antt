@@ -130,6 +130,7 @@ module _ {X : Type 0} (p : X → Bool) (f : X → ℕ) (x : X) (xs : List X) whe
       nearest : p x ≡ true → (l : Least p f xs) → (f x ≤ f l.element) ⊎ (f l.element < f x) → Least p f (x ∷ xs)
       nearest h l (inl le) = least_first h (λ y m q. let t = l.least y m q in omega (arith, le, t))
       nearest h l (inr lt) = least_later l (λ _. omega (arith, lt))
+
       by : (b : Bool) → p x ≡ b → (list_any p xs ≡ false) ⊎ Least p f xs → ((b || list_any p xs) ≡ false) ⊎ Least p f (x ∷ xs)
       by true h (inl n) = inr (least_first h (λ y m q. absurd (let t = any_with p y xs m q in cc)))
       by true h (inr l) = inr (nearest h l (either_way (f x) (f l.element)))
@@ -151,6 +152,7 @@ least_equation x c h = by (least_of (is_equation x) (λ l. unsigned_abs (coeffic
         at : (b : Bool) → is_equation x m ≡ b → not (b && nat_lt (unsigned_abs (coefficient x m)) (unsigned_abs (coefficient x l.element))) ≡ true
         at true e = let le = l.least m a e in let t : nat_lt (unsigned_abs (coefficient x m)) (unsigned_abs (coefficient x l.element)) ≡ false = grind (arith, nat_tests) in ap not t
         at false e = refl
+
     by : (list_any (is_equation x) c ≡ false) ⊎ Least (is_equation x) (λ l. unsigned_abs (coefficient x l)) c → list_any (is_equation x) c ≡ false
     by (inl n) = n
     by (inr l) = absurd (let t : list_any (is_least_equation x c) c ≡ true = any_with (is_least_equation x c) l.element c l.among (and_both _ _ l.passes (all_by _ c (smaller l))) in cc)
@@ -256,12 +258,15 @@ module _ (x : ℕ) (c : List Literal) where
     where
       passes_no : (p : Literal → Bool) (l : Literal) → Among l c → list_any p c ≡ false → p l ≡ false
       passes_no p l a h = by_no (p l) (λ t. let y = any_with p l c a t in absurd (cc))
+
       or_not : (b : Bool) → b ≡ false → (not b || false) ≡ true
       or_not true h = absurd (cc)
       or_not false h = refl
+
       or_same : (b : Bool) → (not b || b) ≡ true
       or_same true = refl
       or_same false = refl
+
       at : (l : Literal) → is_equation x l ≡ false → is_indivisibility x l ≡ false → is_divisibility x l ≡ false → (not (has x l) || is_bound x l) ≡ true
       at (Eq t) a b k = or_not _ a
       at (Geq t) a b k = or_same (has x (Geq t))

@@ -30,7 +30,6 @@ use Rattle.elim_rules.specs.Elimination.{by_first, rules_deep, taken_out, exists
 use Rattle.elim_rules.specs.Whole.{Lacks}
 use Rattle.elim_rules.proofs.Forms.{tidied-kept}
 
-
 -- ---- terms
 neither : (b r : Bool) → cond b true r ≡ false → (b ≡ false) × (r ≡ false)
 neither true r h = absurd (cc)

@@ -115,7 +115,7 @@ rule_replays x c e f a h = record {
       ap (λ z. replayed x (z ++ ls) (c ∷ cs) out) all
       ∙ replayed_turn x e (es ++ ls) c cs out a
       ∙ next-same (rule x c e) _ _ (
-        next-same (note (entry e)) _ _ (ap (replayed x (es ++ ls) (rs ++ cs)) (sym (append-nil out)) ∙ each_replays x f rs h ls cs out []) ∙ sym (next-assoc (note (entry e)) _ _)
+      next-same (note (entry e)) _ _ (ap (replayed x (es ++ ls) (rs ++ cs)) (sym (append-nil out)) ∙ each_replays x f rs h ls cs out []) ∙ sym (next-assoc (note (entry e)) _ _)
       )
       ∙ sym (next-assoc (rule x c e) _ _);
 }
@@ -127,6 +127,7 @@ rules_deep-replays x (suc n) c lt = by (first_rule x c) refl (rules_deep-replays
     all : ((r : List Literal) → measure x r < n → Replays x r (rules_deep x n r)) → (cs : List (List Literal)) → AllByRecursion (λ r. measure x r < n) cs → AllByRecursion (λ r. Replays x r (rules_deep x n r)) cs
     all f [] h = tt
     all f (r ∷ cs) h = (f r h.0, all f cs h.1)
+
     by : (o : Option Entry) → first_rule x c ≡ o → ((r : List Literal) → measure x r < n → Replays x r (rules_deep x n r)) → Replays x c (by_first (rules_deep x n) x c o)
     by None is f = unused_replays x c (none_first x c is)
     by (Some e) is f =

@@ -58,6 +58,7 @@ names_yield zero d f = yields_none (just d) (λ r. IsSatisfied d 0 ↔ (dnf_trut
   where
     value : (d : List (List Literal)) → (just d).value ≡ d
     value d = value-just d
+
     by : (r : List (List Literal)) → r ≡ d → IsSatisfied d 0 ↔ (dnf_truth r [] ≡ true)
     by r is = subst (λ z. IsSatisfied d 0 ↔ (dnf_truth z [] ≡ true)) (sym is) (none_left d)
 names_yield (suc n) d f =

@@ -149,6 +149,7 @@ rules_deep-same x (suc n) (suc m) c lt le = by (first_rule x c) refl (rules_deep
         → AllByRecursion (λ r. rules_deep x n r ≡ rules_deep x m r) cs
     all f [] h = tt
     all f (r ∷ cs) h = let l = h.0 in (f r (omega (arith, lt, l)) (omega (arith, le, l)), all f cs h.1)
+
     by : (o : Option Entry) → first_rule x c ≡ o → ((r : List Literal) → measure x r < n → measure x r < m → rules_deep x n r ≡ rules_deep x m r)
         → by_first_rule (rules_deep x n) x c o ≡ by_first_rule (rules_deep x m) x c o
     by None is f = refl
@@ -164,6 +165,7 @@ taken_out-rule x c = by (first_rule x c) refl
     all : (cs : List (List Literal)) → AllByRecursion (λ r. measure x r < measure x c) cs → AllByRecursion (λ r. rules_deep x (measure x c) r ≡ rules_deep x (suc (measure x r)) r) cs
     all [] h = tt
     all (r ∷ cs) h = let l = h.0 in (rules_deep-same x (measure x c) (suc (measure x r)) r l (omega arith), all cs h.1)
+
     by : (o : Option Entry) → first_rule x c ≡ o → by_first_rule (rules_deep x (measure x c)) x c o ≡ by_first_rule (taken_out x) x c o
     by None is = refl
     by (Some e) is =

@@ -189,10 +189,13 @@ witness f e p h = by (dnf_truth (exists_name (length e) d).value e) refl
   where
     d : List (List Literal)
     d = (eliminating (suc (length e)) f).value
+
     s : IsExact d f (suc (length e))
     s = eliminating-exact (suc (length e)) f p
+
     o : IsOut (length e) d (exists_name (length e) d).value
     o = exists_name-out (length e) d s.formed
+
     by : (b : Bool) → dnf_truth (exists_name (length e) d).value e ≡ b → (v : ℤ) × IsTrueAt f (e ++ v ∷ [])
     by true is = let m = o.back e is in (m.0, (s.tells (e ++ m.0 ∷ []) (one_more e m.0 (length e) refl)).yes (sym (ap (dnf_truth d) (at_end e m.0 (length e) refl)) ∙ m.1))
     by false is = absurd (((some_value f (length e) d _ s o).tells e refl).no is h)

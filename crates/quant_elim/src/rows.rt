@@ -1,35 +1,19 @@
 // The rule that comes first, performed, with its entry.
 
-ghost use Rattle.clause_set.specs.Clauses.{found};
 ghost use Rattle.clause_set.specs.Rules.{applies, first_rule, is_bounded, rule};
 ghost use Rattle.omega_elim.specs.Projection.{with_entry};
 ghost use Rattle.purse.specs.Work.{Charged};
 ghost use Rattle.purse.specs.declared.log.Entry.TheVariants.{Apart, Equation, Merge, Shift};
 ghost use Rattle.quant_elim.specs.First.{entry_of, first_row};
-ghost use Rattle.std.specs.Prelude.{◌≡◌, ◌<◌, ◌^◌, IfOk, Some, true};
+ghost use Rattle.std.specs.Prelude.{◌≡◌, ◌<◌, ◌^◌, Some, true};
 
 use super::choice::{Choice, first_choice};
-use clause_set::Clause;
+use clause_set::{Clause, found};
 use equation_solver::{by_equation, free_ndiv, merge_divs, shift_div};
-use linear_term::Memory;
 use omega_elim::project;
 use purse::{Entry, Purse, StepFault};
 use sqlite_items::Items;
 use std::alloc::Global;
-
-/// The clause alone; none where there is none.
-fn found(alloc: Global, c: Option<Clause>) -> Result<Items<Clause>, Memory>
-    ensures { IfOk result (λ cs. cs ≡ found c) }
-{
-    let mut out = Items::new(alloc);
-    match c {
-        Some(clause) => {
-            out.push(clause)?;
-            Ok(out)
-        }
-        None => Ok(out),
-    }
-}
 
 /// What the rule of the equation at i leaves.
 #[tactic(auto, using(crate::proofs::Singles::singles))]

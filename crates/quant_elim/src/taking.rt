@@ -1,11 +1,14 @@
 // A name out of clauses, by the rules that come first.
 
-ghost use Rattle.elim_rules.specs.Elimination.{exists_name, for_all_name, taken_out};
+ghost use Rattle.elim_rules.specs.Elimination.{IsOut, exists_name, for_all_name, taken_out};
 ghost use Rattle.clause_set.specs.Rules.{unused};
 ghost use Rattle.purse.specs.Trace.{at, each};
 ghost use Rattle.purse.specs.Work.{Charged, ChargedAt, Logged, marks_of};
-ghost use Rattle.std.specs.Prelude.{[], ◌<◌, ◌-◌, ◌^◌};
+ghost use Rattle.quant_elim.specs.Every.{IsEvery};
+ghost use Rattle.quant_elim.specs.Logging.{with_log};
+ghost use Rattle.std.specs.Prelude.{◌≡◌, IfOk, [], ◌<◌, ◌-◌, ◌^◌};
 
+use super::knowing::know_formed;
 use super::rows::first_row;
 use clause_set::{Clause, Dnf, not};
 use purse::{ElimFault, ElimLog, Purse, StepFault};
@@ -81,7 +84,23 @@ fn name_out(
     Dnf::tidy(alloc, cs, purse)
 }
 
-/// The disjunction that is true exactly where some value of x makes d true, and the log.
+/// The outcome with the log of what was done; want of memory has none.
+fn with_log(outcome: Result<Dnf, StepFault>, log: ElimLog) -> Result<(Dnf, ElimLog), ElimFault>
+    ensures { result ≡ with_log outcome log }
+{
+    match outcome {
+        Ok(d) => Ok((d, log)),
+        Err(StepFault::Steps) => Err(ElimFault::Steps(log)),
+        Err(StepFault::Overflow(place)) => Err(ElimFault::Overflow(log, place)),
+        Err(StepFault::Memory) => Err(ElimFault::Memory),
+    }
+}
+
+/// The disjunction that is true exactly where some value of x makes d true, without x, and the log of the rules that took
+/// x out of the clauses of d.
+///
+/// Refused with Steps exactly where a charge passes the budget, and else with Overflow exactly where a number that a rule
+/// computes leaves the range, which it names; both carry the log of the rules that were performed before.
 pub fn exists_name(
     alloc: Global,
     d: &Dnf,
@@ -89,17 +108,15 @@ pub fn exists_name(
     purse: &mut Purse,
 ) -> Result<(Dnf, ElimLog), ElimFault>
     requires { purse.old.budget < 2 ^ 32 }
-    ensures { Logged (exists_name x d.now) purse.old result purse.new }
+    ensures charged { Logged (exists_name x d.now) purse.old result purse.new }
+    ensures out { IfOk result (λ r. IsOut x d.now r.0) }
 {
+    know_formed(d.clauses());
     let mut log = ElimLog {
         entries: Items::new(alloc),
     };
-    match name_out(alloc, d, x, purse, &mut log) {
-        Ok(r) => Ok((r, log)),
-        Err(StepFault::Steps) => Err(ElimFault::Steps(log)),
-        Err(StepFault::Overflow(place)) => Err(ElimFault::Overflow(log, place)),
-        Err(StepFault::Memory) => Err(ElimFault::Memory),
-    }
+    let outcome = name_out(alloc, d, x, purse, &mut log);
+    with_log(outcome, log)
 }
 
 /// x out of d by "every value", with the entries behind those of the log.
@@ -119,7 +136,8 @@ fn all_values(
     not(alloc, &some, purse)
 }
 
-/// The disjunction that is true exactly where every value of the last name makes d true, and the log.
+/// The disjunction that is true exactly where every value of the last of the names makes d true, without that name, and
+/// the log. Refused as `exists_name` is.
 pub fn forall_last(
     alloc: Global,
     d: &Dnf,
@@ -128,15 +146,13 @@ pub fn forall_last(
 ) -> Result<(Dnf, ElimLog), ElimFault>
     requires some { 0 < names }
     requires budget { purse.old.budget < 2 ^ 32 }
-    ensures { Logged (for_all_name (names - 1) d.now) purse.old result purse.new }
+    ensures charged { Logged (for_all_name (names - 1) d.now) purse.old result purse.new }
+    ensures every { IfOk result (λ r. IsEvery (names - 1) d.now r.0) }
 {
+    know_formed(d.clauses());
     let mut log = ElimLog {
         entries: Items::new(alloc),
     };
-    match all_values(alloc, d, names - 1, purse, &mut log) {
-        Ok(r) => Ok((r, log)),
-        Err(StepFault::Steps) => Err(ElimFault::Steps(log)),
-        Err(StepFault::Overflow(place)) => Err(ElimFault::Overflow(log, place)),
-        Err(StepFault::Memory) => Err(ElimFault::Memory),
-    }
+    let outcome = all_values(alloc, d, names - 1, purse, &mut log);
+    with_log(outcome, log)
 }
