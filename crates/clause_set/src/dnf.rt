@@ -241,7 +241,7 @@ fn push_joined(alloc: Global, c: &Clause, e: &Clause, out: &mut Items<Clause>) -
 }
 
 /// The clause alone; none where there is none.
-fn found(alloc: Global, c: Option<Clause>) -> Result<Items<Clause>, Memory>
+pub fn found(alloc: Global, c: Option<Clause>) -> Result<Items<Clause>, Memory>
     ensures { IfOk result (λ cs. cs ≡ found c) }
 {
     let mut out = Items::new(alloc);
@@ -276,8 +276,8 @@ fn above(alloc: Global, t: &Term) -> Result<Term, StepFault>
     }
 }
 
-/// The clauses of one literal.
-fn literal_clauses(alloc: Global, l: Literal) -> Result<Items<Clause>, Memory>
+/// The clauses of one literal: its normal form alone, none where it is false by itself.
+pub fn literal_clauses(alloc: Global, l: Literal) -> Result<Items<Clause>, Memory>
     requires { HasDivisor l }
     ensures { IfOk result (λ cs. cs ≡ clauses_of ((l ∷ []) ∷ [])) }
 {
@@ -340,8 +340,8 @@ fn negated_divisibility(alloc: Global, l: &Literal) -> Result<Items<Clause>, Ste
     Ok(literal_clauses(alloc, opposite)?)
 }
 
-/// The negation of a literal, as clauses.
-fn negated_literal(alloc: Global, l: &Literal) -> Result<Items<Clause>, StepFault>
+/// The negation of a literal, as clauses, one of which is true where it is not; with its raw numbers.
+pub fn negated_literal(alloc: Global, l: &Literal) -> Result<Items<Clause>, StepFault>
     requires { HasDivisor l.now }
     ensures { Worked (negated_literal l.now) result }
 {

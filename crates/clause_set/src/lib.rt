@@ -14,7 +14,7 @@ mod table;
 mod weight;
 
 pub use clause::{Clause, copy_literals, normal};
-pub use dnf::{Dnf, and, not, or};
+pub use dnf::{Dnf, and, found, literal_clauses, negated_literal, not, or};
 pub use laws::{
     canonical_law, covers_law, form_law, formed_law, free_law, intervals_law, kept_law,
     negation_law, normal_law, operations_law, range_law,

@@ -17,13 +17,13 @@ use Rattle.elim_rules.proofs.Quiet.{quiet_just}
 use Rattle.elim_rules.proofs.Replays.{does_next, does_quiet, name_does}
 
 module _ (f g : Form → Traced (List (List Literal))) (m : ℕ) (same : (h : Form) → depth h < m → f h ≡ g h) where
-  all_same : (hs : Forms) (d : List (List Literal)) → depths hs < m → all_of f hs d ≡ all_of g hs d
+  pub all_same : (hs : Forms) (d : List (List Literal)) → depths hs < m → all_of f hs d ≡ all_of g hs d
   all_same tree.no_form d lt = refl
   all_same (tree.and_form h hs) d lt =
       ap (λ w. next w (λ c. next (conjunction d c) (λ both. all_of f hs both))) (same h (omega (arith, lt)))
       ∙ next-same (g h) _ _ (next-same (conjunction d (g h).value) _ _ (all_same hs (conjunction d (g h).value).value (omega (arith, lt))))
 
-  any_same : (hs : Forms) (d : List (List Literal)) → depths hs < m → any_of f hs d ≡ any_of g hs d
+  pub any_same : (hs : Forms) (d : List (List Literal)) → depths hs < m → any_of f hs d ≡ any_of g hs d
   any_same tree.no_form d lt = refl
   any_same (tree.and_form h hs) d lt =
       ap (λ w. next w (λ c. next (disjunction d c) (λ both. any_of f hs both))) (same h (omega (arith, lt)))

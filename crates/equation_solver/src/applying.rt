@@ -7,40 +7,7 @@ ghost use Rattle.std.specs.List.{list_any};
 ghost use Rattle.std.specs.Prelude.{◌≡◌, ◌||◌, count_by, slice_get};
 
 use clause_set::{Clause, Literal};
-use rule_steps::mentions;
-
-fn is_equation(l: &Literal, x: u32) -> bool
-    ensures { result ≡ is_equation x l.now }
-{
-    match l {
-        Literal::Eq(t) => mentions(t, x),
-        Literal::Geq(_) => false,
-        Literal::Div(_, _) => false,
-        Literal::NDiv(_, _) => false,
-    }
-}
-
-fn is_divisibility(l: &Literal, x: u32) -> bool
-    ensures { result ≡ is_divisibility x l.now }
-{
-    match l {
-        Literal::Eq(_) => false,
-        Literal::Geq(_) => false,
-        Literal::Div(_, t) => mentions(t, x),
-        Literal::NDiv(_, _) => false,
-    }
-}
-
-fn is_indivisibility(l: &Literal, x: u32) -> bool
-    ensures { result ≡ is_indivisibility x l.now }
-{
-    match l {
-        Literal::Eq(_) => false,
-        Literal::Geq(_) => false,
-        Literal::Div(_, _) => false,
-        Literal::NDiv(_, t) => mentions(t, x),
-    }
-}
+use rule_steps::{is_divisibility, is_equation, is_indivisibility};
 
 /// Whether literal i of c is an equation with x: `by_equation` applies.
 #[tactic(auto, using(crate::proofs::Placing::places))]

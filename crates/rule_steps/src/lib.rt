@@ -4,10 +4,12 @@
 
 mod charges;
 mod forms;
+mod kinds;
 mod names;
 mod numbers;
 
 pub use charges::{area, whole_charge};
 pub use forms::{alone, clauses, in_form};
+pub use kinds::{is_divisibility, is_equation, is_indivisibility};
 pub use names::mentions;
 pub use numbers::{combining, computing};

@@ -1,0 +1,10 @@
+pub mod Always
+pub mod Atomic
+pub mod Budgets
+pub mod Choices
+pub mod Outcomes
+pub mod Sides
+pub mod Singles
+pub mod Terms
+pub mod Unfolded
+pub mod ByRule

@@ -1,0 +1,19 @@
+use Rattle.std.proofs.Common.{[], ◌≡◌, ℕ, ◌+◌, ◌-◌, ◌*◌, ◌^◌, ◌<◌, ◌≤◌, length, drop}
+use Rattle.elim_rules.specs.Elimination.{taken_out}
+use Rattle.clause_set.specs.Rules.{measure}
+use Rattle.purse.specs.Trace.{at, each}
+use Rattle.purse.specs.Work.{Remains, marks_of}
+use Rattle.quant_elim.specs.First.{farthest}
+use Rattle.quant_elim.proofs.taking.+taking.Given as goal
+
+abbrev pub decreases-take_out : goal.decreases-take_out
+decreases-take_out l = 2 * measure l.x l.c.now
+
+abbrev pub decreases-take_out_all : goal.decreases-take_out_all
+decreases-take_out_all l = 2 * farthest l.x l.cs.now + 1
+
+abbrev pub invariant-take_out_all-loop-c : goal.invariant-take_out_all-loop-c
+invariant-take_out_all-loop-c l = record {
+  work : Remains (each (taken_out l.x) (drop l.c-index l.cs) l.out) (at l.purse (marks_of l.log)) (each (taken_out l.x) l.cs []) (at l.fn.purse (marks_of l.fn.log));
+  budget : l.purse.budget < 2 ^ 32;
+}

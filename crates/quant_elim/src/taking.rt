@@ -1,0 +1,158 @@
+// A name out of clauses, by the rules that come first.
+
+ghost use Rattle.elim_rules.specs.Elimination.{IsOut, exists_name, for_all_name, taken_out};
+ghost use Rattle.clause_set.specs.Rules.{unused};
+ghost use Rattle.purse.specs.Trace.{at, each};
+ghost use Rattle.purse.specs.Work.{Charged, ChargedAt, Logged, marks_of};
+ghost use Rattle.quant_elim.specs.Every.{IsEvery};
+ghost use Rattle.quant_elim.specs.Logging.{with_log};
+ghost use Rattle.std.specs.Prelude.{◌≡◌, IfOk, [], ◌<◌, ◌-◌, ◌^◌};
+
+use super::knowing::know_formed;
+use super::rows::first_row;
+use clause_set::{Clause, Dnf, not};
+use purse::{ElimFault, ElimLog, Purse, StepFault};
+use sqlite_items::Items;
+use std::alloc::Global;
+
+/// A clause without the name stays.
+#[tactic(auto, using(purse::proofs::Charging::charging))]
+fn unused(alloc: Global, c: &Clause, purse: &mut Purse) -> Result<Items<Clause>, StepFault>
+    ensures { Charged (unused c.now) purse.old result purse.new }
+{
+    purse.step(1)?;
+    let mut out = Items::new(alloc);
+    out.push(c.copy(alloc)?)?;
+    Ok(out)
+}
+
+/// x out of c: each rule writes its entry behind those of the log.
+#[cycle(taking)]
+#[tactic(auto, using(purse::proofs::Charging::logging))]
+fn take_out(
+    alloc: Global,
+    c: &Clause,
+    x: u32,
+    purse: &mut Purse,
+    log: &mut ElimLog,
+) -> Result<Items<Clause>, StepFault>
+    requires { purse.old.budget < 2 ^ 32 }
+    ensures { ChargedAt (taken_out x c.now) (at purse.old (marks_of log.old)) result (at purse.new (marks_of log.new)) }
+{
+    match first_row(alloc, c, x, purse)? {
+        None => unused(alloc, c, purse),
+        Some((entry, results)) => {
+            log.entries.push(entry)?;
+            take_out_all(alloc, results.as_slice(), x, purse, log)
+        }
+    }
+}
+
+/// x out of each of the clauses.
+#[cycle(taking)]
+#[tactic(auto, using(purse::proofs::Charging::logging))]
+fn take_out_all(
+    alloc: Global,
+    cs: &[Clause],
+    x: u32,
+    purse: &mut Purse,
+    log: &mut ElimLog,
+) -> Result<Items<Clause>, StepFault>
+    requires { purse.old.budget < 2 ^ 32 }
+    ensures { ChargedAt (each (taken_out x) cs.now []) (at purse.old (marks_of log.old)) result (at purse.new (marks_of log.new)) }
+{
+    let mut out = Items::new(alloc);
+    for c in cs {
+        out.append(take_out(alloc, c, x, purse, log)?)?;
+    }
+    Ok(out)
+}
+
+/// x out of d, with the entries behind those of the log.
+#[tactic(auto, using(purse::proofs::Charging::logging))]
+fn name_out(
+    alloc: Global,
+    d: &Dnf,
+    x: u32,
+    purse: &mut Purse,
+    log: &mut ElimLog,
+) -> Result<Dnf, StepFault>
+    requires { purse.old.budget < 2 ^ 32 }
+    ensures { ChargedAt (exists_name x d.now) (at purse.old (marks_of log.old)) result (at purse.new (marks_of log.new)) }
+{
+    let cs = take_out_all(alloc, d.clauses(), x, purse, log)?;
+    Dnf::tidy(alloc, cs, purse)
+}
+
+/// The outcome with the log of what was done; want of memory has none.
+fn with_log(outcome: Result<Dnf, StepFault>, log: ElimLog) -> Result<(Dnf, ElimLog), ElimFault>
+    ensures { result ≡ with_log outcome log }
+{
+    match outcome {
+        Ok(d) => Ok((d, log)),
+        Err(StepFault::Steps) => Err(ElimFault::Steps(log)),
+        Err(StepFault::Overflow(place)) => Err(ElimFault::Overflow(log, place)),
+        Err(StepFault::Memory) => Err(ElimFault::Memory),
+    }
+}
+
+/// The disjunction that is true exactly where some value of x makes d true, without x, and the log of the rules that took
+/// x out of the clauses of d.
+///
+/// Refused with Steps exactly where a charge passes the budget, and else with Overflow exactly where a number that a rule
+/// computes leaves the range, which it names; both carry the log of the rules that were performed before.
+pub fn exists_name(
+    alloc: Global,
+    d: &Dnf,
+    x: u32,
+    purse: &mut Purse,
+) -> Result<(Dnf, ElimLog), ElimFault>
+    requires { purse.old.budget < 2 ^ 32 }
+    ensures charged { Logged (exists_name x d.now) purse.old result purse.new }
+    ensures out { IfOk result (λ r. IsOut x d.now r.0) }
+{
+    know_formed(d.clauses());
+    let mut log = ElimLog {
+        entries: Items::new(alloc),
+    };
+    let outcome = name_out(alloc, d, x, purse, &mut log);
+    with_log(outcome, log)
+}
+
+/// x out of d by "every value", with the entries behind those of the log.
+#[tactic(auto, using(purse::proofs::Charging::logging))]
+fn all_values(
+    alloc: Global,
+    d: &Dnf,
+    x: u32,
+    purse: &mut Purse,
+    log: &mut ElimLog,
+) -> Result<Dnf, StepFault>
+    requires { purse.old.budget < 2 ^ 32 }
+    ensures { ChargedAt (for_all_name x d.now) (at purse.old (marks_of log.old)) result (at purse.new (marks_of log.new)) }
+{
+    let fails = not(alloc, d, purse)?;
+    let some = name_out(alloc, &fails, x, purse, log)?;
+    not(alloc, &some, purse)
+}
+
+/// The disjunction that is true exactly where every value of the last of the names makes d true, without that name, and
+/// the log. Refused as `exists_name` is.
+pub fn forall_last(
+    alloc: Global,
+    d: &Dnf,
+    names: u32,
+    purse: &mut Purse,
+) -> Result<(Dnf, ElimLog), ElimFault>
+    requires some { 0 < names }
+    requires budget { purse.old.budget < 2 ^ 32 }
+    ensures charged { Logged (for_all_name (names - 1) d.now) purse.old result purse.new }
+    ensures every { IfOk result (λ r. IsEvery (names - 1) d.now r.0) }
+{
+    know_formed(d.clauses());
+    let mut log = ElimLog {
+        entries: Items::new(alloc),
+    };
+    let outcome = all_values(alloc, d, names - 1, purse, &mut log);
+    with_log(outcome, log)
+}
