@@ -1,5 +1,5 @@
-// The encoding of a problem, computed: one closed formula of the calculus for the problem, and one for what parts of it
-// assume. What it is, and that it keeps the truth, stands in the crate below.
+// The encoding of a problem in code: how large it is, counted without building it, and the parts of which it is built:
+// plain terms, atoms and connectives. What it is, and that it keeps the truth, stands in the crate below.
 #![tactic(auto)]
 
 mod atoms;
