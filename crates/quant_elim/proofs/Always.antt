@@ -1,16 +1,16 @@
 -- "Every value" is "no value" of the negation.
-use Rattle.std.proofs.Common.{◌≡◌, ℕ, ℤ, Bool, true, false, not, List, refl, sym, ◌∙◌}
+use Rattle.std.proofs.Common.{◌≡◌, ℕ, ℤ, Bool, true, false, not, List, refl, ◌∙◌}
 use Rattle.integers.specs.Entry.{put}
 use Rattle.purse.specs.Trace.{next}
 use Rattle.clause_set.specs.declared.literal.Literal.{Literal}
 use Rattle.clause_set.specs.Dnfs.{negation}
-use Rattle.clause_set.specs.Kept.{AreFormed, AreFree}
+use Rattle.clause_set.specs.Kept.{AreFormed}
 use Rattle.clause_set.specs.Literals.{dnf_truth, AreLiterals}
-use Rattle.clause_set.specs.Met.{IsMet}
 use Rattle.clause_set.proofs.Reduced.{negation-truth}
 use Rattle.clause_set.proofs.Shapes.{negation-free}
 use Rattle.elim_rules.specs.Elimination.{exists_name, for_all_name, IsOut}
-use Rattle.elim_rules.proofs.Forms.{formed-literals, negation-formed}
+use Rattle.clause_set.proofs.Shapes.{negation-formed}
+use Rattle.elim_rules.proofs.Forms.{formed-literals}
 use Rattle.elim_rules.proofs.Taking.{exists_name-out}
 use Rattle.quant_elim.specs.Every.{IsEvery, IsAlwaysMet}
 

@@ -12,7 +12,7 @@ use Rattle.formula.specs.declared.calculus.Core.{Core}
 use Rattle.formula.specs.declared.calculus.Core.TheVariants as c
 use Rattle.formula.specs.Form as tree
 use Rattle.formula.specs.Form.{Form, is_pure}
-use Rattle.formula.specs.Tree.{form, forms_of}
+use Rattle.formula.specs.Tree.{form}
 use Rattle.formula.proofs.Building.{form-Eq, form-Neq, form-Geq, form-Pred, form-NotPred, form-NotFun, form-And, form-Or, form-Forall, form-Exists}
 use Rattle.elim_rules.specs.Whole.{IsExact, eliminating, paid, two_sides}
 use Rattle.elim_rules.proofs.Whole.{eliminating-exact}

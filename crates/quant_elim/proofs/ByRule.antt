@@ -1,6 +1,6 @@
 -- A name out of a clause, row by row.
-use Rattle.std.proofs.Common.{◌≡◌, ◌<◌, ◌≤◌, ◌+◌, ◌*◌, ℕ, zero, suc, Bool, true, false, cond, List, [], ◌∷◌, ◌++◌, map, max, drop, Option, Some, None, Result, Ok, Err, IsErrAnd, refl, sym, ◌∙◌, ap, subst, arith}
-use Rattle.std.specs.Prelude.{All, count_by}
+use Rattle.std.proofs.Common.{◌≡◌, ◌<◌, ◌≤◌, ◌+◌, ◌*◌, ℕ, zero, suc, true, cond, List, [], ◌∷◌, ◌++◌, map, drop, Option, Some, None, Result, Ok, Err, IsErrAnd, refl, sym, ◌∙◌, ap, subst, arith}
+use Rattle.std.specs.Prelude.{count_by}
 use Rattle.std.specs.List.{AllByRecursion, list_any}
 use Rattle.std.proofs.lemmas.List.{map-append}
 use Rattle.std.proofs.lemmas.List.Elements.{recursion_from_All}
@@ -11,7 +11,7 @@ use Rattle.purse.specs.declared.log.Entry.{Entry}
 use Rattle.purse.specs.declared.log.ElimLog.{ElimLog}
 use Rattle.purse.specs.Trace.{Funds, Mark, entry, At, at, Traced, just, next, note, each}
 use Rattle.purse.specs.Work.{ChargedAt, Charged, marks_of}
-use Rattle.purse.proofs.Charging.{then_ok, then_err, then_just, no_memory, unnoted, after_note, charged_value}
+use Rattle.purse.proofs.Charging.{then_ok, then_err, then_just, no_memory, unnoted, charged_value}
 use Rattle.purse.proofs.Tracing.{next-same, next-just, next-assoc}
 use Rattle.clause_set.specs.declared.literal.Literal.{Literal}
 use Rattle.clause_set.specs.Names.{has, is_equation, is_divisibility, is_indivisibility}

@@ -1,19 +1,15 @@
 -- Which rule comes first, by the places of the literals of each kind.
-use Rattle.std.proofs.Common.{◌≡◌, ◌<◌, ℕ, ◌+◌, Bool, true, false, not, ◌&&◌, nat_lt, cond, unsigned_abs, List, length, drop, Option, Some, None, refl, sym, ◌∙◌, ap, arith}
+use Rattle.std.proofs.Common.{◌≡◌, ℕ, ◌+◌, Bool, true, false, cond, List, drop, Some, None, refl}
 use Rattle.std.specs.Prelude.{position}
 use Rattle.std.specs.Cmp.{first_so}
-use Rattle.std.specs.List.{list_any, list_all}
-use Rattle.std.specs.Option.{option_map}
 use Rattle.purse.specs.declared.log.Entry.{Entry}
 use Rattle.purse.specs.declared.log.Entry.TheVariants as entry
 use Rattle.clause_set.specs.declared.literal.Literal.{Literal}
-use Rattle.clause_set.specs.Names.{coefficient, is_equation, is_divisibility, is_indivisibility}
+use Rattle.clause_set.specs.Names.{is_divisibility, is_indivisibility}
 use Rattle.clause_set.specs.Rules.{applies, first_rule, is_least_equation, is_bounded, is_one_sided, is_two_sided, is_exact}
 use Rattle.omega_elim.specs.Projection.{bounds_entry}
 use Rattle.omega_elim.proofs.Choice.{first_bounds}
 use Rattle.elim_rules.proofs.First.{first_is_rule}
-use Rattle.quant_elim.specs.declared.choice.Choice.TheVariants.{Equation, Apart, Merge, Shift, Bounds}
-use Rattle.quant_elim.specs.First.{entry_of}
 
 -- ---- the rule
 module _ (x : ℕ) (c : List Literal) where

@@ -1,7 +1,7 @@
 -- The tidy form of at most one clause is that clause.
-use Rattle.std.proofs.Common.{◌≡◌, Bool, true, false, not, ◌&&◌, ◌||◌, cond, List, [], ◌∷◌, ◌++◌, filter, Option, Some, None, refl, sym, ◌∙◌, ap}
+use Rattle.std.proofs.Common.{◌≡◌, Bool, true, false, not, ◌&&◌, ◌||◌, cond, List, [], ◌∷◌, ◌++◌, Option, Some, None, refl, ◌∙◌, ap}
 use Rattle.clause_set.specs.declared.literal.Literal.{Literal}
-use Rattle.clause_set.specs.Order.{clause_cmp, sorted_once}
+use Rattle.clause_set.specs.Order.{sorted_once}
 use Rattle.clause_set.specs.Clauses.{clause_of, clauses_of, found}
 use Rattle.clause_set.specs.Dnfs.{covers, tidied}
 

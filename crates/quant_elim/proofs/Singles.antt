@@ -1,5 +1,5 @@
 -- The work of a rule that leaves at most one clause, from a call that answers that clause.
-use Rattle.std.proofs.Common.{◌≡◌, ℕ, true, List, Option, Result, Ok, Err, IsErrAnd, sym, ◌∙◌, ap, subst}
+use Rattle.std.proofs.Common.{◌≡◌, List, Option, Result, Ok, Err, IsErrAnd, ◌∙◌, ap, subst}
 use Rattle.purse.specs.declared.fault.StepFault.{StepFault}
 use Rattle.purse.specs.declared.fault.StepFault.TheVariants.{Memory}
 use Rattle.purse.specs.Trace.{Funds, Traced, just, next}

@@ -1,7 +1,7 @@
 -- The elimination of a formula, by those of its parts.
-use Rattle.std.proofs.Common.{◌≡◌, ◌<◌, ◌≤◌, ◌+◌, ℕ, zero, suc, true, max, List, [], ◌∷◌, drop, Result, refl, sym, ◌∙◌, ap, subst, arith}
+use Rattle.std.proofs.Common.{◌≡◌, ◌<◌, ◌≤◌, ◌+◌, ℕ, zero, suc, true, List, [], ◌∷◌, drop, Result, refl, sym, ◌∙◌, ap, subst, arith}
 use Rattle.purse.specs.declared.fault.StepFault.{StepFault}
-use Rattle.purse.specs.Trace.{At, Traced, just, next, pay}
+use Rattle.purse.specs.Trace.{At, Traced, next, pay}
 use Rattle.purse.specs.Work.{ChargedAt}
 use Rattle.purse.proofs.Tracing.{next-same}
 use Rattle.clause_set.specs.declared.literal.Literal.{Literal}

@@ -1,9 +1,6 @@
-use Rattle.std.proofs.Common.{rules, [], ◌≡◌, ℕ, ◌+◌, ◌-◌, ◌*◌, ◌^◌, ◌<◌, ◌≤◌, ◌∙◌, length, drop, sym, refl, ap, subst, arith}
-use Rattle.purse.specs.Trace.{at, each}
-use Rattle.purse.specs.Work.{ChargedAt, marks_of}
-use Rattle.purse.proofs.Charging.{no_memory, after_note, drop-item, remains_next}
-use Rattle.clause_set.specs.Rules.{measure}
-use Rattle.quant_elim.specs.First.{farthest}
+use Rattle.std.proofs.Common.{◌≡◌, ◌^◌, drop, ap, arith}
+use Rattle.purse.specs.Work.{marks_of}
+use Rattle.purse.proofs.Charging.{after_note, drop-item, remains_next}
 use Rattle.quant_elim.proofs.ByRule.{row_fault, row_none, row_some, row_nearer, row_memory, noted, farthest-item, farthest-drop}
 use Rattle.quant_elim.proofs.Budgets.{below_budget}
 use Rattle.quant_elim.proofs.taking.+taking.Goals as goal

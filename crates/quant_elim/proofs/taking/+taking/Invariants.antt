@@ -1,4 +1,4 @@
-use Rattle.std.proofs.Common.{[], ◌≡◌, ℕ, ◌+◌, ◌-◌, ◌*◌, ◌^◌, ◌<◌, ◌≤◌, length, drop}
+use Rattle.std.proofs.Common.{[], ◌+◌, ◌*◌, ◌^◌, ◌<◌, drop}
 use Rattle.elim_rules.specs.Elimination.{taken_out}
 use Rattle.clause_set.specs.Rules.{measure}
 use Rattle.purse.specs.Trace.{at, each}
