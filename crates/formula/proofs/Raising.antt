@@ -17,7 +17,7 @@ name_rises n k x y lt =
     below_two : {x y n : ℕ} → n ≤ x → y < n → x < y → ⊥
     below_two h i j = omega (arith, h, i, j)
 
-rising_raised : (n k m l : ℕ) (ps : List (ℕ × ℤ)) → ((x : ℕ) → m ≤ x → l ≤ raised_name n k x) → IsRisingFrom m ps → IsRisingFrom l (map (λ (p : ℕ × ℤ). (raised_name n k p.0, p.1)) ps)
+pub rising_raised : (n k m l : ℕ) (ps : List (ℕ × ℤ)) → ((x : ℕ) → m ≤ x → l ≤ raised_name n k x) → IsRisingFrom m ps → IsRisingFrom l (map (λ (p : ℕ × ℤ). (raised_name n k p.0, p.1)) ps)
 rising_raised n k m l [] h r = tt
 rising_raised n k m l (p ∷ ps) h r =
     let at : l ≤ raised_name n k p.0 = h p.0 (omega (arith, r.0)) in

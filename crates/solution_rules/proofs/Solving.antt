@@ -28,7 +28,9 @@ use Rattle.solution_rules.proofs.Method.{Method, Laws, out_from, values_from, so
 use Rattle.solution_rules.proofs.Bests.{IsFirst, solved-best, solved-none}
 use Rattle.solution_rules.specs.Nearest.{AreCandidates}
 use Rattle.clause_set.specs.Primitive.{IsSingleWith, IsUnit}
-use Rattle.clause_set.proofs.Shapes.{IsOn}
+use Rattle.clause_set.specs.Formed.{IsFormed}
+use Rattle.clause_set.specs.Kept.{AreFormed}
+use Rattle.clause_set.proofs.Shapes.{IsOn, clauses_of-formed}
 use Rattle.clause_set.proofs.Kept.{tidied-kept}
 use Rattle.solution_rules.proofs.Spans.{IsIn, IsName, IsFrom, Spans}
 use Rattle.solution_rules.proofs.Outs.{exists_name-met, exists_name-spans}
@@ -134,40 +136,54 @@ valued-on j n v (Geq t) h = value-on j n v t h
 valued-on j n v (Div d t) h = value-on j n v t h
 valued-on j n v (NDiv d t) h = value-on j n v t h
 
-clause-literals : (j n : ℕ) (v : ℤ) (c : List Literal) → AllByRecursion (IsIn (IsFrom j n)) c → AllByRecursion IsLiteral (map (valued_literal j v) c)
-clause-literals j n v c h = kept-mapped (IsIn (IsFrom j n)) IsLiteral (valued_literal j v) (λ l k. valued-literals j v l k.formed.literal) c h
+clause-literals : (j : ℕ) (v : ℤ) (c : List Literal) → AllByRecursion IsLiteral c → AllByRecursion IsLiteral (map (valued_literal j v) c)
+clause-literals j v c h = kept-mapped IsLiteral IsLiteral (valued_literal j v) (λ l k. valued-literals j v l k) c h
 
 clause-on : (j n : ℕ) (v : ℤ) (c : List Literal) → AllByRecursion (IsIn (IsFrom j n)) c → AllByRecursion (IsOn (IsFrom (suc j) n)) (map (valued_literal j v) c)
 clause-on j n v c h = kept-mapped (IsIn (IsFrom j n)) (IsOn (IsFrom (suc j) n)) (valued_literal j v) (λ l k. valued-on j n v l k.on) c h
 
-all-literals : (j n : ℕ) (v : ℤ) (d : List (List Literal)) → Spans j n d → AllByRecursion (AllByRecursion IsLiteral) (valued_clauses j v d)
+all-literals : (j : ℕ) (v : ℤ) (d : List (List Literal)) → AllByRecursion (AllByRecursion IsLiteral) d → AllByRecursion (AllByRecursion IsLiteral) (valued_clauses j v d)
 unfolding valued_clauses
-all-literals j n v [] s = tt
-all-literals j n v (c ∷ cs) s = (clause-literals j n v c s.0, all-literals j n v cs s.1)
+all-literals j v [] h = tt
+all-literals j v (c ∷ cs) h = (clause-literals j v c h.0, all-literals j v cs h.1)
 
 all-on : (j n : ℕ) (v : ℤ) (d : List (List Literal)) → Spans j n d → AllByRecursion (AllByRecursion (IsOn (IsFrom (suc j) n))) (valued_clauses j v d)
 unfolding valued_clauses
 all-on j n v [] s = tt
 all-on j n v (c ∷ cs) s = (clause-on j n v c s.0, all-on j n v cs s.1)
 
-all-truth : (j n : ℕ) (v : ℤ) (e : List ℤ) (d : List (List Literal)) → Spans j n d → dnf_truth (valued_clauses j v d) e ≡ dnf_truth d (put e j v)
+all-truth : (j : ℕ) (v : ℤ) (e : List ℤ) (d : List (List Literal)) → AllByRecursion (AllByRecursion IsLiteral) d → dnf_truth (valued_clauses j v d) e ≡ dnf_truth d (put e j v)
 unfolding valued_clauses
-all-truth j n v e [] s = refl
-all-truth j n v e (c ∷ cs) s =
+all-truth j v e [] h = refl
+all-truth j v e (c ∷ cs) h =
     ap (λ b. b || dnf_truth (valued_clauses j v cs) e)
-    (all-mapped (IsIn (IsFrom j n)) (λ l. literal_truth l (put e j v)) (λ l. literal_truth l e) (valued_literal j v) (λ l _. valued-truth j v e l) c s.0)
-    ∙ ap (λ b. clause_truth c (put e j v) || b) (all-truth j n v e cs s.1)
+    (all-mapped IsLiteral (λ l. literal_truth l (put e j v)) (λ l. literal_truth l e) (valued_literal j v) (λ l _. valued-truth j v e l) c h.0)
+    ∙ ap (λ b. clause_truth c (put e j v) || b) (all-truth j v e cs h.1)
+
+spans-literals : (j n : ℕ) (d : List (List Literal)) → Spans j n d → AllByRecursion (AllByRecursion IsLiteral) d
+spans-literals j n d s = kept-weaker (AllByRecursion (IsIn (IsFrom j n))) (AllByRecursion IsLiteral) (λ c h. kept-weaker (IsIn (IsFrom j n)) IsLiteral (λ l k. k.formed.literal) c h) d s
+
+-- the value put into clauses, and their tidy form
+pub put-truth : (j : ℕ) (v : ℤ) (d : List (List Literal)) (e : List ℤ) → AllByRecursion (AllByRecursion IsLiteral) d → dnf_truth (tidied (each (valued_clause j v) d []).value) e ≡ dnf_truth d (put e j v)
+put-truth j v d e h =
+    ap (λ r. dnf_truth (tidied r) e) (each-value (valued_clause j v) d [] ∙ clauses-are j v d) ∙ tidied-truth (clauses_of (valued_clauses j v d)) e
+    ∙ clauses_of-truth (valued_clauses j v d) e (kept-weaker (AllByRecursion IsLiteral) (All IsLiteral) (λ r f. All-from_recursion IsLiteral r f) (valued_clauses j v d) (all-literals j v d h))
+    ∙ all-truth j v e d h
+
+pub put-formed : (j : ℕ) (v : ℤ) (d : List (List Literal)) → AllByRecursion (AllByRecursion IsLiteral) d → AreFormed (tidied (each (valued_clause j v) d []).value)
+put-formed j v d h =
+    subst (λ r. AreFormed (tidied r)) (sym (each-value (valued_clause j v) d [] ∙ clauses-are j v d))
+    (tidied-kept (All IsFormed) (clauses_of (valued_clauses j v d))
+    (clauses_of-formed (valued_clauses j v d) (kept-weaker (AllByRecursion IsLiteral) (All IsLiteral) (λ r f. All-from_recursion IsLiteral r f) (valued_clauses j v d) (all-literals j v d h))))
 
 pub with_value-truth : (j n : ℕ) (v : ℤ) (d : List (List Literal)) (e : List ℤ) → Spans j n d → dnf_truth (with_value j v d).value e ≡ dnf_truth d (put e j v)
-with_value-truth j n v d e s =
-    ap (λ r. dnf_truth r e) (with_value-is j v d) ∙ tidied-truth (clauses_of (valued_clauses j v d)) e
-    ∙ clauses_of-truth (valued_clauses j v d) e (kept-weaker (AllByRecursion IsLiteral) (All IsLiteral) (λ r f. All-from_recursion IsLiteral r f) (valued_clauses j v d) (all-literals j n v d s))
-    ∙ all-truth j n v e d s
+unfolding with_value next just
+with_value-truth j n v d e s = put-truth j v d e (spans-literals j n d s)
 
 pub with_value-spans : (j n : ℕ) (v : ℤ) (d : List (List Literal)) → Spans j n d → Spans (suc j) n (with_value j v d).value
 with_value-spans j n v d s =
     subst (Spans (suc j) n) (sym (with_value-is j v d))
-    (tidied-kept (AllByRecursion (IsIn (IsFrom (suc j) n))) (clauses_of (valued_clauses j v d)) (clauses-in (IsFrom (suc j) n) (valued_clauses j v d) (all-literals j n v d s) (all-on j n v d s)))
+    (tidied-kept (AllByRecursion (IsIn (IsFrom (suc j) n))) (clauses_of (valued_clauses j v d)) (clauses-in (IsFrom (suc j) n) (valued_clauses j v d) (all-literals j v d (spans-literals j n d s)) (all-on j n v d s)))
 
 -- ---- without names
 no_names : (U : ℤ → Type 0) (j : ℕ) (ps : List (ℕ × ℤ)) → IsSingleWith U ps → AllByRecursion (λ p. IsFrom j j p.0) ps → ⊥

@@ -1,0 +1,64 @@
+// What a proof says, and where a search that found none stood.
+
+ghost use Rattle.std.specs.Prelude.{◌≡◌, IfOk};
+
+use linear_term::{Memory, Place};
+use purse::ElimLog;
+use sqlite_items::Items;
+use std::alloc::Global;
+
+/// What a proof says: these values of the existential constants satisfy its constraint, or nothing does.
+#[derive(Drop)]
+pub enum Verdict {
+    Valid(Items<i128>),
+    Invalid,
+}
+
+/// Why a search ended without a proof.
+#[derive(Clone, Copy)]
+pub enum Why {
+    /// A charge passed the budget.
+    Steps,
+    /// A number that was computed left the range.
+    Overflow(Place),
+    /// A branch would have got a node on the 2,001st level.
+    Branch,
+    /// No rule was left that a further round could use more often.
+    Saturated,
+}
+
+/// Where a search stood: its round, the nodes entered in that round, the entries of the elimination in progress, and all
+/// that it charged.
+#[derive(Drop)]
+pub struct Run {
+    pub round: u32,
+    pub nodes: u64,
+    pub log: ElimLog,
+    pub spent: u64,
+}
+
+impl Verdict {
+    /// The same verdict once more.
+    pub fn copy(&self, alloc: Global) -> Result<Verdict, Memory>
+        ensures { IfOk result (λ v. v ≡ self.now) }
+    {
+        match self {
+            Verdict::Valid(values) => Ok(Verdict::Valid(Items::from_slice(alloc, values.as_slice())?)),
+            Verdict::Invalid => Ok(Verdict::Invalid),
+        }
+    }
+}
+
+impl Run {
+    /// The same run once more.
+    pub fn copy(&self, alloc: Global) -> Result<Run, Memory>
+        ensures { IfOk result (λ r. r ≡ self.now) }
+    {
+        Ok(Run {
+            round: self.round,
+            nodes: self.nodes,
+            log: self.log.copy(alloc)?,
+            spent: self.spent,
+        })
+    }
+}
