@@ -12,3 +12,4 @@ pub mod Measuring
 pub mod Negating
 pub mod Raising
 pub mod Shifted
+pub mod Knowing

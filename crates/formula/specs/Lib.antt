@@ -1,5 +1,6 @@
 pub mod Duals
 pub mod Form
+pub mod Reduced
 pub mod Made
 pub mod Shifts
 pub mod Sizes

@@ -8,6 +8,7 @@ mod laws;
 mod measures;
 mod negation;
 mod purity;
+mod reduced;
 mod shifting;
 
 pub use calculus::Core;

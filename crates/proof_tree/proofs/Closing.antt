@@ -12,8 +12,9 @@ use Rattle.sequent.proofs.Members.{all_append}
 use Rattle.pred_unify.specs.Pairs.{equations, alike, same_arguments, other_values, predicate_pair, function_pair, with_predicates, with_functions, function_pairs, pairs_of, pures, closing_of}
 use Rattle.pred_unify.proofs.Clashes.{each_all, cond_all}
 use Rattle.pred_unify.proofs.Pures.{closing_pure}
-use Rattle.proof_tree.specs.Reduced.{HasReducedTerms, HaveReducedTerms, IsReducedSequent}
-use Rattle.proof_tree.proofs.Reduced.{shifted_reduced, presburger_of, IsReducedMember}
+use Rattle.formula.specs.Reduced.{HasReducedTerms, HaveReducedTerms}
+use Rattle.proof_tree.specs.Reduced.{IsReducedSequent}
+use Rattle.proof_tree.proofs.Premises.{shifted_reduced, presburger_of, IsReducedMember}
 
 forms_reduced : (fs : List Form) → AllByRecursion HasReducedTerms fs → HaveReducedTerms (forms fs)
 forms_reduced [] h = tt

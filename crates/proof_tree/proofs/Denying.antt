@@ -16,7 +16,7 @@ use Rattle.proof_tree.specs.Reduced.{IsReducedSequent}
 use Rattle.proof_tree.specs.Says.{FalsityAt, FalsityBy}
 use Rattle.proof_tree.specs.Tight.{AreSaturated, IsSaturated, IsSaturatedLeaf}
 use Rattle.proof_tree.proofs.Giving.{constraint_is, formed_by}
-use Rattle.proof_tree.proofs.Reduced.{reduced_by}
+use Rattle.proof_tree.proofs.Premises.{reduced_by}
 
 tight_at : (s : Sequent) (i : ℕ) (o : Option Member) (ds : List (List ℤ → Bool)) (d : List ℤ → Bool) → IsWellFormed s → slice_get s.members i ≡ o
     → AreTight (premises_at s i o) ds → ((e : List ℤ) → length e ≡ s.count → d e ≡ false → FalsityAt o ds e) → IsTight d s

@@ -18,7 +18,7 @@ use Rattle.proof_tree.specs.Proof.{Proof, Proofs, node, no_proof, and_proof, giv
 use Rattle.proof_tree.specs.Reduced.{IsReducedSequent}
 use Rattle.proof_tree.specs.Rules.{constraint_by}
 use Rattle.proof_tree.specs.Says.{IsConstraint, TruthAt, TruthBy}
-use Rattle.proof_tree.proofs.Reduced.{reduced_by}
+use Rattle.proof_tree.proofs.Premises.{reduced_by}
 use Rattle.proof_tree.proofs.Yielding.{rule_yields, whole_yields}
 
 formed_at : (s : Sequent) (i : ℕ) (o : Option Member) → IsWellFormed s → slice_get s.members i ≡ o → AllByRecursion IsWellFormed (premises_at s i o)

@@ -1,7 +1,8 @@
-pub mod Reduced
+pub mod Premises
 pub mod Closing
 pub mod Yielding
 pub mod Giving
 pub mod Denying
 pub mod Walking
 pub mod Proving
+pub mod Knowing

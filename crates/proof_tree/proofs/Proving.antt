@@ -37,7 +37,8 @@ use Rattle.proof_tree.specs.declared.run.Verdict.TheVariants.{Valid, Invalid}
 use Rattle.proof_tree.specs.Gives.{Gives}
 use Rattle.proof_tree.specs.Proof.{Proof, Proofs, node, given}
 use Rattle.proof_tree.specs.Proves.{Proves, concluded, is_root_rule, rule_of, start, values_put, verdict_if}
-use Rattle.proof_tree.specs.Reduced.{HasReducedTerms, IsReducedSequent}
+use Rattle.formula.specs.Reduced.{HasReducedTerms}
+use Rattle.proof_tree.specs.Reduced.{IsReducedSequent}
 use Rattle.proof_tree.specs.Tight.{AreSaturated, IsSaturated, IsSaturatedLeaf}
 use Rattle.proof_tree.specs.Walk.{is_same, on_some}
 use Rattle.proof_tree.proofs.Denying.{node_tight}

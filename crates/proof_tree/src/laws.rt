@@ -1,24 +1,31 @@
 // What proof trees say, each the contract of a function with nothing to do.
 
 ghost use Rattle.std.specs.Prelude.{◌≡◌, ◌↔◌, ℕ, ℤ, List, length, Some, true, false};
+ghost use Rattle.std.specs.List.{AllByRecursion};
 ghost use Rattle.typed_formula.specs.Truth.{Meaning};
 ghost use Rattle.purse.specs.declared.log.Entry.{Entry};
 ghost use Rattle.clause_set.specs.declared.literal.Literal.{Literal};
 ghost use Rattle.clause_set.specs.Literals.{dnf_truth};
 ghost use Rattle.formula.specs.Form.{Form, FormTruth, IsFormOver, is_pure};
+ghost use Rattle.formula.specs.Reduced.{HasReducedTerms};
 ghost use Rattle.sequent.specs.declared.member.Pick.{Pick};
 ghost use Rattle.sequent.specs.Covers.{Covers, IsTight};
-ghost use Rattle.sequent.specs.Rules.{place};
+ghost use Rattle.sequent.specs.Rules.{place, premises_of};
 ghost use Rattle.sequent.specs.Sequent.{Sequent, IsWellFormed};
 ghost use Rattle.proof_tree.specs.declared.node.Conclusion.{Conclusion};
 ghost use Rattle.proof_tree.specs.declared.run.Verdict.TheVariants.{Valid, Invalid};
 ghost use Rattle.proof_tree.specs.Gives.{Gives, truths};
 ghost use Rattle.proof_tree.specs.Proof.{Proof, Proofs, node, given, all_given};
 ghost use Rattle.proof_tree.specs.Proves.{Proves, is_root_rule, rule_of, start};
-ghost use Rattle.proof_tree.specs.Reduced.{HasReducedTerms, IsReducedSequent};
+ghost use Rattle.proof_tree.specs.Reduced.{IsReducedSequent};
 ghost use Rattle.proof_tree.specs.Says.{IsConstraint};
 ghost use Rattle.proof_tree.specs.Tight.{IsSaturated};
 ghost use Rattle.proof_tree.specs.Walk.{walked};
+
+/// The premises of a sequent whose terms are reduced have such terms.
+pub fn reduced_law()
+    ensures { (s : Sequent) (p : Pick) → IsReducedSequent s → AllByRecursion IsReducedSequent (premises_of s p) }
+{}
 
 /// A node that gives its constraint covers its sequent, in every interpretation, whatever the tree: also one that no search
 /// would build, with logs that no elimination would write. Its constraint is in form, and says of the premises' constraints

@@ -10,7 +10,8 @@ use Rattle.elim_rules.specs.Presburger.{IsPresburger, ArePresburger}
 use Rattle.sequent.specs.Sequent.{Member, Sequent, member, sequent}
 use Rattle.sequent.specs.Rules.{brought, new_members, one_each, premises_at, premises_by}
 use Rattle.sequent.proofs.Members.{all_append, all_remove, all_at}
-use Rattle.proof_tree.specs.Reduced.{HasReducedTerms, HaveReducedTerms, IsReducedSequent}
+use Rattle.formula.specs.Reduced.{HasReducedTerms, HaveReducedTerms}
+use Rattle.proof_tree.specs.Reduced.{IsReducedSequent}
 
 raised_reduced : (n k : ℕ) (t : Linear) → IsReduced t → IsReduced (raised n k t)
 unfolding raised
