@@ -1,6 +1,7 @@
 // One name out of a disjunction, and atoms.
 
 use super::made::{Row, Says, atom as formula_of, term};
+use super::points::dnf_is_true;
 use clause_set::{Clause, Dnf, Literal, Ordered};
 use purse::{ElimFault, ElimLog, Entry, Purse, StepFault};
 use quant_elim::{atom, exists_name, forall_last};
@@ -105,7 +106,11 @@ fn atoms_charge_their_monomials(rt: HostRuntime) -> Result<(), Fail> {
         &formula_of(alloc, Says::NotZero, (1, 0, 0, 0))?,
         &mut purse,
     )?;
+    // −x − 1 ≥ 0, and x − 1 ≥ 0
     assert_eq!(rt; sides.len(), 2);
+    for (x, holds) in [(-1, true), (0, false), (1, true)] {
+        assert_eq!(rt; dnf_is_true(&sides, (x, 0, 0)), holds, "at {x}");
+    }
     assert_eq!(rt; purse.spent(), 5);
     Ok(())
 }
