@@ -1,11 +1,13 @@
-// The kernels: each answers how many monomials it wrote in all.
+// The kernels: each answers how many monomials it wrote in all, or how many steps an elimination charged.
 
 ghost use Rattle.clause_set.specs.Literals.{HasDivisor};
 ghost use Rattle.std.specs.Prelude.{All, IfOk};
 
-use clause_set::{Clause, Dnf, Literal, Purse, StepFault, and};
+use super::eliminations::{Whole, eliminations};
+use clause_set::{Clause, Dnf, Literal, and};
 use linear_term::Term;
 use omega_elim::{is_bounded, project};
+use purse::{Purse, StepFault};
 use sqlite_items::Items;
 use std::alloc::Global;
 
@@ -20,6 +22,8 @@ pub enum Kernel {
     Tidy(u16),
     /// The shadow of this many lower and as many upper bounds of a name, over 8 names.
     Shadow(u16),
+    /// The elimination of this many names.
+    Eliminate(Whole, u16),
 }
 
 /// Runs a kernel this many times.
@@ -29,6 +33,7 @@ pub fn run(alloc: Global, kernel: Kernel, times: u32) -> Result<u64, StepFault> 
         Kernel::And(size) => conjoin(alloc, size, times),
         Kernel::Tidy(size) => tidy(alloc, size, times),
         Kernel::Shadow(size) => shadow(alloc, size, times),
+        Kernel::Eliminate(whole, names) => eliminations(alloc, whole, names, times),
     }
 }
 

@@ -1,8 +1,10 @@
 // The innermost loops of the prover, a given number of times, for `bench/kernels` to time. Without words it does nothing.
 #![tactic(auto)]
 
+mod eliminations;
 mod kernels;
 
+use eliminations::Whole;
 use kernels::{Kernel, run};
 use std::env;
 
@@ -33,6 +35,9 @@ fn named(rt: &HostRuntime) -> Option<(Kernel, u32)> {
         "and" => Kernel::And(size),
         "tidy" => Kernel::Tidy(size),
         "shadow" => Kernel::Shadow(size),
+        "gap" => Kernel::Eliminate(Whole::Gap, size),
+        "nested" => Kernel::Eliminate(Whole::Nested, size),
+        "chain" => Kernel::Eliminate(Whole::Chain, size),
         _ => return None,
     };
     Some((kernel, times))

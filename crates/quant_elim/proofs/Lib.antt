@@ -1,4 +1,5 @@
 pub mod Always
+pub mod Arms
 pub mod Atomic
 pub mod Budgets
 pub mod Choices

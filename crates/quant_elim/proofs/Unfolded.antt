@@ -8,14 +8,16 @@ use Rattle.clause_set.specs.declared.literal.Literal.{Literal}
 use Rattle.clause_set.specs.Dnfs.{negation, top}
 use Rattle.formula.specs.declared.calculus.Core.{Core}
 use Rattle.formula.specs.Form as tree
-use Rattle.formula.specs.Form.{Form, Forms}
+use Rattle.formula.specs.Form.{Form, Forms, IsFormOver}
 use Rattle.formula.specs.Sizes.{size, depth, depths}
 use Rattle.formula.specs.Duals.{dual}
 use Rattle.formula.specs.Tree.{form, forms_of}
 use Rattle.elim_rules.specs.Elimination.{exists_name}
-use Rattle.elim_rules.specs.Whole.{all_of, any_of, eliminated, eliminating}
+use Rattle.elim_rules.specs.Presburger.{IsPresburger}
+use Rattle.elim_rules.specs.Whole.{AreOver, all_of, any_of, eliminated, eliminating}
 use Rattle.elim_rules.proofs.Depth.{all_same, any_same, eliminated-same}
 use Rattle.elim_rules.proofs.Duals.{dual-depth}
+use Rattle.elim_rules.proofs.Over.{eliminated-over}
 use Rattle.quant_elim.specs.Atoms.{is_atom}
 
 pub atom_anywhere : (n : ℕ) (f : Form) → is_atom f ≡ true → eliminating 0 f ≡ eliminating n f
@@ -69,19 +71,12 @@ by_every n f =
 pub as_work : (n : ℕ) (f g : Form) (w : Traced (List (List Literal))) {a b : At} {r : Result (List (List Literal)) StepFault} → f ≡ g → eliminating n g ≡ w → ChargedAt w a r b → ChargedAt (eliminating n f) a r b
 as_work n f g w {a} {b} {r} is same h = subst (λ z. ChargedAt z a r b) (sym (ap (eliminating n) is ∙ same)) h
 
--- ---- depths
-pub deep : (f : Form) → 1 ≤ depth f
-deep (tree.equal t) = omega arith
-deep (tree.unequal t) = omega arith
-deep (tree.at_least t) = omega arith
-deep (tree.holds p ts) = omega arith
-deep (tree.fails p ts) = omega arith
-deep (tree.differs f ts u) = omega arith
-deep (tree.conjunction fs) = omega arith
-deep (tree.disjunction fs) = omega arith
-deep (tree.universal f) = omega arith
-deep (tree.existential f) = omega arith
+-- the names of its value are the formula's
+pub eliminating-over : (n : ℕ) (f : Form) → IsPresburger f → IsFormOver n f → AreOver n (eliminating n f).value
+unfolding eliminating
+eliminating-over n f p o = eliminated-over (suc (depth f)) n f (omega arith) p o
 
+-- ---- depths
 depths-drop : (i : ℕ) (fs : List Core) → depths (forms_of (drop i fs)) ≤ depths (forms_of fs)
 depths-drop zero fs = omega arith
 depths-drop (suc i) [] = omega arith

@@ -7,6 +7,8 @@ mod choice;
 mod knowing;
 mod rows;
 mod taking;
+mod wholes;
 
 pub use atoms::atom;
 pub use taking::{exists_name, forall_last};
+pub use wholes::eliminate;

@@ -70,7 +70,7 @@ fn take_out_all(
 
 /// x out of d, with the entries behind those of the log.
 #[tactic(auto, using(purse::proofs::Charging::logging))]
-fn name_out(
+pub(crate) fn name_out(
     alloc: Global,
     d: &Dnf,
     x: u32,
@@ -85,7 +85,10 @@ fn name_out(
 }
 
 /// The outcome with the log of what was done; want of memory has none.
-fn with_log(outcome: Result<Dnf, StepFault>, log: ElimLog) -> Result<(Dnf, ElimLog), ElimFault>
+pub(crate) fn with_log(
+    outcome: Result<Dnf, StepFault>,
+    log: ElimLog,
+) -> Result<(Dnf, ElimLog), ElimFault>
     ensures { result ≡ with_log outcome log }
 {
     match outcome {

@@ -1,0 +1,116 @@
+// One name out of a disjunction, and atoms.
+
+use super::made::{Row, Says, atom as formula_of, term};
+use super::points::dnf_is_true;
+use clause_set::{Clause, Dnf, Literal, Ordered};
+use purse::{ElimFault, ElimLog, Entry, Purse, StepFault};
+use quant_elim::{atom, exists_name, forall_last};
+use sqlite_items::Items;
+use std::alloc::Global;
+use std::test::Fail;
+
+/// The disjunction of the inequality with this term.
+fn bound(alloc: Global, row: Row) -> Result<Dnf, StepFault> {
+    let mut literals = Items::new(alloc);
+    literals.push(Literal::Geq(term(alloc, row)?))?;
+    let mut clauses = Items::new(alloc);
+    if let Some(clause) = Clause::of(alloc, literals)? {
+        clauses.push(clause)?;
+    }
+    Ok(Dnf::tidied(alloc, clauses)?)
+}
+
+/// Whether the only clause found has the literal alone.
+pub(crate) fn is_alone(d: &Dnf, wanted: &Literal) -> bool {
+    match d.clauses() {
+        [c] => match c.literals() {
+            [l] => l.compare(wanted).is_eq(),
+            _ => false,
+        },
+        _ => false,
+    }
+}
+
+/// Whether the disjunction is true: one clause without literals.
+pub(crate) fn is_top(d: &Dnf) -> bool {
+    match d.clauses() {
+        [c] => c.len() == 0,
+        _ => false,
+    }
+}
+
+/// The log of a run that a charge cut.
+pub(crate) fn log_of_cut(outcome: Result<(Dnf, ElimLog), ElimFault>) -> Option<ElimLog> {
+    match outcome {
+        Err(ElimFault::Steps(log)) => Some(log),
+        Err(ElimFault::Overflow(_log, _place)) => None,
+        Err(ElimFault::Memory) => None,
+        Ok(_answer) => None,
+    }
+}
+
+#[test]
+fn some_value_above_a_bound_is_always_there(rt: HostRuntime) -> Result<(), Fail> {
+    let alloc = rt.alloc();
+    let d = bound(alloc, (1, -1, 0, 0))?;
+    let mut purse = Purse::new(6);
+    let (r, log) = exists_name(alloc, &d, 0, &mut purse)?;
+    assert!(rt; is_top(&r));
+    assert_eq!(rt; log.entries.as_slice(), [Entry::OneSided].as_slice());
+    assert_eq!(rt; purse.spent(), 6);
+    Ok(())
+}
+
+#[test]
+fn a_cut_run_has_the_log_so_far(rt: HostRuntime) -> Result<(), Fail> {
+    let alloc = rt.alloc();
+    let d = bound(alloc, (1, -1, 0, 0))?;
+    // the rule charges 4, the clause that it leaves 1, the tidy form of one clause 1
+    for (budget, spent, done) in [(5, 5, 1), (4, 4, 1), (3, 0, 0), (0, 0, 0)] {
+        let mut purse = Purse::new(budget);
+        match log_of_cut(exists_name(alloc, &d, 0, &mut purse)) {
+            Some(log) => assert_eq!(rt; log.entries.len(), done),
+            None => assert!(rt; false, "budget {budget}"),
+        }
+        assert_eq!(rt; purse.spent(), spent, "budget {budget}");
+    }
+    Ok(())
+}
+
+#[test]
+fn not_every_integer_is_at_least_zero(rt: HostRuntime) -> Result<(), Fail> {
+    let alloc = rt.alloc();
+    let d = bound(alloc, (1, 0, 0, 0))?;
+    let mut purse = Purse::new(16);
+    let (r, log) = forall_last(alloc, &d, 1, &mut purse)?;
+    assert_eq!(rt; r.len(), 0);
+    assert_eq!(rt; log.entries.as_slice(), [Entry::OneSided].as_slice());
+    assert_eq!(rt; purse.spent(), 16);
+    Ok(())
+}
+
+#[test]
+fn atoms_charge_their_monomials(rt: HostRuntime) -> Result<(), Fail> {
+    let alloc = rt.alloc();
+    let mut purse = Purse::new(5);
+    // 2·x − 4·y + 6 = 0 is x − 2·y + 3 = 0
+    let d = atom(
+        alloc,
+        &formula_of(alloc, Says::Zero, (2, -4, 0, 6))?,
+        &mut purse,
+    )?;
+    assert!(rt; is_alone(&d, &Literal::Eq(term(alloc, (1, -2, 0, 3))?)));
+    assert_eq!(rt; purse.spent(), 3);
+    let sides = atom(
+        alloc,
+        &formula_of(alloc, Says::NotZero, (1, 0, 0, 0))?,
+        &mut purse,
+    )?;
+    // −x − 1 ≥ 0, and x − 1 ≥ 0
+    assert_eq!(rt; sides.len(), 2);
+    for (x, holds) in [(-1, true), (0, false), (1, true)] {
+        assert_eq!(rt; dnf_is_true(&sides, (x, 0, 0)), holds, "at {x}");
+    }
+    assert_eq!(rt; purse.spent(), 5);
+    Ok(())
+}
