@@ -1,22 +1,11 @@
-// The elimination rules for equations and divisibilities (Cooper 1972), performed: each takes a name a step nearer to
-// being out of a clause, at the rule's charge and with its raw numbers.
+// Elimination of a name by equations and divisibilities (Cooper 1972): each call takes the name a step nearer to being out of
+// a clause, at its rule's charge and with its raw numbers. The rules themselves are performed in a crate below.
 #![tactic(auto)]
 
-mod apart;
-mod applying;
-mod equation;
-mod merge;
-mod numbers;
-mod parts;
-mod shift;
-
-pub use apart::free_ndiv;
-pub use applying::{
-    has_divisibilities_at, has_equation_at, has_indivisibility_at, has_only_divisibility_at,
+pub use performed_rules::{
+    by_equation, free_ndiv, has_divisibilities_at, has_equation_at, has_indivisibility_at,
+    has_only_divisibility_at, merge_divs, shift_div,
 };
-pub use equation::by_equation;
-pub use merge::merge_divs;
-pub use shift::shift_div;
 
 #[cfg(test)]
 mod tests;

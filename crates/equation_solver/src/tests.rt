@@ -69,7 +69,7 @@ fn literal(rt: &impl Abort, alloc: Global, said: Said) -> Result<Literal, StepFa
     }
 }
 
-#[tactic(auto, using(crate::proofs::Steps::pushing))]
+#[tactic(auto, using(performed_rules::proofs::Steps::pushing))]
 fn literals(rt: &impl Abort, alloc: Global, said: &[Said]) -> Result<Items<Literal>, StepFault>
     ensures { IfOk result (λ ls. All HasDivisor ls) }
 {
@@ -396,7 +396,7 @@ fn solutions_reach_the_end_of_the_range(rt: HostRuntime) -> Result<(), StepFault
 }
 
 /// These literals, and bounds of the name x by each of the names from 2 up to `last`.
-#[tactic(auto, using(crate::proofs::Steps::pushing))]
+#[tactic(auto, using(performed_rules::proofs::Steps::pushing))]
 fn with_bounds(
     rt: &impl Abort,
     alloc: Global,

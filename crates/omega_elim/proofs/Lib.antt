@@ -1,5 +1,1 @@
-pub mod Filters
-pub mod Results
-pub mod Counting
-pub mod Darkness
 pub mod Choice

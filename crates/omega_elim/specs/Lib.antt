@@ -1,4 +1,1 @@
-pub mod Sides
-pub mod Shadows
-pub mod Splinters
 pub mod Projection

@@ -9,11 +9,10 @@ ghost use Rattle.purse.specs.Work.{Charged};
 ghost use Rattle.std.specs.List.{list_all};
 ghost use Rattle.std.specs.Prelude.{◌≡◌, ◌<◌, ◌↔◌, ◌&&◌, ◌||◌, [], ◌∷◌, All, IfOk, length, List, nat_lt, Some, true, ℤ};
 
-use super::dark::dark;
-use super::exact::exact;
-use super::one_sided::one_sided;
-use super::sides::{Side, all_units, bounds_alone, has_name, literals_on};
 use clause_set::{Clause, Literal};
+use performed_rules::{
+    Side, all_units, bounds_alone, dark, exact, has_name, literals_on, one_sided,
+};
 use purse::{Entry, Purse, StepFault};
 use sqlite_items::Items;
 use std::alloc::Global;

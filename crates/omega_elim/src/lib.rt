@@ -3,12 +3,6 @@
 #![tactic(auto)]
 
 mod bounded;
-mod dark;
-mod exact;
-mod one_sided;
-mod shadow;
-mod sides;
-mod splinter;
 
 pub use bounded::{is_bounded, project};
 

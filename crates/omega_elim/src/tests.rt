@@ -2,7 +2,7 @@
 // z are the names 0, 1 and 2.
 
 use super::bounded::{is_bounded, project};
-use super::splinter::splinter_count;
+use performed_rules::splinter_count;
 use clause_set::{Clause, Literal, Ordered};
 use linear_term::{Place, Term, in_range};
 use purse::{Entry, Purse, StepFault};
@@ -32,7 +32,7 @@ fn term(rt: &impl Abort, alloc: Global, row: Row) -> Result<Term, StepFault> {
 }
 
 /// The clause with these bounds and this equation.
-#[tactic(auto, using(crate::proofs::Results::pushing))]
+#[tactic(auto, using(performed_rules::proofs::Results::pushing))]
 fn clause(rt: &impl Abort, alloc: Global, written: Written) -> Result<Option<Clause>, StepFault> {
     let mut literals = Items::new(alloc);
     for row in written.0 {

@@ -1,0 +1,15 @@
+pub mod Steps
+pub mod Products
+pub mod Named
+pub mod Solving
+pub mod Calls
+pub mod AtEquation
+pub mod Merging
+pub mod AtDivisibilities
+pub mod Shifting
+pub mod Remainders
+pub mod Placing
+pub mod Filters
+pub mod Results
+pub mod Counting
+pub mod Darkness
