@@ -27,6 +27,7 @@ use Rattle.formula.proofs.Extending.{Extends, extends_refl, extends_trans, exten
 use Rattle.encoding.proofs.Extending.{IsRead, read_extends, read_bound, value_named, over_named}
 use Rattle.formula.proofs.Stability.{form_stable}
 use Rattle.encoding.proofs.Cases.{iff_trans, moved, call_law, choice_law, absolute_law, lesser_law, greater_law}
+use Rattle.encoding.proofs.Arithmetic.{no_test, never, difference_value, related_is, signed_related, signed_values, signed_compares, multiple_value, closed_multiple, closed_combination, product_value, product_closed, product_over}
 
 -- What a finished term is: over the names that are bound by then, and of the same value everywhere where C holds.
 pub record Finished (n : ℕ) (e : List ℤ) (m : ℕ) (e' : List ℤ) (C : Type 0) (a : Linear) : Type 0 where
@@ -41,95 +42,6 @@ Fits w n e rest C P = (m : ℕ) (e' : List ℤ) (a : Linear) → Finished n e m 
 -- the same of finished terms
 abbrev pub FitsAll : Meaning → ℕ → List ℤ → (ℕ → List Linear → Traced Form) → (List ℤ → Type 0) → Type 0
 FitsAll w n e rest P = (m : ℕ) (e' : List ℤ) (ls : List Linear) → Extends n e m e' → All (IsOver m) ls → FormTruth w (rest m ls).value e' ↔ P (values_of ls e')
-
-no_test : false ≡ true → ⊥
-no_test h = cc
-
-never : (A : Type 0) → false ≡ true → A
-never A h = absurd (no_test h)
-
--- Relations of finished terms.
-
-difference_value : (s t : Linear) (e : List ℤ) → value_of (combination (pos 1) s (negsuc 0) t) e ≡ value_of s e +ℤ neg_ℤ (value_of t e)
-difference_value s t e = omega (arith, ints, value_of-combination (pos 1) (negsuc 0) s t e)
-
-less_one_value : (s t : Linear) (e : List ℤ) → value_of (combination (pos 1) (combination (pos 1) s (negsuc 0) t) (pos 1) (linear.number (negsuc 0))) e ≡ (value_of s e +ℤ neg_ℤ (value_of t e)) +ℤ negsuc 0
-less_one_value s t e = omega (arith, ints, value_of-combination (pos 1) (pos 1) (combination (pos 1) s (negsuc 0) t) (linear.number (negsuc 0)) e, difference_value s t e, value_of-number (negsuc 0) e)
-
-related_is : (w : Meaning) (r : Relation) (s t : Linear) (e : List ℤ) → FormTruth w (related r s t).value e ↔ IsRelated r (value_of s e) (value_of t e)
-unfolding next step just
-related_is w Eq s t e = let v = difference_value s t e in (λ h. omega (arith, ints), λ h. omega (arith, ints))
-related_is w Neq s t e = let v = difference_value s t e in (λ h k. h (omega (arith, ints)), λ h k. h (omega (arith, ints)))
-related_is w Geq s t e = let v = difference_value s t e in (λ h. omega (arith, ints), λ h. omega (arith, ints))
-related_is w Gt s t e = let v = less_one_value s t e in (λ h. omega (arith, ints), λ h. omega (arith, ints))
-related_is w Leq s t e = let v = difference_value t s e in (λ h. omega (arith, ints), λ h. omega (arith, ints))
-related_is w Lt s t e = let v = less_one_value t s e in (λ h. omega (arith, ints), λ h. omega (arith, ints))
-
-signed_related : (plus : Bool) (r : Relation) (x y : ℤ) → IsRelated (signed_relation plus r) x y ↔ Signed plus (IsRelated r x y)
-signed_related true r x y = (λ h. h, λ h. h)
-signed_related false r x y = related_opposite r x y
-
--- A value has not a property exactly where it has the negation.
-
-signed_value : (w : Meaning) (t : Expression) (d : List ℤ) (plus : Bool) (Q : ℤ → Type 0) → HasValue w t d (λ x. Signed plus (Q x)) ↔ Signed plus (HasValue w t d Q)
-signed_value w t d true Q = (λ h. h, λ h. h)
-signed_value w t d false Q = (λ h k. value_clash w t d Q (λ x. ¬ (Q x)) (λ x q n. n q) k h, λ h. value_not w t d Q (λ x. ¬ (Q x)) (λ x n. n) h)
-
-signed_values : (w : Meaning) (ts : Expressions) (d : List ℤ) (plus : Bool) (Q : List ℤ → Type 0) → HaveValues w ts d (λ xs. Signed plus (Q xs)) ↔ Signed plus (HaveValues w ts d Q)
-signed_values w ts d true Q = (λ h. h, λ h. h)
-signed_values w ts d false Q = (λ h k. values_clash w ts d Q (λ x. ¬ (Q x)) (λ x q n. n q) k h, λ h. values_not w ts d Q (λ x. ¬ (Q x)) (λ x n. n) h)
-
-signed_compares : (w : Meaning) (s t : Expression) (d : List ℤ) (plus : Bool) (r : Relation)
-    → HasValue w s d (λ x. HasValue w t d (λ y. Signed plus (IsRelated r x y))) ↔ Signed plus (Truth w (compares r s t) d)
-signed_compares w s t d plus r =
-    let Q : ℤ → Type 0 = λ x. HasValue w t d (λ y. IsRelated r x y) in
-    iff_trans _ _ _ (
-      value_more w s d _ (λ x. Signed plus (Q x)) (λ x. (signed_value w t d plus (λ y. IsRelated r x y)).0),
-      value_more w s d (λ x. Signed plus (Q x)) _ (λ x. (signed_value w t d plus (λ y. IsRelated r x y)).1),
-    )
-    (signed_value w s d plus Q)
-
--- Products.
-
-multiple_value : (k : ℤ) (t : Linear) (e : List ℤ) → value_of (combination k t (pos 0) (linear.number (pos 0))) e ≡ k *ℤ value_of t e
-multiple_value k t e = omega (arith, ints, value_of-combination k (pos 0) t (linear.number (pos 0)) e)
-
-multiple_constant : (k : ℤ) (t : Linear) → (combination k t (pos 0) (linear.number (pos 0))).constant ≡ k *ℤ t.constant
-unfolding combination
-multiple_constant k t = omega (arith, ints)
-
-closed_multiple : (k : ℤ) (t : Linear) → ((d : List ℤ) → value_of t d ≡ t.constant)
-    → (d : List ℤ) → value_of (combination k t (pos 0) (linear.number (pos 0))) d ≡ (combination k t (pos 0) (linear.number (pos 0))).constant
-closed_multiple k t h d = multiple_value k t d ∙ ap (λ z. k *ℤ z) (h d) ∙ sym (multiple_constant k t)
-
-combination_constant : (m n : ℤ) (s t : Linear) → (combination m s n t).constant ≡ (m *ℤ s.constant) +ℤ (n *ℤ t.constant)
-unfolding combination
-combination_constant m n s t = refl
-
-closed_combination : (m n : ℤ) (s t : Linear) → ((d : List ℤ) → value_of s d ≡ s.constant) → ((d : List ℤ) → value_of t d ≡ t.constant)
-    → (d : List ℤ) → value_of (combination m s n t) d ≡ (combination m s n t).constant
-closed_combination m n s t h k d =
-    value_of-combination m n s t d ∙ (λ i. (m *ℤ h d i) +ℤ (n *ℤ k d i)) ∙ sym (combination_constant m n s t)
-
-product_value : (p q : Bool) (a b : Linear) (e : List ℤ) → (p || q) ≡ true → (p ≡ true → (d : List ℤ) → value_of a d ≡ a.constant)
-    → (q ≡ true → (d : List ℤ) → value_of b d ≡ b.constant) → value_of (product_of p a b).value e ≡ value_of a e *ℤ value_of b e
-unfolding step
-product_value true q a b e one ha hb = multiple_value a.constant b e ∙ ap (λ z. z *ℤ value_of b e) (sym (ha refl e))
-product_value false true a b e one ha hb =
-    let is : value_of b e ≡ b.constant = hb refl e in
-    multiple_value b.constant a e ∙ ap (λ z. z *ℤ value_of a e) (sym is) ∙ (omega (arith, ints))
-product_value false false a b e one ha hb = never _ one
-
-product_closed : (p q : Bool) (a b : Linear) → (p ≡ true → (d : List ℤ) → value_of a d ≡ a.constant)
-    → (q ≡ true → (d : List ℤ) → value_of b d ≡ b.constant) → (p && q) ≡ true → (d : List ℤ) → value_of (product_of p a b).value d ≡ (product_of p a b).value.constant
-unfolding step
-product_closed true q a b ha hb both d = closed_multiple a.constant b (hb both) d
-product_closed false q a b ha hb both d = never _ both
-
-pub product_over : (p : Bool) (k : ℕ) (a b : Linear) → IsOver k a → IsOver k b → IsOver k (product_of p a b).value
-unfolding step
-product_over true k a b ha hb = combination-over k a.constant (pos 0) b (linear.number (pos 0)) hb (over_number k (pos 0))
-product_over false k a b ha hb = combination-over k b.constant (pos 0) a (linear.number (pos 0)) ha (over_number k (pos 0))
 
 -- Connectives and quantifiers.
 

@@ -1,6 +1,7 @@
 pub mod Products
 pub mod Extending
 pub mod Cases
+pub mod Arithmetic
 pub mod Keeping
 pub mod Overs
 pub mod Frees

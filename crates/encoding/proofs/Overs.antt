@@ -14,7 +14,8 @@ use Rattle.pri_typing.specs.WellFormed.{is_numeric}
 use Rattle.encoding.specs.Encoding.{named, multiple, related, signed_relation, product_of, junction, quantified, cases, encoded, all_encoded, with_value, with_values, with_sum, with_more}
 use Rattle.formula.proofs.Extending.{over_number, over_name, over_more}
 use Rattle.encoding.proofs.Extending.{below_more, below-append, named_over}
-use Rattle.encoding.proofs.Keeping.{multiple_over, product_over}
+use Rattle.encoding.proofs.Arithmetic.{product_over}
+use Rattle.encoding.proofs.Keeping.{multiple_over}
 
 overs_more : (n m : ℕ) (ls : List Linear) → n ≤ m → All (IsOver n) ls → All (IsOver m) ls
 overs_more n m [] le h = All-nil (IsOver m)

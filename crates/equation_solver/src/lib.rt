@@ -8,4 +8,6 @@ pub use performed_rules::{
 };
 
 #[cfg(test)]
+mod ends;
+#[cfg(test)]
 mod tests;

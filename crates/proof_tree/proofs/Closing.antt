@@ -14,7 +14,8 @@ use Rattle.pred_unify.proofs.Clashes.{each_all, cond_all}
 use Rattle.pred_unify.proofs.Pures.{closing_pure}
 use Rattle.formula.specs.Reduced.{HasReducedTerms, HaveReducedTerms}
 use Rattle.proof_tree.specs.Reduced.{IsReducedSequent}
-use Rattle.proof_tree.proofs.Premises.{shifted_reduced, presburger_of, IsReducedMember}
+use Rattle.elim_rules.proofs.Reduced.{presburger_of}
+use Rattle.proof_tree.proofs.Premises.{shifted_reduced, IsReducedMember}
 
 forms_reduced : (fs : List Form) → AllByRecursion HasReducedTerms fs → HaveReducedTerms (forms fs)
 forms_reduced [] h = tt

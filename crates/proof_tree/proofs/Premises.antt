@@ -1,12 +1,11 @@
 -- Premises of a sequent with reduced terms have such terms too.
-use Rattle.std.proofs.Common.{◌≡◌, ◌≢◌, ℕ, suc, ◌-◌, ◌≤◌, ℤ, pos, Bool, true, false, ◌&&◌, List, [], ◌∷◌, ◌++◌, map, Option, Some, None, refl, arith}
+use Rattle.std.proofs.Common.{◌≡◌, ◌≢◌, ℕ, suc, ◌-◌, ◌≤◌, ℤ, pos, List, [], ◌∷◌, ◌++◌, map, Option, Some, None, refl, arith}
 use Rattle.std.specs.List.{AllByRecursion, remove, slice_get}
 use Rattle.std.proofs.lemmas.List.Elements.{All-map}
 use Rattle.linear_term.specs.Linear.{Linear, IsReduced}
-use Rattle.formula.specs.Form.{Form, Forms, equal, unequal, at_least, holds, fails, differs, conjunction, disjunction, universal, existential, no_form, and_form, is_pure, are_pure}
+use Rattle.formula.specs.Form.{Form, Forms, equal, unequal, at_least, holds, fails, differs, conjunction, disjunction, universal, existential, no_form, and_form}
 use Rattle.formula.specs.Shifts.{raised, raised_name, shifted, all_shifted}
 use Rattle.formula.proofs.Raising.{rising_raised}
-use Rattle.elim_rules.specs.Presburger.{IsPresburger, ArePresburger}
 use Rattle.sequent.specs.Sequent.{Member, Sequent, member, sequent}
 use Rattle.sequent.specs.Rules.{brought, new_members, one_each, premises_at, premises_by}
 use Rattle.sequent.proofs.Members.{all_append, all_remove, all_at}
@@ -40,28 +39,6 @@ mutual
   all_shifted_reduced : (n k : ℕ) (fs : Forms) → HaveReducedTerms fs → HaveReducedTerms (all_shifted n k fs)
   all_shifted_reduced n k no_form h = tt
   all_shifted_reduced n k (and_form f fs) h = (shifted_reduced n k f h.0, all_shifted_reduced n k fs h.1)
-
-both_true : (a b : Bool) → (a && b) ≡ true → (a ≡ true) × (b ≡ true)
-both_true true b h = (refl, h)
-both_true false b h = absurd (cc)
-
-mutual
-  -- a pure formula with reduced terms is one of Presburger arithmetic
-  pub presburger_of : (f : Form) → is_pure f ≡ true → HasReducedTerms f → IsPresburger f
-  presburger_of (equal t) p h = h
-  presburger_of (unequal t) p h = h
-  presburger_of (at_least t) p h = h
-  presburger_of (holds q ts) p h = absurd (cc)
-  presburger_of (fails q ts) p h = absurd (cc)
-  presburger_of (differs q ts u) p h = absurd (cc)
-  presburger_of (conjunction fs) p h = all_presburger_of fs p h
-  presburger_of (disjunction fs) p h = all_presburger_of fs p h
-  presburger_of (universal f) p h = presburger_of f p h
-  presburger_of (existential f) p h = presburger_of f p h
-
-  all_presburger_of : (fs : Forms) → are_pure fs ≡ true → HaveReducedTerms fs → ArePresburger fs
-  all_presburger_of no_form p h = tt
-  all_presburger_of (and_form f fs) p h = let two = both_true (is_pure f) (are_pure fs) p in (presburger_of f two.0 h.0, all_presburger_of fs two.1 h.1)
 
 -- ---- premises
 abbrev pub IsReducedMember : Member → Type 0
