@@ -9,4 +9,4 @@ mod rows;
 mod taking;
 
 pub use atoms::atom;
-pub use taking::{exists_name, forall_last};
+pub use taking::{exists_name, forall_last, name_out};

@@ -1,0 +1,5 @@
+pub mod Classes
+pub mod Names
+pub mod Splits
+pub mod Values
+pub mod Logs
