@@ -1,5 +1,5 @@
 -- What the answer of `solve` says.
-use Rattle.std.proofs.Common.{◌≡◌, ℕ, ℤ, false, List, [], ◌∷◌, length, Option, Some, None, Result, Ok, Err, IsErrAnd, refl, sym, ◌∙◌, ap, subst, arith}
+use Rattle.std.proofs.Common.{◌≡◌, ℕ, ℤ, false, List, [], ◌∷◌, ◌++◌, length, Option, Some, None, Result, Ok, Err, IsErrAnd, refl, sym, ◌∙◌, ap, subst, arith}
 use Rattle.purse.specs.declared.fault.StepFault.{StepFault}
 use Rattle.purse.specs.declared.fault.StepFault.TheVariants as step_fault
 use Rattle.purse.specs.declared.fault.ElimFault.{ElimFault}
@@ -74,3 +74,17 @@ pub none_by : (n : ℕ) (d : List (List Literal)) (o : Result (Option (List ℤ)
 none_by n d o es log end r {f} {g} {ds} h did is answer =
     let same = none_only o log end (sym is ∙ answer) in
     (solving-none n d h).0 (sym (followed_value (subst (λ z. Followed in_log (solving n d) f es z g ds) same did)))
+
+log_only : (o : Result (Option (List ℤ)) StepFault) (log end : ElimLog) → answer_with o log ≡ Ok (solved.None end) → end ≡ log
+log_only (Ok None) log end h = let i : log ≡ end = cc in sym i
+log_only (Ok (Some us)) log end h = absurd (cc)
+log_only (Err step_fault.Steps) log end h = absurd (cc)
+log_only (Err (step_fault.Overflow p)) log end h = absurd (cc)
+log_only (Err step_fault.Memory) log end h = absurd (cc)
+
+-- the log of None
+pub log_by : (o : Result (Option (List ℤ)) StepFault) (es ds : List Entry) (log end : ElimLog) (r : Result Solved ElimFault) → (o ≡ Ok None → log.entries ≡ es ++ ds) → es ≡ [] → r ≡ answer_with o log → r ≡ Ok (solved.None end)
+    → end.entries ≡ ds
+log_by o es ds log end r h none is answer =
+    let same = sym is ∙ answer in
+    ap (λ (l : ElimLog). l.entries) (log_only o log end same) ∙ h (none_only o log end same) ∙ ap (λ z. z ++ ds) none

@@ -7,3 +7,4 @@ pub mod Parting
 pub mod Logging
 pub mod Spanning
 pub mod Answered
+pub mod Overs

@@ -1,11 +1,14 @@
 -- The log in progress: what an elimination adds to it, and how solving begins it anew.
-use Rattle.std.proofs.Common.{◌≡◌, List, [], ◌∷◌, ◌++◌, map, Result, Ok, Err, refl, sym, ◌∙◌, ap, subst, append_assoc}
+use Rattle.std.proofs.Common.{◌≡◌, ◌+◌, ◌≤◌, Bool, true, false, cond, nat_le, List, [], ◌∷◌, ◌++◌, map, Result, Ok, Err, refl, sym, ◌∙◌, ap, subst, append_assoc}
 use Rattle.std.proofs.lemmas.List.{append-nil}
 use Rattle.linear_term.specs.declared.range.Place.{Place}
+use Rattle.linear_term.specs.Range.{all_stay}
+use Rattle.elim_rules.specs.Logs.{entries_of}
 use Rattle.purse.specs.declared.fault.StepFault.{StepFault}
 use Rattle.purse.specs.declared.fault.StepFault.TheVariants.{Steps, Overflow, Memory}
 use Rattle.purse.specs.declared.log.Entry.{Entry}
-use Rattle.purse.specs.Trace.{Funds, Mark, entry, Event, At, at, End, done, refused, out_of_range, cut, stand, Traced}
+use Rattle.purse.specs.Runs.{notes}
+use Rattle.purse.specs.Trace.{Funds, Mark, entry, Event, charge, raw, mark, after_charge, after_mark, capped, At, at, End, done, refused, out_of_range, cut, stand, Traced}
 use Rattle.purse.specs.Work.{ChargedAt, Leaves}
 use Rattle.purse.specs.Followed.{after_notes, UnlessMemory, Followed}
 use Rattle.purse.proofs.Cutting.{behind, end_behind, cut-behind, stand-behind}
@@ -132,3 +135,48 @@ pub follow_entries : {A : Type 0} (work : Traced A) (es ds : List Entry) (r : Re
 follow_entries work es ds r {f} {g} h =
     let s = stripped work f g (map entry es) (map entry ds) r h in
     record { notes = s.notes; charged = s.charged; kept = always r (sym (unmapped [] es ds s.notes s.whole)) }
+
+-- ---- which entries are added
+-- where a run stands that was not cut: behind its notes
+cut_notes : (es : List Event) (a b : At) → cut es a ≡ done b → b.marks ≡ a.marks ++ notes es
+unfolding cut
+cut_notes [] a b h = let same : a ≡ b = cc in ap (λ (z : At). z.marks) (sym same) ∙ sym (append-nil a.marks)
+cut_notes (charge n ∷ es) a b h = by (nat_le (a.funds.spent + capped n) a.funds.budget) (cut_notes es (after_charge n a) b) h
+  where
+    by : (t : Bool) → (cut es (after_charge n a) ≡ done b → b.marks ≡ a.marks ++ notes es) → cond t (cut es (after_charge n a)) (refused a) ≡ done b → b.marks ≡ a.marks ++ notes es
+    by true f k = f k
+    by false f k = absurd (cc)
+cut_notes (raw ps ∷ es) a b h = by (all_stay ps) (cut_notes es a b) h
+  where
+    by : (t : Bool) → (cut es a ≡ done b → b.marks ≡ a.marks ++ notes es) → cond t (cut es a) (out_of_range ps a) ≡ done b → b.marks ≡ a.marks ++ notes es
+    by true f k = f k
+    by false f k = absurd (cc)
+cut_notes (mark m ∷ es) a b h = cut_notes es (after_mark m a) b h ∙ append_assoc a.marks (m ∷ []) (notes es)
+
+entries_noted : (es : List Event) (ds : List Entry) → notes es ≡ map entry ds → entries_of es ≡ ds
+entries_noted [] [] h = refl
+entries_noted [] (d ∷ ds) h = absurd (cc)
+entries_noted (charge n ∷ es) ds h = entries_noted es ds h
+entries_noted (raw ps ∷ es) ds h = entries_noted es ds h
+entries_noted (mark m ∷ es) [] h = absurd (cc)
+entries_noted (mark m ∷ es) (d ∷ ds) h =
+    let first : m ≡ entry d = cc in
+    let rest : notes es ≡ map entry ds = cc in
+    ap (λ z. entries_of (mark z ∷ es)) first ∙ ap (λ z. d ∷ z) (entries_noted es ds rest)
+
+behind_entries : (es ds : List Entry) (ns : List Mark) → map entry es ++ ns ≡ map entry ds → (cs : List Entry) × (ns ≡ map entry cs) × (ds ≡ es ++ cs)
+behind_entries [] ds ns h = (ds, h, refl)
+behind_entries (e ∷ es) [] ns h = absurd (cc)
+behind_entries (e ∷ es) (d ∷ ds) ns h =
+    let first : d ≡ e = cc in
+    let rest : map entry es ++ ns ≡ map entry ds = cc in
+    let k = behind_entries es ds ns rest in
+    (k.0, k.1, ap (λ z. z ∷ ds) first ∙ ap (λ z. e ∷ z) k.2)
+
+-- a call that answers has added the entries of its work to the log
+pub entries_added : {A : Type 0} (work : Traced A) (es ds : List Entry) (v : A) {f g : Funds} → ChargedAt work (at f (map entry es)) (Ok v) (at g (map entry ds)) → ds ≡ es ++ entries_of work.events
+entries_added work es ds v {f} {g} h =
+    let s = stripped work f g (map entry es) (map entry ds) (Ok v) h in
+    let noted : s.notes ≡ notes work.events = cut_notes work.events (at f []) (at g s.notes) (s.charged.ok v refl).1.end in
+    let k = behind_entries es ds s.notes s.whole in
+    k.2 ∙ ap (λ z. es ++ z) (sym (entries_noted work.events k.0 (sym noted ∙ k.1)))

@@ -1,5 +1,5 @@
 -- The names of a disjunction whose values are found one by one.
-use Rattle.std.proofs.Common.{◌≡◌, ◌<◌, ◌≤◌, ◌+◌, ◌-◌, ℕ, zero, suc, ℤ, List, [], ◌∷◌, ◌++◌, Result, Ok, refl, sym, ◌∙◌, ap, subst, arith}
+use Rattle.std.proofs.Common.{◌≡◌, ◌<◌, ◌≤◌, ◌+◌, ◌-◌, ℕ, zero, suc, ℤ, List, [], ◌∷◌, ◌++◌, Result, Ok, refl, sym, ◌∙◌, ap, subst, arith, map}
 use Rattle.std.specs.Prelude.{All, ◌⊎◌}
 use Rattle.std.specs.List.{AllByRecursion}
 use Rattle.std.proofs.lemmas.Bool.{cases_lt}
@@ -7,8 +7,11 @@ use Rattle.std.proofs.lemmas.List.Elements.{recursion_from_All}
 use mathlib.Core.Logic.{inl, inr}
 use Rattle.purse.specs.declared.fault.StepFault.{StepFault}
 use Rattle.purse.specs.declared.log.Entry.{Entry}
-use Rattle.purse.specs.Trace.{Funds, Traced, just, step, next, note, new_log}
+use Rattle.purse.specs.Trace.{Funds, Traced, just, step, next, note, new_log, at, entry}
+use Rattle.purse.specs.Work.{ChargedAt}
 use Rattle.purse.specs.Followed.{Followed}
+use Rattle.elim_rules.specs.Logs.{entries_of}
+use Rattle.parameter_solver.proofs.Logging.{follow_entries, entries_added}
 use Rattle.purse.proofs.Following.{followed_value}
 use Rattle.purse.proofs.Tracing.{next-same, next-just, next-assoc}
 use Rattle.clause_set.specs.declared.literal.Literal.{Literal}
@@ -123,8 +126,13 @@ values_next n j d vs lt =
     ∙ ap (λ (m : ℕ). next (value_step (n - 1 - j) j d) (λ p. values_at m (suc j) p.1 (vs ++ p.0 ∷ []))) rest
     ∙ ap (λ (m : ℕ). next (value_step (n - 1 - j) j d) (λ p. values_at (n - (j + 1)) m p.1 (vs ++ p.0 ∷ []))) one
 
-pub from_next : (k j : ℕ) (d : List (List Literal)) (r : Result (List (List Literal)) StepFault) {a b : Funds} {s t : List Entry} → Followed in_log (names_from k (j + 1) d) a s r b t → Followed in_log (names_from k (suc j) d) a s r b t
-from_next k j d r {a} {b} {s} {t} h = let one : j + 1 ≡ suc j = omega arith in subst (λ (i : ℕ). Followed in_log (names_from k i d) a s r b t) one h
+pub from_next : (k j : ℕ) (d : List (List Literal)) (r : Result (List (List Literal)) StepFault) (es ds : List Entry) {a b : Funds} → ChargedAt (names_from k (j + 1) d) (at a (map entry es)) r (at b (map entry ds))
+    → Followed in_log (names_from k (suc j) d) a es r b ds
+from_next k j d r es ds {a} {b} h =
+    let one : j + 1 ≡ suc j = omega arith in subst (λ (i : ℕ). Followed in_log (names_from k i d) a es r b ds) one (follow_entries (names_from k (j + 1) d) es ds r h)
 
-pub all_out : (n : ℕ) (d : List (List Literal)) (r : Result (List (List Literal)) StepFault) {a b : Funds} {s t : List Entry} → Followed in_log (names_from n 0 d) a s r b t → Followed in_log (names_out n d) a s r b t
-all_out n d r {a} {b} {s} {t} h = subst (λ w. Followed in_log w a s r b t) (all_names n d) h
+pub all_out : (n : ℕ) (d : List (List Literal)) (r : Result (List (List Literal)) StepFault) (es ds : List Entry) {a b : Funds} → ChargedAt (names_from n 0 d) (at a (map entry es)) r (at b (map entry ds)) → Followed in_log (names_out n d) a es r b ds
+all_out n d r es ds {a} {b} h = subst (λ w. Followed in_log w a es r b ds) (all_names n d) (follow_entries (names_from n 0 d) es ds r h)
+
+pub all_entries : (n : ℕ) (d left : List (List Literal)) (es ds : List Entry) {a b : Funds} → ChargedAt (names_from n 0 d) (at a (map entry es)) (Ok left) (at b (map entry ds)) → ds ≡ es ++ entries_of (names_out n d).events
+all_entries n d left es ds h = entries_added (names_from n 0 d) es ds left h ∙ ap (λ w. es ++ entries_of w.events) (all_names n d)

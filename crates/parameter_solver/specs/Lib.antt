@@ -3,3 +3,4 @@ pub mod Names
 pub mod Splits
 pub mod Values
 pub mod Logs
+pub mod Over

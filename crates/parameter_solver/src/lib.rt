@@ -4,10 +4,12 @@
 
 mod knowing;
 mod numbers;
+mod over;
 mod roots;
 mod single;
 mod solving;
 mod steps;
 mod values;
 
+pub use over::is_over;
 pub use solving::{Solved, solve};

@@ -1,14 +1,16 @@
 // Values for all names, one after the other.
 
 ghost use Rattle.clause_set.specs.Literals.{dnf_truth};
+ghost use Rattle.elim_rules.specs.Logs.{entries_of};
 ghost use Rattle.elim_rules.specs.Whole.{AreOver, names_out};
-ghost use Rattle.linear_term.specs.Range.{InRange};
 ghost use Rattle.parameter_solver.specs.Logs.{Solves, answer_with, in_log, value_step};
-ghost use Rattle.parameter_solver.specs.Names.{IsOfName, IsOfNames};
+ghost use Rattle.parameter_solver.specs.Names.{IsOfNames};
 ghost use Rattle.purse.specs.Followed.{Followed};
+ghost use Rattle.purse.specs.Trace.{at};
+ghost use Rattle.purse.specs.Work.{ChargedAt, marks_of};
 ghost use Rattle.solution_rules.specs.Best.{IsBest};
 ghost use Rattle.solution_rules.specs.Solutions.{names_from, solving, values_at};
-ghost use Rattle.std.specs.Prelude.{◌≡◌, ◌<◌, ◌≤◌, ◌+◌, ◌-◌, ◌^◌, [], ℤ, All, List, Ok, false, length};
+ghost use Rattle.std.specs.Prelude.{◌≡◌, ◌<◌, ◌+◌, ◌++◌, ◌^◌, [], ℤ, List, None, Ok, false, length};
 
 use super::knowing::know_clauses;
 use super::steps::chosen;
@@ -39,7 +41,7 @@ fn names_from(
 ) -> Result<Dnf, StepFault>
     requires names { j + k < 2 ^ 32 }
     requires budget { purse.old.budget < 2 ^ 32 }
-    ensures { Followed in_log (names_from k j d.now) purse.old log.old.entries result purse.new log.new.entries }
+    ensures { ChargedAt (names_from k j d.now) (at purse.old (marks_of log.old)) result (at purse.new (marks_of log.new)) }
 {
     let mut left = d.copy(alloc)?;
     let mut rest = k;
@@ -103,7 +105,8 @@ fn best_values(
 ) -> Result<Option<Items<i128>>, StepFault>
     requires over { IsOfNames 0 names d.now }
     requires budget { purse.old.budget < 2 ^ 32 }
-    ensures { Followed in_log (solving names d.now) purse.old log.old.entries result purse.new log.new.entries }
+    ensures work { Followed in_log (solving names d.now) purse.old log.old.entries result purse.new log.new.entries }
+    ensures none { result ≡ Ok None → log.new.entries ≡ log.old.entries ++ entries_of (names_out names d.now).events }
 {
     let left = names_from(alloc, d, 0, names, purse, log)?;
     if left.len() == 0 {
@@ -139,6 +142,7 @@ pub fn solve(alloc: Global, d: &Dnf, names: u32, purse: &mut Purse) -> Result<So
     requires budget { purse.old.budget < 2 ^ 32 }
     ensures charged { Solves (solving names d.now) purse.old result purse.new }
     ensures best { (vs : List ℤ) → result ≡ Ok (Solved.Values vs) → IsBest (dnf_truth d.now) names vs }
+    ensures log { (log : ElimLog) → result ≡ Ok (Solved.None log) → log.entries ≡ entries_of (names_out names d.now).events }
     ensures none { (log : ElimLog) → result ≡ Ok (Solved.None log) → (w : List ℤ) → length w ≡ names → dnf_truth d.now w ≡ false }
 {
     know_clauses(d.clauses());

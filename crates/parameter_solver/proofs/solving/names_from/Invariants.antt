@@ -1,12 +1,12 @@
 use Rattle.std.proofs.Common.{◌<◌, ◌≤◌, ◌^◌}
-use Rattle.purse.proofs.Following.{Going}
+use Rattle.purse.specs.Trace.{at}
+use Rattle.purse.specs.Work.{Remains, marks_of}
 use Rattle.solution_rules.specs.Solutions.{names_from}
-use Rattle.parameter_solver.specs.Logs.{in_log}
 use Rattle.parameter_solver.proofs.solving.names_from.Given as goal
 
 abbrev pub invariant-loop-rest : goal.invariant-loop-rest
 invariant-loop-rest l = record {
-  work : Going in_log (names_from l.rest l.j l.left) l.purse l.log.entries (names_from l.k l.j l.d) l.fn.purse l.fn.log.entries;
+  work : Remains (names_from l.rest l.j l.left) (at l.purse (marks_of l.log)) (names_from l.k l.j l.d) (at l.fn.purse (marks_of l.fn.log));
   fewer : l.rest ≤ l.k;
   budget : l.purse.budget < 2 ^ 32;
 }
