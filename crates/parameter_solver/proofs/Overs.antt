@@ -1,12 +1,11 @@
 -- The names of a disjunction are below a bound exactly where the test says so.
-use Rattle.std.proofs.Common.{◌≡◌, ◌<◌, ◌≤◌, ℕ, ℤ, Bool, true, false, ◌&&◌, cond, nat_eq, nat_lt, List, [], ◌∷◌, refl, sym, ◌∙◌, ap, subst, arith}
-use Rattle.std.specs.Prelude.{◌↔◌, IsTrue}
+use Rattle.std.proofs.Common.{◌≡◌, ◌<◌, ◌≤◌, ℕ, ℤ, Bool, true, false, cond, nat_eq, nat_lt, List, [], ◌∷◌, refl, sym, ◌∙◌, ap, arith}
+use Rattle.std.specs.Prelude.{◌↔◌}
 use Rattle.std.specs.List.{AllByRecursion, list_all}
 use Rattle.std.proofs.lemmas.Bool.Decides.{nat_tests}
-use Rattle.linear_term.specs.Linear.{Linear, mentions, has_name}
+use Rattle.linear_term.specs.Linear.{mentions, has_name}
 use Rattle.clause_set.specs.declared.literal.Literal.{Literal}
 use Rattle.clause_set.specs.Literals.{term_of}
-use Rattle.clause_set.specs.Names.{has}
 use Rattle.equation_rules.proofs.Lists.{and_left, and_right, and_both}
 use Rattle.elim_rules.specs.Whole.{AreOver, Lacks}
 use Rattle.solution_rules.proofs.Alone.{same_name}
