@@ -114,7 +114,7 @@ fn equation_slack(t: &Term, p: &[(u32, i128)]) -> Option<i128>
 
 /// The least number k of which one of the literals says p + k ≥ 0.
 #[tactic(auto, using(crate::proofs::Slack::slacks))]
-pub(crate) fn slack(literals: &[Literal], p: &[(u32, i128)]) -> Option<i128>
+pub fn slack(literals: &[Literal], p: &[(u32, i128)]) -> Option<i128>
     requires { All (λ r. InRange r.1) p.now }
     ensures exact { result ≡ slack literals.now p.now }
     ensures range { IfSome result (λ k. InRange k) }

@@ -1,7 +1,7 @@
 // Literals over linear terms in normal form, clauses and disjunctive normal forms, and the budget of work on them.
 #![tactic(auto)]
 
-mod bounds;
+pub mod bounds;
 mod clause;
 mod compact;
 mod covering;
@@ -11,7 +11,7 @@ mod literal;
 mod normal_form;
 mod order;
 mod table;
-mod weight;
+pub mod weight;
 
 pub use clause::{Clause, copy_literals, normal};
 pub use dnf::{Dnf, and, found, literal_clauses, negated_literal, not, or};

@@ -53,7 +53,8 @@ impl Literal {
         }
     }
 
-    fn divisor(&self) -> i128
+    /// The divisor d, 0 where there is none.
+    pub fn divisor(&self) -> i128
         ensures { result ≡ divisor_of self.now }
     {
         match self {

@@ -21,7 +21,7 @@ pub(crate) fn clause_weight(c: &Clause) -> u64
 
 /// How many literals and monomials the clauses have.
 #[tactic(auto, using(crate::proofs::Weights::weights))]
-pub(crate) fn weight(d: &[Clause]) -> u64
+pub fn weight(d: &[Clause]) -> u64
     ensures { result ≡ capped (weight d.now) }
 {
     let mut sum = 0u64;

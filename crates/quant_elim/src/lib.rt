@@ -10,5 +10,5 @@ mod taking;
 mod wholes;
 
 pub use atoms::atom;
-pub use taking::{exists_name, forall_last};
+pub use taking::{exists_name, forall_last, name_out};
 pub use wholes::eliminate;

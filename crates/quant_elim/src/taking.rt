@@ -68,9 +68,12 @@ fn take_out_all(
     Ok(out)
 }
 
-/// x out of d, with the entries behind those of the log.
+/// x out of d, with the entries of the rules behind those of the log: for callers that take several names out with one log.
+///
+/// Refused with Steps exactly where a charge passes the budget, and else with Overflow exactly where a number that a rule
+/// computes leaves the range, which it names; the log then has the entries of the rules that were performed before.
 #[tactic(auto, using(purse::proofs::Charging::logging))]
-pub(crate) fn name_out(
+pub fn name_out(
     alloc: Global,
     d: &Dnf,
     x: u32,

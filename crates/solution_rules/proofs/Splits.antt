@@ -179,13 +179,13 @@ unfolding applies
 applies_merge j i k c lt a b = let l : nat_lt i k ≡ true = grind (arith, nat_tests) in both _ _ l (both _ _ a b)
 
 -- a clause without an equation: its first split applies, or it has bounds and at most one divisibility
-abbrev IsCase : ℕ → List Literal → Option Entry → Type 0
+abbrev pub IsCase : ℕ → List Literal → Option Entry → Type 0
 IsCase j c None = AllByRecursion (IsBoundOrClass j (class_of j c).value) c
 IsCase j c (Some x) = IsSplit j c x
 
-record Here (j : ℕ) (c : List Literal) : Type 0 where
-  inside : AllByRecursion (IsIn (IsName j)) c
-  none : list_any (is_equation j) c ≡ false
+pub record Here (j : ℕ) (c : List Literal) : Type 0 where
+  pub inside : AllByRecursion (IsIn (IsName j)) c
+  pub none : list_any (is_equation j) c ≡ false
 
 no_equation : (j : ℕ) (c : List Literal) → Here j c → AllByRecursion (λ l. is_equation j l ≡ false) c
 no_equation j c k = any-none (is_equation j) c k.none
@@ -212,7 +212,7 @@ parted : (j : ℕ) (c : List Literal) (o : Option ℕ) → Here j c → position
 parted j c None k at = merged j c (position (is_divisibility j) c) k at refl
 parted j c (Some i) k at = apart-split j i c k.inside k.none (applies_apart j i c (position-got (is_indivisibility j) c i at))
 
-case_of : (j : ℕ) (c : List Literal) → Here j c → IsCase j c (first_split j c)
+pub case_of : (j : ℕ) (c : List Literal) → Here j c → IsCase j c (first_split j c)
 case_of j c k = parted j c (position (is_indivisibility j) c) k refl
 
 by_case : (n : ℕ) (f : List Literal → Traced (List ℤ)) (j : ℕ) (e : List ℤ) (c : List Literal) (o : Option Entry) → IsExactFor n f j e → Here j c → measure j c ≤ n → IsCase j c o
@@ -277,7 +277,7 @@ candidates-unfold j c o =
     (λ r i lt. sym (deeper (suc (measure j r)) (measure j c) j (omega arith) r i (omega arith))) o (omega arith)
 
 -- ---- a clause that lacks all names but j
-alone_in : (j : ℕ) (c : List Literal) → All IsFormed c → All IsShaped c → ((y : ℕ) → y ≢ j → Lacks y c) → AllByRecursion (IsIn (IsName j)) c
+pub alone_in : (j : ℕ) (c : List Literal) → All IsFormed c → All IsShaped c → ((y : ℕ) → y ≢ j → Lacks y c) → AllByRecursion (IsIn (IsName j)) c
 alone_in j c f s o = from_lacks (IsName j) c f s (λ y. by y (nat_eq y j) refl)
   where
     by : (y : ℕ) (b : Bool) → nat_eq y j ≡ b → IsName j y ⊎ Lacks y c

@@ -1,0 +1,10 @@
+pub mod Nearness
+pub mod Computed
+pub mod Valuing
+pub mod Rests
+pub mod OneName
+pub mod Parting
+pub mod Logging
+pub mod Spanning
+pub mod Answered
+pub mod Overs
