@@ -1,0 +1,10 @@
+pub mod Sharing
+pub mod Found
+pub mod Walks
+pub mod LooseValues
+pub mod Ringed
+pub mod Exact
+pub mod Rings
+pub mod LogWalks
+pub mod Trails
+pub mod Calls

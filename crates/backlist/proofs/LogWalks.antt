@@ -1,0 +1,21 @@
+-- The log's own field, which takes no bytes. Assumes `Logic`.
+use mathlib.Core.Path.{refl}
+use mathlib.Core.List.{[], ◌∷◌}
+use seplogic.Ra.Ura.{Ura}
+use mir.Val.{Val, vstruct, vcons, vnil}
+use base.Logic.{ent, emp}
+use types.Logic.{Logic, sem}
+use denote.RattleType.{RattleType}
+use denote.Shadow.{makes_shadow}
+use denote.Struct.Struct.{Struct}
+use denote.Struct.Owning.{shape}
+use Rattle.backlist.specs.contracts.log.Log as L-type
+
+abbrev pub Mark : RattleType → RattleType
+Mark N = Struct (shape (L-type.the_type N))
+
+abbrev pub mark : Val
+mark = vstruct (vcons (vstruct vnil) vnil)
+
+pub mark_made : (N : RattleType) {M : Type 1} {𝓤 : Ura M} (𝓛 : Logic 𝓤) → ent 𝓤 (emp 𝓤) (sem 𝓛 ((Mark N).own_val (tt, tt) (mark ∷ [])))
+mark_made N 𝓛 = makes_shadow 𝓛 ((Mark N).own_val (tt, tt) (mark ∷ [])) (λ vss. (tt, ((λ uss. (tt, tt)), tt))) ((vstruct vnil ∷ [], tt), (refl, ((tt, (refl, tt)), tt)))

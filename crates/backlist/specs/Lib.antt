@@ -1,0 +1,6 @@
+pub mod Cells
+pub mod Ownership
+pub mod Lends
+pub mod History
+pub mod Links
+pub mod Trail

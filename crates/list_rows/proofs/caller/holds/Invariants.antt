@@ -1,0 +1,6 @@
+use Rattle.std.proofs.Common.{◌≡◌}
+use Rattle.list_rows.specs.Walked.{IsWalk, any_is}
+use Rattle.list_rows.proofs.caller.holds.Given as goal
+
+abbrev pub invariant-loop-i : goal.invariant-loop-i
+invariant-loop-i l = (w : IsWalk l.list.present l.i l.at) × (l.found ≡ any_is l.x w.passed)
