@@ -1,7 +1,12 @@
+pub mod Acting
+pub mod Compiling
 pub mod Extents
+pub mod Halting
 pub mod Limits
-pub mod Linears
 pub mod Members
 pub mod Multiples
+pub mod OwnNames
 pub mod Pairs
-pub mod Weight
+pub mod Rooms
+pub mod Runs
+pub mod Stacks

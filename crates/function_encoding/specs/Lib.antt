@@ -1,3 +1,8 @@
+pub mod Actions
 pub mod Counted
+pub mod Instructions
 pub mod Members
 pub mod Ranged
+pub mod Room
+pub mod Stops
+pub mod Weight

@@ -1,13 +1,13 @@
--- How much of a formula or a term is left: a measure of recursions.
-use Rattle.std.proofs.Common.{ℕ, ◌+◌, ◌≤◌, arith}
+-- How much of a formula, a term or a list of actions is left: a measure of recursions.
+use Rattle.std.specs.Prelude.{ℕ, ◌+◌, List, [], ◌∷◌}
 use Rattle.typed_formula.specs.Formula.{Formula, Formulas, Expression, Expressions, constant, compares, applies, negation, every, some, implies, iff, for_all, for_some, part, no_formula, and_formula, number, name, call, minus, total, product, choice, absolute, lesser, greater, no_expression, and_expression}
-use Rattle.function_encoding.specs.Members.{without_minus}
+use Rattle.function_encoding.specs.Actions.{Action, put_number, put_name, negate, multiply, add, apply, choose, take_absolute, take_extreme, relate, predicate}
 
 abbrev mutual
   pub weight : Formula → ℕ
   weight (constant b) = 1
-  weight (compares r s t) = weight_of s + weight_of t + 4
-  weight (applies p ts) = weights_of ts + 4
+  weight (compares r s t) = weight_of s + weight_of t + 5
+  weight (applies p ts) = weights_of ts + 5
   weight (negation f) = weight f + 4
   weight (every fs) = weights fs + 4
   weight (some fs) = weights fs + 4
@@ -22,8 +22,8 @@ abbrev mutual
   weights (and_formula f fs) = weight f + weights fs
 
   pub weight_of : Expression → ℕ
-  weight_of (number v) = 1
-  weight_of (name x) = 1
+  weight_of (number v) = 2
+  weight_of (name x) = 2
   weight_of (call f ts) = weights_of ts + 4
   weight_of (minus t) = weight_of t + 4
   weight_of (total ts) = weights_of ts + 4
@@ -37,15 +37,7 @@ abbrev mutual
   weights_of no_expression = 0
   weights_of (and_expression t ts) = weight_of t + weights_of ts + 4
 
--- a minus weighs something
-pub member_weight : (t : Expression) → weight_of (without_minus t) ≤ weight_of t
-member_weight (number v) = omega arith
-member_weight (name x) = omega arith
-member_weight (call f us) = omega arith
-member_weight (minus t) = omega arith
-member_weight (total us) = omega arith
-member_weight (product a b) = omega arith
-member_weight (choice f a b) = omega arith
-member_weight (absolute a) = omega arith
-member_weight (lesser a b) = omega arith
-member_weight (greater a b) = omega arith
+abbrev pub weight_left : List Action → ℕ
+weight_left [] = 0
+weight_left (choose f ∷ c) = weight f + weight_left c + 2
+weight_left (a ∷ c) = weight_left c + 2

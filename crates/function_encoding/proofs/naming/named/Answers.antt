@@ -1,6 +1,6 @@
 use Rattle.std.proofs.Common.{◌∙◌, sym}
 use Rattle.function_encoding.proofs.Multiples.{named-some, named-none}
-use Rattle.function_encoding.proofs.linear.named.Goals as goal
+use Rattle.function_encoding.proofs.naming.named.Goals as goal
 
 pub returns-in-Some : goal.returns-in-Some
 returns-in-Some c = c.name.ensures ∙ sym (named-some c.args.at.now c.args.x c.in-Some.y.now c.in-Some.ensures.lookup.3.0 (c.in-Some.ensures.lookup.3.1 0))
