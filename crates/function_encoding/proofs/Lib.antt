@@ -1,5 +1,6 @@
 pub mod Acting
 pub mod Compiling
+pub mod Encodings
 pub mod Extents
 pub mod Halting
 pub mod Limits

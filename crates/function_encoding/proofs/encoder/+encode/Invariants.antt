@@ -9,7 +9,7 @@ use Rattle.function_encoding.specs.Ranged.{AreRanged}
 use Rattle.function_encoding.specs.Room.{HasRoom}
 use Rattle.function_encoding.specs.Stops.{test_weight}
 use Rattle.function_encoding.specs.Weight.{weight, weights, weight_left}
-use Rattle.function_encoding.proofs.Members_left.{rest}
+use Rattle.function_encoding.proofs.Encodings.{rest}
 use Rattle.function_encoding.proofs.encoder.+encode.Given as goal
 
 abbrev pub decreases-encoded : goal.decreases-encoded
