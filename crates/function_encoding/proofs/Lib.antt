@@ -9,5 +9,6 @@ pub mod Multiples
 pub mod OwnNames
 pub mod Pairs
 pub mod Rooms
+pub mod Roots
 pub mod Runs
 pub mod Stacks

@@ -3,18 +3,25 @@
 #![tactic(auto)]
 
 mod actions;
+mod answer;
 mod atoms;
 mod building;
+mod component;
+mod components;
 mod counting;
+
 mod encoder;
 mod instruction;
 mod instructions;
 mod largeness;
 mod naming;
 mod plain;
+mod problem;
 mod stack;
 mod stop;
 mod stops;
 
+pub use answer::{EncodeRefusal, Encoded};
 pub use counting::{Extent, extent_of};
+pub use problem::encode;
 pub use largeness::is_large;
