@@ -1,5 +1,5 @@
 -- The stack behind one simple action.
-use Rattle.std.proofs.Common.{◌≡◌, List, ◌∷◌, reverse, Result, Ok, Err, IsErrAnd, negsuc, sym, subst}
+use Rattle.std.proofs.Common.{◌≡◌, List, ◌∷◌, reverse, Result, Ok, Err, IsErrAnd, negsuc, subst}
 use Rattle.linear_term.specs.Linear.{Linear}
 use Rattle.linear_term.specs.declared.range.TermFault.{TermFault}
 use Rattle.purse.specs.Trace.{Traced, just, next}

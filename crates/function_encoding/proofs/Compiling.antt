@@ -5,12 +5,12 @@ use Rattle.typed_formula.specs.declared.typed.TypedTerm.{TypedTerm}
 use Rattle.typed_formula.specs.Formula.{Expression, expression, expressions_of}
 use Rattle.purse.proofs.Charging.{drop-item, drop_all}
 use Rattle.pri_typing.specs.WellFormed.{size}
-use Rattle.function_encoding.specs.Actions.{Action, add, compiled, compiled_all, compiled_sum, compiled_more}
+use Rattle.function_encoding.specs.Actions.{Action, add, compiled, compiled_all, compiled_more}
 use Rattle.function_encoding.specs.Instructions.{Follows, actions_of}
 use Rattle.function_encoding.specs.declared.instruction.Instruction.{Instruction}
 use Rattle.function_encoding.specs.Members.{is_subtracted, without_minus}
 use Rattle.function_encoding.specs.Weight.{weight_of, weights_of}
-use Rattle.function_encoding.proofs.Members.{more_is, member_weight}
+use Rattle.function_encoding.proofs.Members.{more_is}
 
 pub follows_then : {a b c : List Action} {f g : List Action → List Action} → Follows a b f → Follows b c g → Follows a c (λ m. f (g m))
 follows_then {f = f} {g = g} h k = record { is = λ m. k.is m ∙ h.is (g m) }

@@ -1,10 +1,10 @@
 -- The encoding of formulas, one after another, and the room that each has.
-use Rattle.std.proofs.Common.{◌≡◌, ℕ, suc, ◌+◌, ◌<◌, ◌≤◌, Bool, List, [], ◌∷◌, ◌++◌, map, reverse, length, drop, get_or, Result, Ok, Err, IsErrAnd, refl, sym, ap, ◌∙◌, subst, arith}
+use Rattle.std.proofs.Common.{◌≡◌, ℕ, ◌+◌, ◌<◌, ◌≤◌, Bool, List, [], ◌∷◌, ◌++◌, map, reverse, length, drop, get_or, Result, Ok, Err, IsErrAnd, refl, sym, ap, ◌∙◌, subst, arith}
 use Rattle.linear_term.specs.declared.range.TermFault.{TermFault}
 use Rattle.typed_formula.specs.declared.typed.Typed.{Typed}
 use Rattle.linear_term.specs.Linear.{Linear}
 use Rattle.typed_formula.specs.declared.typed.Relation.{Relation}
-use Rattle.typed_formula.specs.Formula.{Formula, formula, Formulas, formulas_of, and_formula, Expression, Expressions, compares, applies}
+use Rattle.typed_formula.specs.Formula.{Formula, formula, Formulas, formulas_of, no_formula, and_formula, Expression, Expressions, compares, applies}
 use Rattle.pri_typing.specs.WellFormed.{size}
 use Rattle.purse.specs.Trace.{Traced, just, next}
 use Rattle.purse.proofs.Charging.{Left, left_all, drop-item, drop_all}
@@ -41,7 +41,7 @@ room_both n c rest h = room_two n c rest (omega arith)
 pub room_under : (n : ℕ) (e : Extent) → HasRoom n (above e) → HasRoom n e
 room_under n e h = omega arith
 
-room_beside : (n : ℕ) (a b : Extent) → HasRoom n (beside a b) → HasRoom n a × HasRoom n b
+pub room_beside : (n : ℕ) (a b : Extent) → HasRoom n (beside a b) → HasRoom n a × HasRoom n b
 room_beside n a b h = (omega arith, omega arith)
 
 -- formulas before others
@@ -61,7 +61,7 @@ before-none (f ∷ fs) = ap (and_form f) (before-none fs)
 abbrev pub rest : List ℕ → ℕ → Bool → List Form → Formulas → Traced Forms
 rest at n plus out fs = next (all_encoded at n plus fs) (λ gs. just (before out gs))
 
-rest-more : (at : List ℕ) (n : ℕ) (plus : Bool) (out : List Form) (f : Formula) (fs : Formulas) → rest at n plus out (and_formula f fs) ≡ next (encoded at n plus f) (λ g. rest at n plus (out ++ g ∷ []) fs)
+pub rest-more : (at : List ℕ) (n : ℕ) (plus : Bool) (out : List Form) (f : Formula) (fs : Formulas) → rest at n plus out (and_formula f fs) ≡ next (encoded at n plus f) (λ g. rest at n plus (out ++ g ∷ []) fs)
 rest-more at n plus out f fs =
     next-assoc (encoded at n plus f) (λ g. next (all_encoded at n plus fs) (λ gs. just (and_form g gs))) (λ gs. just (before out gs))
     ∙ (λ i. next (encoded at n plus f) (λ g. one g i))
@@ -71,10 +71,10 @@ rest-more at n plus out f fs =
         next-assoc (all_encoded at n plus fs) (λ gs. just (and_form g gs)) (λ gs. just (before out gs))
         ∙ (λ i. next (all_encoded at n plus fs) (λ gs. (next-just (and_form g gs) (λ hs. just (before out hs)) ∙ ap (λ (z : Forms). just z) (before-one out g gs)) i))
 
-pub rest_all : (at : List ℕ) (n : ℕ) (plus : Bool) (fs : List Typed) (out : List Core) → out ≡ [] → Left (rest at n plus (map form out) (formulas_of fs)) (all_encoded at n plus (formulas_of fs))
+pub rest_all : (at : List ℕ) (n : ℕ) (plus : Bool) (fs : Formulas) (out : List Core) → out ≡ [] → Left (rest at n plus (map form out) fs) (all_encoded at n plus fs)
 rest_all at n plus fs out none =
-    let work = all_encoded at n plus (formulas_of fs) in
-    subst (λ l. Left (rest at n plus (map form l) (formulas_of fs)) work) (sym none) (subst (λ w. Left w work) (sym (just-next work)) (left_all work))
+    let work = all_encoded at n plus fs in
+    subst (λ l. Left (rest at n plus (map form l) fs) work) (sym none) (subst (λ w. Left w work) (sym (just-next work)) (left_all work))
 
 pub rest_next : (at : List ℕ) (n : ℕ) (plus : Bool) (fs : List Typed) (i : ℕ) (f : Typed) (out : List Core) (work : Traced Forms) → i < length fs → f ≡ get_or fs i f
     → Left (rest at n plus (map form out) (formulas_of (drop i fs))) work
@@ -87,11 +87,14 @@ pub rest_pushed : (at : List ℕ) (n : ℕ) (plus : Bool) (fs : Formulas) (out m
     → Left (rest at n plus (map form more) fs) work
 rest_pushed at n plus fs out more g work is h = subst (λ l. Left (rest at n plus l fs) work) (sym (ap (map form) is ∙ pushed out g (form g) refl)) h
 
+pub rest_none : (at : List ℕ) (n : ℕ) (plus : Bool) (out : List Core) (work : Traced Forms) → Left (rest at n plus (map form out) no_formula) work → Made forms_of work (Ok out)
+rest_none at n plus out work h =
+    left_done forms_of (Ok out) h
+    (subst (λ w. Made forms_of w (Ok out)) (sym (next-just no_form (λ gs. just (before (map form out) gs)))) (made_just forms_of (before (map form out) no_form) out (sym (before-none (map form out)))))
+
 pub rest_end : (at : List ℕ) (n : ℕ) (plus : Bool) (fs : List Typed) (i : ℕ) (out : List Core) (work : Traced Forms) → length fs ≤ i → Left (rest at n plus (map form out) (formulas_of (drop i fs))) work
     → Made forms_of work (Ok out)
-rest_end at n plus fs i out work le h =
-    left_done forms_of (Ok out) (subst (λ l. Left (rest at n plus (map form out) (formulas_of l)) work) (drop_all fs i le) h)
-    (subst (λ w. Made forms_of w (Ok out)) (sym (next-just no_form (λ gs. just (before (map form out) gs)))) (made_just forms_of (before (map form out) no_form) out (sym (before-none (map form out)))))
+rest_end at n plus fs i out work le h = rest_none at n plus out work (subst (λ l. Left (rest at n plus (map form out) (formulas_of l)) work) (drop_all fs i le) h)
 
 -- the next formula has its numbers in the range, has room, and is lighter than all
 pub item_ranged : (fs : List Typed) (i : ℕ) (f : Typed) → i < length fs → f ≡ get_or fs i f → AreRanged (formulas_of (drop i fs)) → IsRanged (formula f) × AreRanged (formulas_of (drop (i + 1) fs))

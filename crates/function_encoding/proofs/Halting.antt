@@ -1,10 +1,10 @@
 -- Simple actions, done one after another, and what comes then.
-use Rattle.std.proofs.Common.{◌≡◌, ℕ, ◌+◌, ◌<◌, ◌≤◌, Bool, true, false, List, [], ◌∷◌, length, get_or, map, drop, reverse, Result, Ok, Err, IsErrAnd, IfErr, refl, sym, ap, ◌∙◌, subst, arith}
+use Rattle.std.proofs.Common.{◌≡◌, ℕ, ◌+◌, ◌<◌, ◌≤◌, true, List, [], ◌∷◌, length, get_or, drop, reverse, Result, Ok, Err, IsErrAnd, IfErr, refl, sym, ◌∙◌, subst, arith}
 use Rattle.linear_term.specs.Linear.{Linear}
 use Rattle.linear_term.specs.declared.range.TermFault.{TermFault}
 use Rattle.linear_term.specs.declared.range.TermFault.TheVariants as term_fault
 use Rattle.purse.specs.declared.fault.StepFault.{StepFault}
-use Rattle.purse.specs.Trace.{Traced, just, next}
+use Rattle.purse.specs.Trace.{Traced, next}
 use Rattle.purse.specs.Work.{Worked, step_fault_of}
 use Rattle.purse.proofs.Charging.{work_ok, drop-item, drop_all}
 use Rattle.formula.specs.Form.{Form}

@@ -1,4 +1,5 @@
 pub mod Acting
+pub mod Chosen
 pub mod Compiling
 pub mod Encodings
 pub mod Extents

@@ -1,11 +1,11 @@
 -- The encoding of a problem: numbers in the range, room for all names, and what the laws say of its formula.
-use Rattle.std.proofs.Common.{◌≡◌, ◌↔◌, ℕ, suc, ◌+◌, ◌<◌, ◌≤◌, ◌^◌, ℤ, Bool, true, false, ◌||◌, nat_lt, IsTrue, List, length, Result, Ok, Err, IsErrAnd, refl, sym, ap, ◌∙◌, subst, arith}
+use Rattle.std.proofs.Common.{◌≡◌, ◌↔◌, ℕ, suc, ◌+◌, ◌≤◌, ℤ, Bool, true, false, ◌||◌, nat_lt, List, length, Result, Ok, Err, IsErrAnd, sym, ap, subst, arith}
 use Rattle.std.proofs.lemmas.Grind.{common_steps}
 use Rattle.linear_term.specs.declared.range.TermFault.{TermFault}
 use Rattle.linear_term.specs.declared.range.TermFault.TheVariants as term_fault
 use Rattle.typed_formula.specs.Formula.{Formula, Formulas, Expression, Expressions, formula, constant, compares, applies, negation, every, some, implies, iff, for_all, for_some, part, no_formula, and_formula, number, name, call, minus, total, product, choice, absolute, lesser, greater, no_expression, and_expression}
 use Rattle.typed_formula.specs.Truth.{Meaning}
-use Rattle.purse.specs.Trace.{Traced, just, next, capped}
+use Rattle.purse.specs.Trace.{Traced, capped}
 use Rattle.purse.proofs.Charging.{worked_value}
 use Rattle.pri_typing.specs.declared.problem.Problem.{Problem}
 use Rattle.pri_typing.specs.Everywhere.{Everywhere, AllEverywhere, TermEverywhere, TermsEverywhere}
@@ -19,7 +19,6 @@ use Rattle.formula.specs.Tree.{form}
 use Rattle.encoding.specs.Extent.{Extent, measured, extent}
 use Rattle.encoding.specs.Problems.{constants, problem_root, is_large}
 use Rattle.encoding.proofs.Problems.{holds_is, pure_is, root_over}
-use Rattle.function_encoding.specs.Counted.{below_quantifiers}
 use Rattle.function_encoding.specs.Encoded.{Encodes}
 use Rattle.function_encoding.specs.Ranged.{IsRanged, AreRanged, IsTermRanged, AreTermsRanged}
 use Rattle.function_encoding.specs.Refusals.{refusal_of}

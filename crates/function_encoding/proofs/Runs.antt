@@ -1,19 +1,18 @@
 -- The actions of a term finish it for the rest.
-use Rattle.std.proofs.Common.{◌≡◌, ℕ, zero, suc, pos, negsuc, Bool, true, false, cond, List, [], ◌∷◌, ◌++◌, length, reverse, take, drop, refl, sym, ap, ◌∙◌, append_assoc}
+use Rattle.std.proofs.Common.{◌≡◌, ℕ, suc, pos, negsuc, Bool, true, false, cond, List, [], ◌∷◌, ◌++◌, length, reverse, take, drop, refl, sym, ap, ◌∙◌, append_assoc}
 use Rattle.std.proofs.lemmas.List.{reverse-append, reverse-reverse, length-reverse}
 use Rattle.std.proofs.Math.Seq.{take-append_seam, drop-append_seam}
 use Rattle.linear_term.specs.Linear as linear
 use Rattle.linear_term.specs.Linear.{Linear}
 use Rattle.typed_formula.specs.declared.typed.Relation.{Relation}
 use Rattle.typed_formula.specs.declared.typed.Relation.TheVariants.{Leq, Geq, Lt, Gt}
-use Rattle.typed_formula.specs.Formula.{Formula, Expression, Expressions, compares, applies, number, name, call, minus, total, product, choice, absolute, lesser, greater, no_expression, and_expression}
+use Rattle.typed_formula.specs.Formula.{Expression, Expressions, compares, applies, number, name, call, minus, total, product, choice, absolute, lesser, greater, no_expression, and_expression}
 use Rattle.purse.specs.Trace.{Traced, just, next, combining}
 use Rattle.purse.proofs.Tracing.{next-assoc, next-just}
 use Rattle.pri_typing.specs.WellFormed.{is_numeric, size}
 use Rattle.formula.specs.Form.{Form, holds, fails}
 use Rattle.encoding.specs.Encoding.{named, multiple, product_of, related, signed_relation, cases, encoded, with_value, with_values, with_sum, with_more}
-use Rattle.function_encoding.specs.Members.{added}
-use Rattle.function_encoding.specs.Actions.{Action, put_number, put_name, negate, multiply, add, apply, choose, take_absolute, take_extreme, relate, predicate, behind, ran, compiled, compiled_all, compiled_sum, compiled_more}
+use Rattle.function_encoding.specs.Actions.{Action, negate, multiply, add, apply, choose, take_absolute, take_extreme, relate, predicate, behind, ran, compiled, compiled_all, compiled_sum, compiled_more}
 
 -- a term that is put on the stack, for the rest
 pushed : (m : Traced Linear) (vs : List Linear) (g : List Linear → Traced Form) → next (next m (λ a. just (a ∷ vs))) g ≡ next m (λ a. g (a ∷ vs))

@@ -1,9 +1,9 @@
 -- What a call that encodes answers, and the components of which parts are made.
 use Rattle.std.specs.Prelude.{◌≡◌, ℕ, Bool, true, false, List, map, Result, Ok, Err}
 use Rattle.linear_term.specs.declared.range.TermFault.TheVariants as term_fault
-use Rattle.typed_formula.specs.Formula.{formula}
+use Rattle.typed_formula.specs.Formula.{Formulas, formula, formulas}
 use Rattle.purse.specs.Trace.{Traced}
-use Rattle.pri_typing.specs.Problems.{is_part_in}
+use Rattle.pri_typing.specs.Problems.{assumed, is_part_in}
 use Rattle.pri_typing.specs.WellFormed.{SignedFormula}
 use Rattle.formula.specs.declared.calculus.Core.{Core}
 use Rattle.formula.specs.Form.{Form}
@@ -38,3 +38,7 @@ all_signed = map signed_of
 -- it is a part of this set
 abbrev pub is_in : List ℕ → SignedFormula → Bool
 is_in set c = is_part_in set c.what
+
+-- what components assume
+abbrev pub all_assumed : List Component → Formulas
+all_assumed cs = formulas (map assumed (all_signed cs))

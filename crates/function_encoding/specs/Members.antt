@@ -1,7 +1,7 @@
 -- Tests of terms, and the members of a sum.
-use Rattle.std.specs.Prelude.{Bool, true, false, ◌&&◌, pos, negsuc, cond}
+use Rattle.std.specs.Prelude.{Bool, true, false, pos, negsuc, cond}
 use Rattle.linear_term.specs.Linear.{Linear}
-use Rattle.typed_formula.specs.Formula.{Expression, Expressions, number, name, minus, total, product, no_expression, and_expression}
+use Rattle.typed_formula.specs.Formula.{Expression, minus}
 use Rattle.purse.specs.Trace.{Traced, combining}
 
 -- a member of a sum with a minus before it is subtracted

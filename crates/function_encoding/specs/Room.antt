@@ -3,7 +3,7 @@ use Rattle.std.specs.Prelude.{ℕ, ◌+◌, ◌^◌, ◌<◌, List, [], ◌∷�
 use Rattle.linear_term.specs.Range.{InRange}
 use Rattle.encoding.specs.Extent as extents
 use Rattle.encoding.specs.Extent.{leaf, in_both, above, above_two, extent}
-use Rattle.function_encoding.specs.Actions.{Action, put_number, put_name, negate, multiply, add, apply, choose, take_absolute, take_extreme, relate, predicate}
+use Rattle.function_encoding.specs.Actions.{Action, put_number, apply, choose, take_absolute, take_extreme, relate, predicate}
 use Rattle.function_encoding.specs.Ranged.{IsRanged}
 
 -- where n names are bound, there are numbers left for those that an encoding of this extent binds

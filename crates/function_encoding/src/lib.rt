@@ -9,12 +9,12 @@ mod building;
 mod component;
 mod components;
 mod counting;
-
 mod encoder;
 mod instruction;
 mod instructions;
 mod largeness;
 mod naming;
+mod parts;
 mod plain;
 mod problem;
 mod stack;
@@ -23,5 +23,6 @@ mod stops;
 
 pub use answer::{EncodeRefusal, Encoded};
 pub use counting::{Extent, extent_of};
-pub use problem::encode;
 pub use largeness::is_large;
+pub use parts::encode_parts;
+pub use problem::encode;

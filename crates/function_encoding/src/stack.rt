@@ -38,7 +38,11 @@ pub fn copied(alloc: Global, terms: &[Term]) -> Result<Items<Term>, Memory>
 }
 
 /// The last k terms, the last one first, and those below them.
-fn taken(alloc: Global, mut stack: Items<Term>, k: usize) -> Result<(Items<Term>, Items<Term>), Memory>
+fn taken(
+    alloc: Global,
+    mut stack: Items<Term>,
+    k: usize,
+) -> Result<(Items<Term>, Items<Term>), Memory>
     ensures { IfOk result (λ p. (p.0 ≡ take k (reverse stack)) × (reverse p.1 ≡ drop k (reverse stack))) }
 {
     let mut out = Items::new(alloc);
@@ -63,7 +67,11 @@ fn turned_round(alloc: Global, mut terms: Items<Term>) -> Result<Items<Term>, Me
 }
 
 /// The last k terms in their order, and those below them.
-pub fn split(alloc: Global, stack: Items<Term>, k: usize) -> Result<(Items<Term>, Items<Term>), Memory>
+pub fn split(
+    alloc: Global,
+    stack: Items<Term>,
+    k: usize,
+) -> Result<(Items<Term>, Items<Term>), Memory>
     ensures { IfOk result (λ p. (p.0 ≡ reverse (take k (reverse stack))) × (reverse p.1 ≡ drop k (reverse stack))) }
 {
     let (last, below) = taken(alloc, stack, k)?;

@@ -40,11 +40,7 @@ fn absolute<'a>(alloc: Global, stack: Items<Term>) -> Result<Stop<'a>, Memory>
 }
 
 /// Cases of whether the last term but one stands in the relation to the last.
-fn extreme<'a>(
-    alloc: Global,
-    relation: Relation,
-    stack: Items<Term>,
-) -> Result<Stop<'a>, Memory>
+fn extreme<'a>(alloc: Global, relation: Relation, stack: Items<Term>) -> Result<Stop<'a>, Memory>
     ensures { IfOk result (λ s. Stands (take_extreme relation) (reverse stack) s) }
 {
     let (first, second) = two_ways(alloc, stack)?;

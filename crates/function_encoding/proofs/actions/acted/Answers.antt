@@ -1,4 +1,4 @@
-use Rattle.std.proofs.Common.{◌≡◌, List, ◌∷◌, reverse, refl, sym, ap, subst, ◌∙◌, rules, Result, Ok, to_z-of_z, ℕ}
+use Rattle.std.proofs.Common.{◌≡◌, List, ◌∷◌, reverse, refl, sym, ap, subst, ◌∙◌, rules, Result, to_z-of_z, ℕ}
 use mir.Syntax.{w128}
 use mir.Val.{SFits}
 use Rattle.linear_term.specs.Linear.{Linear}

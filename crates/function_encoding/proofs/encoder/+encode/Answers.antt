@@ -1,4 +1,4 @@
-use Rattle.std.proofs.Common.{◌≡◌, ℕ, suc, ◌+◌, not, List, [], ◌∷◌, ◌++◌, drop, reverse, refl, sym, ap, ◌∙◌, subst, arith}
+use Rattle.std.proofs.Common.{◌≡◌, suc, ◌+◌, not, [], ◌∷◌, ◌++◌, drop, reverse, refl, sym, ap, ◌∙◌, subst, arith}
 use Rattle.std.specs.Bool.{beq}
 use Rattle.linear_term.specs.Linear as linear
 use Rattle.typed_formula.specs.Formula.{formula, formulas_of, expression, expressions_of, applies, negation, every, some, implies, iff, for_all, for_some, part}
@@ -170,10 +170,10 @@ pub encoded-returns-in-Exists : goal.encoded-returns-in-Exists
 encoded-returns-in-Exists t c = formula_as _ _ _ _ _ _ (ap formula c.in-Exists.is ∙ formula-Exists _ ∙ ap (λ z. for_some (formula z)) (sym c.get-in-Exists.ensures)) c.bound-in-Exists.ensures
 
 pub encoded-returns-in-Truth : goal.encoded-returns-in-Truth
-encoded-returns-in-Truth t c =     formula_as _ _ _ _ _ _ (ap formula c.in-Truth.is ∙ formula-Truth c.in-Truth.b) (made_just form _ _ (c.junction.ensures ∙ ap (λ l. junction (beq c.in-Truth.b c.args.plus) (forms_of l)) c.new.ensures))
+encoded-returns-in-Truth t c = formula_as _ _ _ _ _ _ (ap formula c.in-Truth.is ∙ formula-Truth c.in-Truth.b) (made_just form _ _ (c.junction.ensures ∙ ap (λ l. junction (beq c.in-Truth.b c.args.plus) (forms_of l)) c.new.ensures))
 
 pub all_encoded-loop-f-init : goal.all_encoded-loop-f-init
-all_encoded-loop-f-init t c = (rest_all c.args.at.now c.args.n c.args.plus c.args.formulas.now c.new-out.result c.new-out.ensures, c.requires.ranged, c.requires.room, omega arith)
+all_encoded-loop-f-init t c = (rest_all c.args.at.now c.args.n c.args.plus (formulas_of c.args.formulas.now) c.new-out.result c.new-out.ensures, c.requires.ranged, c.requires.room, omega arith)
 
 pub all_encoded-encoded-requires : goal.all_encoded-encoded-requires
 all_encoded-encoded-requires t c =
@@ -188,10 +188,12 @@ pub all_encoded-returns-in_err-push : goal.all_encoded-returns-in_err-push
 all_encoded-returns-in_err-push t c = made_memory forms_of _ c.from_residual-in_err-push.ensures.1
 
 pub all_encoded-loop-f-preserved : goal.all_encoded-loop-f-preserved
-all_encoded-loop-f-preserved t c =
-    (rest_pushed c.args.at.now c.args.n c.args.plus (formulas_of (drop (c.loop-f.f-index + 1) c.args.formulas.now)) c.loop-f.out _ _ (all_encoded c.args.at.now c.args.n c.args.plus (formulas_of c.args.formulas.now)) c.in_ok-push.ensures.ok (left_made form _ _ (rest_next c.args.at.now c.args.n c.args.plus c.args.formulas.now c.loop-f.f-index c.f-item.result c.loop-f.out (all_encoded c.args.at.now c.args.n c.args.plus (formulas_of c.args.formulas.now)) (omega arith) c.f-item.is c.loop-f.invariant.0) c.in_ok-encoded.ensures),
-    (item_ranged c.args.formulas.now c.loop-f.f-index c.f-item.result (omega arith) c.f-item.is c.loop-f.invariant.1).1, (item_room c.args.n c.args.formulas.now c.loop-f.f-index c.f-item.result (omega arith) c.f-item.is c.loop-f.invariant.2).1,
-    (item_weight c.args.formulas.now c.loop-f.f-index c.f-item.result (weights (formulas_of c.args.formulas.now)) (omega arith) c.f-item.is c.loop-f.invariant.3).1)
+all_encoded-loop-f-preserved t c = (
+  rest_pushed c.args.at.now c.args.n c.args.plus (formulas_of (drop (c.loop-f.f-index + 1) c.args.formulas.now)) c.loop-f.out _ _ (all_encoded c.args.at.now c.args.n c.args.plus (formulas_of c.args.formulas.now)) c.in_ok-push.ensures.ok (left_made form _ _ (rest_next c.args.at.now c.args.n c.args.plus c.args.formulas.now c.loop-f.f-index c.f-item.result c.loop-f.out (all_encoded c.args.at.now c.args.n c.args.plus (formulas_of c.args.formulas.now)) (omega arith) c.f-item.is c.loop-f.invariant.0) c.in_ok-encoded.ensures),
+  (item_ranged c.args.formulas.now c.loop-f.f-index c.f-item.result (omega arith) c.f-item.is c.loop-f.invariant.1).1,
+  (item_room c.args.n c.args.formulas.now c.loop-f.f-index c.f-item.result (omega arith) c.f-item.is c.loop-f.invariant.2).1,
+  (item_weight c.args.formulas.now c.loop-f.f-index c.f-item.result (weights (formulas_of c.args.formulas.now)) (omega arith) c.f-item.is c.loop-f.invariant.3).1,
+)
 
 pub all_encoded-returns : goal.all_encoded-returns
 all_encoded-returns t c = rest_end c.args.at.now c.args.n c.args.plus c.args.formulas.now c.loop-f.f-index c.loop-f.out (all_encoded c.args.at.now c.args.n c.args.plus (formulas_of c.args.formulas.now)) (omega arith) c.loop-f.invariant.0
@@ -227,34 +229,34 @@ equivalent-encoded-requires-4 t c =
     (omega (arith, measure), (c.requires.ranged.1, (room_both c.args.n (extent (formula c.args.g.now)) (extent (formula c.args.h.now)) c.requires.room).1))
 
 pub implied-returns-in_err-first : goal.implied-returns-in_err-first
-implied-returns-in_err-first t c =     (made_err form form _ _ _ c.from_residual.ensures.1 c.in_err-first.ensures)
+implied-returns-in_err-first t c = (made_err form form _ _ _ c.from_residual.ensures.1 c.in_err-first.ensures)
 
 pub implied-returns-in_err-second : goal.implied-returns-in_err-second
-implied-returns-in_err-second t c =     (made_ok form form _ _ c.in_ok-first.ensures (made_err form form _ _ _ c.from_residual-in_err-second.ensures.1 c.in_err-second.ensures))
+implied-returns-in_err-second t c = (made_ok form form _ _ c.in_ok-first.ensures (made_err form form _ _ _ c.from_residual-in_err-second.ensures.1 c.in_err-second.ensures))
 
 pub implied-returns-in_err-pair : goal.implied-returns-in_err-pair
 implied-returns-in_err-pair t c = made_memory form _ c.from_residual-in_err-pair.ensures.1
 
 pub implied-returns : goal.implied-returns
-implied-returns t c =     (made_ok form form _ _ c.in_ok-first.ensures (made_ok form form _ _ c.in_ok-second.ensures (made_just form _ _ (c.junction.ensures ∙ ap (λ l. junction (not c.args.plus) (forms_of l)) c.in_ok-pair.ensures))))
+implied-returns t c = (made_ok form form _ _ c.in_ok-first.ensures (made_ok form form _ _ c.in_ok-second.ensures (made_just form _ _ (c.junction.ensures ∙ ap (λ l. junction (not c.args.plus) (forms_of l)) c.in_ok-pair.ensures))))
 
 pub equivalent-returns-in_err-first : goal.equivalent-returns-in_err-first
-equivalent-returns-in_err-first t c =     (made_err form form _ _ _ c.from_residual.ensures.1 c.in_err-first.ensures)
+equivalent-returns-in_err-first t c = (made_err form form _ _ _ c.from_residual.ensures.1 c.in_err-first.ensures)
 
 pub equivalent-returns-in_err-second : goal.equivalent-returns-in_err-second
-equivalent-returns-in_err-second t c =     (made_ok form form _ _ c.in_ok-first.ensures (made_err form form _ _ _ c.from_residual-in_err-second.ensures.1 c.in_err-second.ensures))
+equivalent-returns-in_err-second t c = (made_ok form form _ _ c.in_ok-first.ensures (made_err form form _ _ _ c.from_residual-in_err-second.ensures.1 c.in_err-second.ensures))
 
 pub equivalent-returns-in_err-third : goal.equivalent-returns-in_err-third
-equivalent-returns-in_err-third t c =     (made_ok form form _ _ c.in_ok-first.ensures (made_ok form form _ _ c.in_ok-second.ensures (made_err form form _ _ _ c.from_residual-in_err-third.ensures.1 c.in_err-third.ensures)))
+equivalent-returns-in_err-third t c = (made_ok form form _ _ c.in_ok-first.ensures (made_ok form form _ _ c.in_ok-second.ensures (made_err form form _ _ _ c.from_residual-in_err-third.ensures.1 c.in_err-third.ensures)))
 
 pub equivalent-returns-in_err-fourth : goal.equivalent-returns-in_err-fourth
-equivalent-returns-in_err-fourth t c =     (made_ok form form _ _ c.in_ok-first.ensures (made_ok form form _ _ c.in_ok-second.ensures (made_ok form form _ _ c.in_ok-third.ensures (made_err form form _ _ _ c.from_residual-in_err-fourth.ensures.1 c.in_err-fourth.ensures))))
+equivalent-returns-in_err-fourth t c = (made_ok form form _ _ c.in_ok-first.ensures (made_ok form form _ _ c.in_ok-second.ensures (made_ok form form _ _ c.in_ok-third.ensures (made_err form form _ _ _ c.from_residual-in_err-fourth.ensures.1 c.in_err-fourth.ensures))))
 
 pub equivalent-returns-in_err-both_ways : goal.equivalent-returns-in_err-both_ways
 equivalent-returns-in_err-both_ways t c = made_memory form _ c.from_residual-in_err-both_ways.ensures.1
 
 pub equivalent-returns : goal.equivalent-returns
-equivalent-returns t c =     (made_ok form form _ _ c.in_ok-first.ensures (made_ok form form _ _ c.in_ok-second.ensures (made_ok form form _ _ c.in_ok-third.ensures (made_ok form form _ _ c.in_ok-fourth.ensures (made_just form _ _ c.in_ok-both_ways.ensures)))))
+equivalent-returns t c = (made_ok form form _ _ c.in_ok-first.ensures (made_ok form form _ _ c.in_ok-second.ensures (made_ok form form _ _ c.in_ok-third.ensures (made_ok form form _ _ c.in_ok-fourth.ensures (made_just form _ _ c.in_ok-both_ways.ensures)))))
 
 pub bound-returns-in_err-names : goal.bound-returns-in_err-names
 bound-returns-in_err-names t c = made_memory form _ c.from_residual.ensures.1
@@ -348,25 +350,25 @@ cases-run-requires-2 t c =
     (omega (arith, measure), (c.requires.ranged, room.1))
 
 pub cases-returns-in_err-when : goal.cases-returns-in_err-when
-cases-returns-in_err-when t c =     (made_err form form _ _ _ c.from_residual.ensures.1 c.in_err-when.ensures)
+cases-returns-in_err-when t c = (made_err form form _ _ _ c.from_residual.ensures.1 c.in_err-when.ensures)
 
 pub cases-returns-in_err-one : goal.cases-returns-in_err-one
-cases-returns-in_err-one t c =     (made_ok form form _ _ c.in_ok-when.ensures (made_err form form _ _ _ c.from_residual-in_err-one.ensures.1 c.in_err-one.ensures))
+cases-returns-in_err-one t c = (made_ok form form _ _ c.in_ok-when.ensures (made_err form form _ _ _ c.from_residual-in_err-one.ensures.1 c.in_err-one.ensures))
 
 pub cases-returns-in_err-unless : goal.cases-returns-in_err-unless
-cases-returns-in_err-unless t c =     (made_ok form form _ _ c.in_ok-when.ensures (made_ok form form _ _ c.in_ok-one.ensures (made_err form form _ _ _ c.from_residual-in_err-unless.ensures.1 c.in_err-unless.ensures)))
+cases-returns-in_err-unless t c = (made_ok form form _ _ c.in_ok-when.ensures (made_ok form form _ _ c.in_ok-one.ensures (made_err form form _ _ _ c.from_residual-in_err-unless.ensures.1 c.in_err-unless.ensures)))
 
 pub cases-returns-in_err-stack : goal.cases-returns-in_err-stack
-cases-returns-in_err-stack t c =     (made_ok form form _ _ c.in_ok-when.ensures (made_ok form form _ _ c.in_ok-one.ensures (made_ok form form _ _ c.in_ok-unless.ensures (made_err form form _ _ _ c.from_residual-in_err-stack.ensures.1 (made_err (λ vs. reverse vs) form _ _ _ refl c.in_err-stack.ensures)))))
+cases-returns-in_err-stack t c = (made_ok form form _ _ c.in_ok-when.ensures (made_ok form form _ _ c.in_ok-one.ensures (made_ok form form _ _ c.in_ok-unless.ensures (made_err form form _ _ _ c.from_residual-in_err-stack.ensures.1 (made_err (λ vs. reverse vs) form _ _ _ refl c.in_err-stack.ensures)))))
 
 pub cases-returns-in_err-other : goal.cases-returns-in_err-other
-cases-returns-in_err-other t c =     (made_ok form form _ _ c.in_ok-when.ensures (made_ok form form _ _ c.in_ok-one.ensures (made_ok form form _ _ c.in_ok-unless.ensures (made_err form form _ _ _ c.from_residual-in_err-other.ensures.1 (made_ok (λ vs. reverse vs) form _ _ c.in_ok-stack.ensures c.in_err-other.ensures)))))
+cases-returns-in_err-other t c = (made_ok form form _ _ c.in_ok-when.ensures (made_ok form form _ _ c.in_ok-one.ensures (made_ok form form _ _ c.in_ok-unless.ensures (made_err form form _ _ _ c.from_residual-in_err-other.ensures.1 (made_ok (λ vs. reverse vs) form _ _ c.in_ok-stack.ensures c.in_err-other.ensures)))))
 
 pub cases-returns-in_err-two_cases : goal.cases-returns-in_err-two_cases
 cases-returns-in_err-two_cases t c = made_memory form _ c.from_residual-in_err-two_cases.ensures.1
 
 pub cases-returns : goal.cases-returns
-cases-returns t c =     (made_ok form form _ _ c.in_ok-when.ensures (made_ok form form _ _ c.in_ok-one.ensures (made_ok form form _ _ c.in_ok-unless.ensures (made_ok form form _ _ (made_ok (λ vs. reverse vs) form _ _ c.in_ok-stack.ensures c.in_ok-other.ensures) (made_just form _ _ c.in_ok-two_cases.ensures)))))
+cases-returns t c = (made_ok form form _ _ c.in_ok-when.ensures (made_ok form form _ _ c.in_ok-one.ensures (made_ok form form _ _ c.in_ok-unless.ensures (made_ok form form _ _ (made_ok (λ vs. reverse vs) form _ _ c.in_ok-stack.ensures c.in_ok-other.ensures) (made_just form _ _ c.in_ok-two_cases.ensures)))))
 
 pub tested-encoded-requires : goal.tested-encoded-requires
 tested-encoded-requires t c =

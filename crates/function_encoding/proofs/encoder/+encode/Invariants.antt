@@ -1,4 +1,4 @@
-use Rattle.std.proofs.Common.{◌≡◌, ◌+◌, ◌<◌, ◌≤◌, ◌^◌, drop, map}
+use Rattle.std.proofs.Common.{◌+◌, ◌≤◌, drop, map}
 use Rattle.typed_formula.specs.Formula.{formula, formulas_of}
 use Rattle.purse.proofs.Charging.{Left}
 use Rattle.formula.specs.Tree.{form}

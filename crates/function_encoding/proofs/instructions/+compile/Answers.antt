@@ -1,7 +1,7 @@
-use Rattle.std.proofs.Common.{◌∷◌, OnOk, drop, sym, ap, ◌∙◌, subst, arith}
+use Rattle.std.proofs.Common.{◌∷◌, OnOk, sym, ap, ◌∙◌, subst, arith}
 use Rattle.typed_formula.specs.Formula.{expression, expressions_of}
 use Rattle.typed_formula.proofs.Folds.{expression-Apply}
-use Rattle.function_encoding.specs.Actions.{Action, apply, compiled, compiled_all}
+use Rattle.function_encoding.specs.Actions.{apply, compiled, compiled_all}
 use Rattle.function_encoding.specs.Instructions.{Follows, actions_of}
 use Rattle.function_encoding.proofs.Compiling.{follows_last, terms_many, more_pushed, lighter}
 use Rattle.function_encoding.proofs.instructions.+compile.Goals as goal

@@ -1,6 +1,6 @@
-use Rattle.std.proofs.Common.{◌≡◌, [], ◌∷◌, length, sym, ap, ◌∙◌}
+use Rattle.std.proofs.Common.{[], ◌∷◌, length, sym, ap, ◌∙◌}
 use Rattle.typed_formula.specs.Formula.{expressions_of}
-use Rattle.function_encoding.specs.Actions.{Action, compiled_all, predicate}
+use Rattle.function_encoding.specs.Actions.{compiled_all, predicate}
 use Rattle.function_encoding.specs.Instructions.{actions_of}
 use Rattle.function_encoding.proofs.Compiling.{follows_then, follows_none, terms_many}
 use Rattle.function_encoding.proofs.instructions.predicate_code.Goals as goal

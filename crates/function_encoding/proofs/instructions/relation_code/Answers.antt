@@ -1,6 +1,6 @@
 use Rattle.std.proofs.Common.{◌∷◌}
 use Rattle.typed_formula.specs.Formula.{expression}
-use Rattle.function_encoding.specs.Actions.{Action, compiled, relate}
+use Rattle.function_encoding.specs.Actions.{compiled, relate}
 use Rattle.function_encoding.specs.Instructions.{actions_of}
 use Rattle.function_encoding.proofs.Compiling.{follows_then, follows_none}
 use Rattle.function_encoding.proofs.instructions.relation_code.Goals as goal

@@ -1,4 +1,4 @@
-use Rattle.std.proofs.Common.{◌≡◌, ◌-◌, ◌++◌, ◌≤◌}
+use Rattle.std.proofs.Common.{◌≡◌, ◌-◌, ◌++◌}
 use Rattle.encoding.specs.Root.{names_from}
 use Rattle.function_encoding.proofs.naming.own_names.Given as goal
 
