@@ -1,5 +1,6 @@
-// The encoding of a problem in code: how large it is, counted without building it, and the parts of which it is built:
-// plain terms, atoms and connectives. What it is, and that it keeps the truth, stands in the crate below.
+// The encoding of a problem in code: how large it is, counted without building it; the formula itself, with functions as
+// relations and conditions as cases; and what parts assume. What it is, and that it keeps the truth, stands in the crate
+// below.
 #![tactic(auto)]
 
 mod actions;
