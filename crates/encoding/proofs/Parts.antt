@@ -14,9 +14,9 @@ use Rattle.encoding.proofs.Problems.{over_constants_is}
 use Rattle.encoding.proofs.Frees.{free_is, everywhere_free}
 
 -- the property asks nothing of a negation and of a conjunction themselves
-record Passes (P : Property) : Type 0 where
-  nots : (f : Formula) → P.of_formula 0 (negation f)
-  everies : (fs : Formulas) → P.of_formula 0 (every fs)
+pub record Passes (P : Property) : Type 0 where
+  pub nots : (f : Formula) → P.of_formula 0 (negation f)
+  pub everies : (fs : Formulas) → P.of_formula 0 (every fs)
 
 abbrev Component : Property → SignedFormula → Type 0
 Component P c = Everywhere P 0 c.what
@@ -74,7 +74,7 @@ all_assumed : (P : Property) → Passes P → (cs : List SignedFormula) → AllB
 all_assumed P passes [] h = tt
 all_assumed P passes (c ∷ cs) h = (one_assumed P passes c h.0, all_assumed P passes cs h.1)
 
-assumed_everywhere : (P : Property) → Passes P → (p : Problem) (set : List ℕ) → Everywhere P 0 (formula p.formula) → Everywhere P 0 (assumed_by p set)
+pub assumed_everywhere : (P : Property) → Passes P → (p : Problem) (set : List ℕ) → Everywhere P 0 (formula p.formula) → Everywhere P 0 (assumed_by p set)
 assumed_everywhere P passes p set h =
     let cs = filter (λ (c : SignedFormula). is_part_in set c.what) (components_of p) in (
       passes.everies (formulas (map assumed cs)),

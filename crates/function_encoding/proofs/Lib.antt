@@ -1,7 +1,15 @@
+pub mod Acting
+pub mod Chosen
+pub mod Compiling
+pub mod Encodings
 pub mod Extents
+pub mod Halting
 pub mod Limits
-pub mod Linears
 pub mod Members
 pub mod Multiples
+pub mod OwnNames
 pub mod Pairs
-pub mod Weight
+pub mod Rooms
+pub mod Roots
+pub mod Runs
+pub mod Stacks

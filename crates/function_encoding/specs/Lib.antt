@@ -1,3 +1,10 @@
+pub mod Actions
 pub mod Counted
+pub mod Encoded
+pub mod Instructions
 pub mod Members
 pub mod Ranged
+pub mod Refusals
+pub mod Room
+pub mod Stops
+pub mod Weight

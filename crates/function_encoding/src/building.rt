@@ -1,8 +1,8 @@
 // Formulas of the calculus put together.
 
-ghost use Rattle.std.specs.Prelude.{◌≡◌, IfOk, List, [], ◌∷◌, ◌++◌};
+ghost use Rattle.std.specs.Prelude.{◌≡◌, cond, IfOk, List, [], ◌∷◌};
 ghost use Rattle.linear_term.specs.Linear as linear;
-ghost use Rattle.formula.specs.Form.{conjunction, disjunction, universal, differs, forms};
+ghost use Rattle.formula.specs.Form.{conjunction, disjunction, universal, differs, fails, forms, holds};
 ghost use Rattle.formula.specs.Tree.{form, forms_of};
 ghost use Rattle.encoding.specs.Encoding as encoding;
 
@@ -104,11 +104,13 @@ pub fn behind_graph(
     Ok(Core::Forall(Boxed::new(alloc, cases)?))
 }
 
-/// The names with one more.
-pub fn with_name(alloc: Global, names: &[u32], n: u32) -> Result<Items<u32>, Memory>
-    ensures { IfOk result (λ all. all ≡ names.now ++ n ∷ []) }
+/// The predicate at the terms with plus, its negation with minus.
+#[tactic(auto, using(formula::proofs::Building::formed))]
+pub fn signed_predicate(plus: bool, p: u32, terms: Items<Term>) -> Core
+    ensures { form result ≡ cond plus (holds p terms) (fails p terms) }
 {
-    let mut all = Items::from_slice(alloc, names)?;
-    all.push(n)?;
-    Ok(all)
+    if plus {
+        return Core::Pred(p, terms);
+    }
+    Core::NotPred(p, terms)
 }

@@ -16,7 +16,7 @@ pub struct Extent {
 }
 
 /// That of no formula at all.
-const NOTHING: Extent = Extent {
+pub const NOTHING: Extent = Extent {
     nodes: 0,
     levels: 0,
 };
@@ -28,7 +28,7 @@ const LEAF: Extent = Extent {
 };
 
 /// A formula beside others.
-fn beside(a: Extent, b: Extent) -> Extent
+pub fn beside(a: Extent, b: Extent) -> Extent
     ensures { counted result ≡ extents_of.beside (counted a) (counted b) }
 {
     Extent {

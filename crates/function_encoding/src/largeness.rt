@@ -35,7 +35,7 @@ fn below(e: Extent, quantifiers: u64) -> Extent
 }
 
 /// Whether nodes or levels pass their limit.
-fn exceeds(e: Extent) -> bool
+pub fn exceeds(e: Extent) -> bool
     ensures { result ≡ (nat_lt 1000000 e.nodes || nat_lt 2000 e.levels) }
 {
     MOST_NODES < e.nodes || MOST_LEVELS < e.levels

@@ -7,37 +7,6 @@ ghost use Rattle.function_encoding.specs.Members as members;
 
 use formula::TypedTerm;
 
-/// Whether the term has no call, condition, absolute value, minimum or maximum.
-#[cycle(plain)]
-pub fn is_plain(term: &TypedTerm) -> bool
-    ensures { result ≡ members.is_plain (expression term.now) }
-{
-    match term {
-        TypedTerm::Number(_) => true,
-        TypedTerm::Name(_) => true,
-        TypedTerm::Apply(_, _) => false,
-        TypedTerm::Minus(t) => is_plain(t.get()),
-        TypedTerm::Sum(ts) => are_plain(ts.as_slice()),
-        TypedTerm::Product(s, t) => is_plain(s.get()) && is_plain(t.get()),
-        TypedTerm::If(_, _, _) => false,
-        TypedTerm::Abs(_) => false,
-        TypedTerm::Min(_, _) => false,
-        TypedTerm::Max(_, _) => false,
-    }
-}
-
-#[cycle(plain)]
-fn are_plain(terms: &[TypedTerm]) -> bool
-    ensures { result ≡ members.are_plain (expressions_of terms.now) }
-{
-    for t in terms {
-        if !is_plain(t) {
-            return false;
-        }
-    }
-    true
-}
-
 /// Whether the term is built of numbers alone.
 #[cycle(numeric)]
 pub fn is_numeric(term: &TypedTerm) -> bool

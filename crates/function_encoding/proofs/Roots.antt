@@ -1,0 +1,105 @@
+-- The encoding of a problem: numbers in the range, room for all names, and what the laws say of its formula.
+use Rattle.std.proofs.Common.{◌≡◌, ◌↔◌, ℕ, suc, ◌+◌, ◌≤◌, ℤ, Bool, true, false, ◌||◌, nat_lt, List, length, Result, Ok, Err, IsErrAnd, sym, ap, subst, arith}
+use Rattle.std.proofs.lemmas.Grind.{common_steps}
+use Rattle.linear_term.specs.declared.range.TermFault.{TermFault}
+use Rattle.linear_term.specs.declared.range.TermFault.TheVariants as term_fault
+use Rattle.typed_formula.specs.Formula.{Formula, Formulas, Expression, Expressions, formula, constant, compares, applies, negation, every, some, implies, iff, for_all, for_some, part, no_formula, and_formula, number, name, call, minus, total, product, choice, absolute, lesser, greater, no_expression, and_expression}
+use Rattle.typed_formula.specs.Truth.{Meaning}
+use Rattle.purse.specs.Trace.{Traced, capped}
+use Rattle.purse.proofs.Charging.{worked_value}
+use Rattle.pri_typing.specs.declared.problem.Problem.{Problem}
+use Rattle.pri_typing.specs.Everywhere.{Everywhere, AllEverywhere, TermEverywhere, TermsEverywhere}
+use Rattle.pri_typing.specs.Problems.{Holds, IsPure}
+use Rattle.pri_typing.specs.WellFormed.{IsWellFormed, IsNumberRanged, of_terms}
+use Rattle.formula.specs.declared.calculus.Core.{Core}
+use Rattle.formula.specs.Form.{Form, FormTruth, IsFormOver, is_pure}
+use Rattle.formula.specs.Made.{Made}
+use Rattle.formula.specs.Sizes.{size, depth}
+use Rattle.formula.specs.Tree.{form}
+use Rattle.encoding.specs.Extent.{Extent, measured, extent}
+use Rattle.encoding.specs.Problems.{constants, problem_root, is_large}
+use Rattle.encoding.proofs.Problems.{holds_is, pure_is, root_over}
+use Rattle.function_encoding.specs.Encoded.{Encodes}
+use Rattle.function_encoding.specs.Ranged.{IsRanged, AreRanged, IsTermRanged, AreTermsRanged}
+use Rattle.function_encoding.specs.Refusals.{refusal_of}
+use Rattle.function_encoding.specs.Room.{HasRoom}
+use Rattle.function_encoding.specs.declared.answer.EncodeRefusal.{EncodeRefusal}
+use Rattle.function_encoding.proofs.Limits.{problem_extent}
+
+mutual
+  pub ranged_of : (n : ℕ) (f : Formula) → Everywhere (of_terms IsNumberRanged) n f → IsRanged f
+  ranged_of n (constant b) h = tt
+  ranged_of n (compares r s t) h = (term_ranged n s h.1, term_ranged n t h.2)
+  ranged_of n (applies p ts) h = terms_ranged n ts h.1
+  ranged_of n (negation f) h = ranged_of n f h.1
+  ranged_of n (every fs) h = all_ranged n fs h.1
+  ranged_of n (some fs) h = all_ranged n fs h.1
+  ranged_of n (implies f g) h = (ranged_of n f h.1, ranged_of n g h.2)
+  ranged_of n (iff f g) h = (ranged_of n f h.1, ranged_of n g h.2)
+  ranged_of n (for_all f) h = ranged_of (suc n) f h.1
+  ranged_of n (for_some f) h = ranged_of (suc n) f h.1
+  ranged_of n (part k f) h = ranged_of n f h.1
+
+  all_ranged : (n : ℕ) (fs : Formulas) → AllEverywhere (of_terms IsNumberRanged) n fs → AreRanged fs
+  all_ranged n no_formula h = tt
+  all_ranged n (and_formula f fs) h = (ranged_of n f h.0, all_ranged n fs h.1)
+
+  term_ranged : (n : ℕ) (t : Expression) → TermEverywhere (of_terms IsNumberRanged) n t → IsTermRanged t
+  term_ranged n (number v) h = h
+  term_ranged n (name x) h = tt
+  term_ranged n (call f ts) h = terms_ranged n ts h.1
+  term_ranged n (minus t) h = term_ranged n t h.1
+  term_ranged n (total ts) h = terms_ranged n ts h.1
+  term_ranged n (product s t) h = (term_ranged n s h.1, term_ranged n t h.2)
+  term_ranged n (choice f s t) h = (ranged_of n f h.1, term_ranged n s h.2, term_ranged n t h.3)
+  term_ranged n (absolute t) h = term_ranged n t h.1
+  term_ranged n (lesser s t) h = (term_ranged n s h.1, term_ranged n t h.2)
+  term_ranged n (greater s t) h = (term_ranged n s h.1, term_ranged n t h.2)
+
+  terms_ranged : (n : ℕ) (ts : Expressions) → TermsEverywhere (of_terms IsNumberRanged) n ts → AreTermsRanged ts
+  terms_ranged n no_expression h = tt
+  terms_ranged n (and_expression t ts) h = (term_ranged n t h.0, terms_ranged n ts h.1)
+
+neither : (a b : Bool) → (a || b) ≡ false → b ≡ false
+neither true b h = absurd (cc)
+neither false b h = h
+
+not_deep : (d : ℕ) → nat_lt 2000 d ≡ false → d ≤ 2000
+not_deep d h = grind (arith, common_steps)
+
+-- what is not too large leaves room for all its names
+pub small_room : (n : ℕ) (f : Form) (e : Extent) → n ≤ 1000 → is_large f ≡ false → e.levels ≤ (measured f).levels → HasRoom n e
+small_room n f e few small le = let d = not_deep (depth f) (neither (nat_lt 1000000 (size f)) (nat_lt 2000 (depth f)) small) in omega arith
+
+levels_below : (k l : ℕ) → capped (k + l) ≤ 2000 → l ≤ capped (k + l)
+levels_below k l h = omega arith
+
+pub problem_room : (p : Problem) → constants p ≤ 1000 → is_large (problem_root p).value ≡ false → HasRoom (constants p) (extent (formula p.formula))
+problem_room p few small =
+    let f = (problem_root p).value in
+    let e = extent (formula p.formula) in
+    let d : depth f ≤ 2000 = not_deep (depth f) (neither (nat_lt 1000000 (size f)) (nat_lt 2000 (depth f)) small) in
+    let m : capped (depth f) ≡ capped (length p.universals + e.levels) = ap (λ x. x.levels) (problem_extent p) in
+    omega arith
+
+-- an answer
+pub encodes_ok : (work : Traced Form) (f : Core) → is_large work.value ≡ false → Made form work (Ok f) → Encodes work (Ok f)
+encodes_ok work f small m = (small, m)
+
+pub encodes_err : (work : Traced Form) (e : TermFault) (r : Result Core EncodeRefusal) → is_large work.value ≡ false → Made form work (Err e) → IsErrAnd r (λ x. x ≡ refusal_of e) → Encodes work r
+encodes_err work e (Ok x) small m h = absurd h
+encodes_err work (term_fault.Overflow p) (Err x) small m h = subst (λ z. Encodes work (Err z)) (sym h) (small, m)
+encodes_err work term_fault.Memory (Err x) small m h = subst (λ z. Encodes work (Err z)) (sym h) tt
+
+-- the formula that was made is the value
+pub made_value : {work : Traced Form} {f : Core} → Made form work (Ok f) → form f ≡ work.value
+made_value m = worked_value m.works
+
+pub root_truth : (p : Problem) (f : Core) → IsWellFormed p → form f ≡ (problem_root p).value → (w : Meaning) (v : List ℤ) → length v ≡ length p.existentials → FormTruth w (form f) v ↔ Holds w p v
+root_truth p f formed is w v l = subst (λ (g : Form). FormTruth w g v ↔ Holds w p v) (sym is) (holds_is w p v formed l)
+
+pub root_names : (p : Problem) (f : Core) → form f ≡ (problem_root p).value → IsFormOver (length p.existentials) (form f)
+root_names p f is = subst (IsFormOver (length p.existentials)) (sym is) (root_over p)
+
+pub root_pure : (p : Problem) (f : Core) → form f ≡ (problem_root p).value → (is_pure (form f) ≡ true) ↔ IsPure p
+root_pure p f is = subst (λ g. (is_pure g ≡ true) ↔ IsPure p) (sym is) (pure_is p)

@@ -1,0 +1,385 @@
+use Rattle.std.proofs.Common.{◌≡◌, suc, ◌+◌, not, [], ◌∷◌, ◌++◌, drop, reverse, refl, sym, ap, ◌∙◌, subst, arith}
+use Rattle.std.specs.Bool.{beq}
+use Rattle.linear_term.specs.Linear as linear
+use Rattle.typed_formula.specs.Formula.{formula, formulas_of, expression, expressions_of, applies, negation, every, some, implies, iff, for_all, for_some, part}
+use Rattle.typed_formula.proofs.Folds.{formula-Truth, formula-Rel, formula-Pred, formula-Not, formula-And, formula-Or, formula-Implies, formula-Iff, formula-Forall, formula-Exists, formula-Part}
+use Rattle.purse.specs.Trace.{just}
+use Rattle.formula.specs.Form.{conjunction}
+use Rattle.formula.specs.Made.{Made}
+use Rattle.formula.specs.Tree.{form, forms_of}
+use Rattle.formula.proofs.Making.{made_ok, made_err, made_just, made_memory, left_made, left_err}
+use Rattle.encoding.specs.Encoding.{all_encoded, junction, related}
+use Rattle.encoding.specs.Extent.{above_two, extent, extents, leaf}
+use Rattle.function_encoding.specs.Instructions.{actions_of}
+use Rattle.function_encoding.specs.Ranged.{IsRanged}
+use Rattle.function_encoding.specs.Room.{HasRoom, extent_left}
+use Rattle.function_encoding.specs.Stops as stops
+use Rattle.function_encoding.specs.Stops.{Halts, IsTestRanged, test_extent, test_weight}
+use Rattle.function_encoding.specs.Weight.{weight, weights, weight_left}
+use Rattle.function_encoding.proofs.Encodings.{formula_as, room_above, room_two, room_both, room_under, rest_all, rest_next, rest_pushed, rest_end, item_ranged, item_room, item_weight, relation_ready, predicate_ready, relation_made, predicate_made, bound_as, run_as, halt_made, made_same}
+use Rattle.function_encoding.proofs.encoder.+encode.Goals as goal
+
+pub encoded-run-requires : goal.encoded-run-requires
+encoded-run-requires t c =
+    let same = (ap formula c.in-Rel.is ∙ formula-Rel c.in-Rel.r c.in-Rel.s c.in-Rel.t) in
+    let measure : weight (formula c.args.f.now) ≡ t = c.decreases in
+    let is = ap weight same in
+    let ranged = subst IsRanged same c.requires.ranged in
+    let room = subst (λ z. HasRoom c.args.n (extent z)) same c.requires.room in
+    let ready = relation_ready (expression c.in-Rel.s) (expression c.in-Rel.t) c.signed.result c.in-Rel.r (actions_of c.as_slice.result.now) c.args.n (ap actions_of c.as_slice.ensures ∙ c.in_ok-code-in-Rel.ensures) ranged room in
+    let less = ready.0 in
+    (omega (arith, is, measure, less), (ready.1, ready.2))
+
+pub encoded-returns-in_err-code-in-Rel : goal.encoded-returns-in_err-code-in-Rel
+encoded-returns-in_err-code-in-Rel t c = made_memory form _ c.from_residual.ensures.1
+
+pub encoded-returns-in_ok-code-in-Rel : goal.encoded-returns-in_ok-code-in-Rel
+encoded-returns-in_ok-code-in-Rel t c =
+    formula_as _ _ _ _ _ _ (ap formula c.in-Rel.is ∙ formula-Rel c.in-Rel.r c.in-Rel.s c.in-Rel.t)
+    (relation_made c.args.at.now c.args.n c.args.plus c.in-Rel.r c.signed.result (expression c.in-Rel.s) (expression c.in-Rel.t) (actions_of c.as_slice.result.now) _ c.run.result c.signed.ensures
+    (ap actions_of c.as_slice.ensures ∙ c.in_ok-code-in-Rel.ensures) c.new-in-Rel.ensures c.run.ensures)
+
+pub encoded-run-requires-in-Pred : goal.encoded-run-requires-in-Pred
+encoded-run-requires-in-Pred t c =
+    let same = (ap formula c.in-Pred.is ∙ formula-Pred c.in-Pred.p c.in-Pred.ts ∙ ap (λ l. applies c.in-Pred.p (expressions_of l)) (sym c.as_slice-in-Pred.ensures)) in
+    let measure : weight (formula c.args.f.now) ≡ t = c.decreases in
+    let is = ap weight same in
+    let ranged = subst IsRanged same c.requires.ranged in
+    let room = subst (λ z. HasRoom c.args.n (extent z)) same c.requires.room in
+    let ready = predicate_ready (expressions_of c.as_slice-in-Pred.result.now) c.args.plus c.in-Pred.p (actions_of c.as_slice-in-Pred-2.result.now) c.args.n (ap actions_of c.as_slice-in-Pred-2.ensures ∙ c.in_ok-code-in-Pred.ensures) ranged room in
+    let less = ready.0 in
+    (omega (arith, is, measure, less), (ready.1, ready.2))
+
+pub encoded-returns-in_err-code-in-Pred : goal.encoded-returns-in_err-code-in-Pred
+encoded-returns-in_err-code-in-Pred t c = made_memory form _ c.from_residual-in_err-code-in-Pred.ensures.1
+
+pub encoded-returns-in_ok-code-in-Pred : goal.encoded-returns-in_ok-code-in-Pred
+encoded-returns-in_ok-code-in-Pred t c =
+    formula_as _ _ _ _ _ _ (ap formula c.in-Pred.is ∙ formula-Pred c.in-Pred.p c.in-Pred.ts ∙ ap (λ l. applies c.in-Pred.p (expressions_of l)) (sym c.as_slice-in-Pred.ensures))
+    (predicate_made c.args.at.now c.args.n c.args.plus c.in-Pred.p (expressions_of c.as_slice-in-Pred.result.now) (actions_of c.as_slice-in-Pred-2.result.now) _ c.run-in-Pred.result
+    (ap actions_of c.as_slice-in-Pred-2.ensures ∙ c.in_ok-code-in-Pred.ensures) c.new-in-Pred.ensures c.run-in-Pred.ensures)
+
+pub encoded-encoded-requires : goal.encoded-encoded-requires
+encoded-encoded-requires t c =
+    let same = (ap formula c.in-Not.is ∙ formula-Not _ ∙ ap (λ z. negation (formula z)) (sym c.get.ensures)) in
+    let measure : weight (formula c.args.f.now) ≡ t = c.decreases in
+    let is = ap weight same in
+    let ranged = subst IsRanged same c.requires.ranged in
+    let room = subst (λ z. HasRoom c.args.n (extent z)) same c.requires.room in
+    (omega (arith, is, measure), (ranged, room))
+
+pub encoded-returns-in-Not : goal.encoded-returns-in-Not
+encoded-returns-in-Not t c = formula_as _ _ _ _ _ _ (ap formula c.in-Not.is ∙ formula-Not _ ∙ ap (λ z. negation (formula z)) (sym c.get.ensures)) c.encoded.ensures
+
+pub encoded-encoded-requires-in-Part : goal.encoded-encoded-requires-in-Part
+encoded-encoded-requires-in-Part t c =
+    let same = (ap formula c.in-Part.is ∙ formula-Part _ _ ∙ ap (λ z. part c.in-Part.field-0 (formula z)) (sym c.get-in-Part.ensures)) in
+    let measure : weight (formula c.args.f.now) ≡ t = c.decreases in
+    let is = ap weight same in
+    let ranged = subst IsRanged same c.requires.ranged in
+    let room = subst (λ z. HasRoom c.args.n (extent z)) same c.requires.room in
+    (omega (arith, is, measure), (ranged, room))
+
+pub encoded-returns-in-Part : goal.encoded-returns-in-Part
+encoded-returns-in-Part t c = formula_as _ _ _ _ _ _ (ap formula c.in-Part.is ∙ formula-Part _ _ ∙ ap (λ z. part c.in-Part.field-0 (formula z)) (sym c.get-in-Part.ensures)) c.encoded-in-Part.ensures
+
+pub encoded-all_encoded-requires : goal.encoded-all_encoded-requires
+encoded-all_encoded-requires t c =
+    let same = (ap formula c.in-And.is ∙ formula-And _ ∙ ap (λ l. every (formulas_of l)) (sym c.as_slice-in-And.ensures)) in
+    let measure : weight (formula c.args.f.now) ≡ t = c.decreases in
+    let is = ap weight same in
+    let ranged = subst IsRanged same c.requires.ranged in
+    let room = subst (λ z. HasRoom c.args.n (extent z)) same c.requires.room in
+    (omega (arith, is, measure), (ranged, room_under c.args.n (extents (formulas_of c.as_slice-in-And.result.now)) room))
+
+pub encoded-returns-in_err-all_encoded-in-And : goal.encoded-returns-in_err-all_encoded-in-And
+encoded-returns-in_err-all_encoded-in-And t c =
+    formula_as _ _ _ _ _ _ (ap formula c.in-And.is ∙ formula-And _ ∙ ap (λ l. every (formulas_of l)) (sym c.as_slice-in-And.ensures))
+    (made_err forms_of form _ (λ gs. just (junction c.args.plus gs)) _ c.from_residual-in_err-all_encoded-in-And.ensures.1 c.in_err-all_encoded-in-And.ensures)
+
+pub encoded-returns-in_ok-all_encoded-in-And : goal.encoded-returns-in_ok-all_encoded-in-And
+encoded-returns-in_ok-all_encoded-in-And t c =
+    formula_as _ _ _ _ _ _ (ap formula c.in-And.is ∙ formula-And _ ∙ ap (λ l. every (formulas_of l)) (sym c.as_slice-in-And.ensures))
+    (made_ok forms_of form _ (λ gs. just (junction c.args.plus gs)) c.in_ok-all_encoded-in-And.ensures (made_just form _ _ c.junction-in-And.ensures))
+
+pub encoded-all_encoded-requires-in-Or : goal.encoded-all_encoded-requires-in-Or
+encoded-all_encoded-requires-in-Or t c =
+    let same = (ap formula c.in-Or.is ∙ formula-Or _ ∙ ap (λ l. some (formulas_of l)) (sym c.as_slice-in-Or.ensures)) in
+    let measure : weight (formula c.args.f.now) ≡ t = c.decreases in
+    let is = ap weight same in
+    let ranged = subst IsRanged same c.requires.ranged in
+    let room = subst (λ z. HasRoom c.args.n (extent z)) same c.requires.room in
+    (omega (arith, is, measure), (ranged, room_under c.args.n (extents (formulas_of c.as_slice-in-Or.result.now)) room))
+
+pub encoded-returns-in_err-all_encoded-in-Or : goal.encoded-returns-in_err-all_encoded-in-Or
+encoded-returns-in_err-all_encoded-in-Or t c =
+    formula_as _ _ _ _ _ _ (ap formula c.in-Or.is ∙ formula-Or _ ∙ ap (λ l. some (formulas_of l)) (sym c.as_slice-in-Or.ensures))
+    (made_err forms_of form _ (λ gs. just (junction (not c.args.plus) gs)) _ c.from_residual-in_err-all_encoded-in-Or.ensures.1 c.in_err-all_encoded-in-Or.ensures)
+
+pub encoded-returns-in_ok-all_encoded-in-Or : goal.encoded-returns-in_ok-all_encoded-in-Or
+encoded-returns-in_ok-all_encoded-in-Or t c =
+    formula_as _ _ _ _ _ _ (ap formula c.in-Or.is ∙ formula-Or _ ∙ ap (λ l. some (formulas_of l)) (sym c.as_slice-in-Or.ensures))
+    (made_ok forms_of form _ (λ gs. just (junction (not c.args.plus) gs)) c.in_ok-all_encoded-in-Or.ensures (made_just form _ _ c.junction-in-Or.ensures))
+
+pub encoded-implied-requires : goal.encoded-implied-requires
+encoded-implied-requires t c =
+    let same = (ap formula c.in-Implies.is ∙ formula-Implies _ _ ∙ (λ i. implies (formula (sym c.get-in-Implies.ensures i)) (formula (sym c.get-in-Implies-2.ensures i)))) in
+    let measure : weight (formula c.args.f.now) ≡ t = c.decreases in
+    let is = ap weight same in
+    let ranged = subst IsRanged same c.requires.ranged in
+    let room = subst (λ z. HasRoom c.args.n (extent z)) same c.requires.room in
+    (omega (arith, is, measure), (ranged, room))
+
+pub encoded-returns-in-Implies : goal.encoded-returns-in-Implies
+encoded-returns-in-Implies t c = formula_as _ _ _ _ _ _ (ap formula c.in-Implies.is ∙ formula-Implies _ _ ∙ (λ i. implies (formula (sym c.get-in-Implies.ensures i)) (formula (sym c.get-in-Implies-2.ensures i)))) c.implied.ensures
+
+pub encoded-equivalent-requires : goal.encoded-equivalent-requires
+encoded-equivalent-requires t c =
+    let same = (ap formula c.in-Iff.is ∙ formula-Iff _ _ ∙ (λ i. iff (formula (sym c.get-in-Iff.ensures i)) (formula (sym c.get-in-Iff-2.ensures i)))) in
+    let measure : weight (formula c.args.f.now) ≡ t = c.decreases in
+    let is = ap weight same in
+    let ranged = subst IsRanged same c.requires.ranged in
+    let room = subst (λ z. HasRoom c.args.n (extent z)) same c.requires.room in
+    (omega (arith, is, measure), (ranged, room))
+
+pub encoded-returns-in-Iff : goal.encoded-returns-in-Iff
+encoded-returns-in-Iff t c = formula_as _ _ _ _ _ _ (ap formula c.in-Iff.is ∙ formula-Iff _ _ ∙ (λ i. iff (formula (sym c.get-in-Iff.ensures i)) (formula (sym c.get-in-Iff-2.ensures i)))) c.equivalent.ensures
+
+pub encoded-bound-requires : goal.encoded-bound-requires
+encoded-bound-requires t c =
+    let same = (ap formula c.in-Forall.is ∙ formula-Forall _ ∙ ap (λ z. for_all (formula z)) (sym c.get-in-Forall.ensures)) in
+    let measure : weight (formula c.args.f.now) ≡ t = c.decreases in
+    let is = ap weight same in
+    let ranged = subst IsRanged same c.requires.ranged in
+    let room = subst (λ z. HasRoom c.args.n (extent z)) same c.requires.room in
+    (omega (arith, is, measure), (ranged, room))
+
+pub encoded-returns-in-Forall : goal.encoded-returns-in-Forall
+encoded-returns-in-Forall t c = formula_as _ _ _ _ _ _ (ap formula c.in-Forall.is ∙ formula-Forall _ ∙ ap (λ z. for_all (formula z)) (sym c.get-in-Forall.ensures)) c.bound.ensures
+
+pub encoded-bound-requires-in-Exists : goal.encoded-bound-requires-in-Exists
+encoded-bound-requires-in-Exists t c =
+    let same = (ap formula c.in-Exists.is ∙ formula-Exists _ ∙ ap (λ z. for_some (formula z)) (sym c.get-in-Exists.ensures)) in
+    let measure : weight (formula c.args.f.now) ≡ t = c.decreases in
+    let is = ap weight same in
+    let ranged = subst IsRanged same c.requires.ranged in
+    let room = subst (λ z. HasRoom c.args.n (extent z)) same c.requires.room in
+    (omega (arith, is, measure), (ranged, room))
+
+pub encoded-returns-in-Exists : goal.encoded-returns-in-Exists
+encoded-returns-in-Exists t c = formula_as _ _ _ _ _ _ (ap formula c.in-Exists.is ∙ formula-Exists _ ∙ ap (λ z. for_some (formula z)) (sym c.get-in-Exists.ensures)) c.bound-in-Exists.ensures
+
+pub encoded-returns-in-Truth : goal.encoded-returns-in-Truth
+encoded-returns-in-Truth t c = formula_as _ _ _ _ _ _ (ap formula c.in-Truth.is ∙ formula-Truth c.in-Truth.b) (made_just form _ _ (c.junction.ensures ∙ ap (λ l. junction (beq c.in-Truth.b c.args.plus) (forms_of l)) c.new.ensures))
+
+pub all_encoded-loop-f-init : goal.all_encoded-loop-f-init
+all_encoded-loop-f-init t c = (rest_all c.args.at.now c.args.n c.args.plus (formulas_of c.args.formulas.now) c.new-out.result c.new-out.ensures, c.requires.ranged, c.requires.room, omega arith)
+
+pub all_encoded-encoded-requires : goal.all_encoded-encoded-requires
+all_encoded-encoded-requires t c =
+    let measure : weights (formulas_of c.args.formulas.now) + 1 ≡ t = c.decreases in
+    let less = (item_weight c.args.formulas.now c.loop-f.f-index c.f-item.result (weights (formulas_of c.args.formulas.now)) (omega arith) c.f-item.is c.loop-f.invariant.3).0 in
+    (omega (arith, measure, less), ((item_ranged c.args.formulas.now c.loop-f.f-index c.f-item.result (omega arith) c.f-item.is c.loop-f.invariant.1).0, (item_room c.args.n c.args.formulas.now c.loop-f.f-index c.f-item.result (omega arith) c.f-item.is c.loop-f.invariant.2).0))
+
+pub all_encoded-returns-in_err-encoded : goal.all_encoded-returns-in_err-encoded
+all_encoded-returns-in_err-encoded t c = left_err form forms_of _ _ _ c.from_residual.ensures.1 (rest_next c.args.at.now c.args.n c.args.plus c.args.formulas.now c.loop-f.f-index c.f-item.result c.loop-f.out (all_encoded c.args.at.now c.args.n c.args.plus (formulas_of c.args.formulas.now)) (omega arith) c.f-item.is c.loop-f.invariant.0) c.in_err-encoded.ensures
+
+pub all_encoded-returns-in_err-push : goal.all_encoded-returns-in_err-push
+all_encoded-returns-in_err-push t c = made_memory forms_of _ c.from_residual-in_err-push.ensures.1
+
+pub all_encoded-loop-f-preserved : goal.all_encoded-loop-f-preserved
+all_encoded-loop-f-preserved t c = (
+  rest_pushed c.args.at.now c.args.n c.args.plus (formulas_of (drop (c.loop-f.f-index + 1) c.args.formulas.now)) c.loop-f.out _ _ (all_encoded c.args.at.now c.args.n c.args.plus (formulas_of c.args.formulas.now)) c.in_ok-push.ensures.ok (left_made form _ _ (rest_next c.args.at.now c.args.n c.args.plus c.args.formulas.now c.loop-f.f-index c.f-item.result c.loop-f.out (all_encoded c.args.at.now c.args.n c.args.plus (formulas_of c.args.formulas.now)) (omega arith) c.f-item.is c.loop-f.invariant.0) c.in_ok-encoded.ensures),
+  (item_ranged c.args.formulas.now c.loop-f.f-index c.f-item.result (omega arith) c.f-item.is c.loop-f.invariant.1).1,
+  (item_room c.args.n c.args.formulas.now c.loop-f.f-index c.f-item.result (omega arith) c.f-item.is c.loop-f.invariant.2).1,
+  (item_weight c.args.formulas.now c.loop-f.f-index c.f-item.result (weights (formulas_of c.args.formulas.now)) (omega arith) c.f-item.is c.loop-f.invariant.3).1,
+)
+
+pub all_encoded-returns : goal.all_encoded-returns
+all_encoded-returns t c = rest_end c.args.at.now c.args.n c.args.plus c.args.formulas.now c.loop-f.f-index c.loop-f.out (all_encoded c.args.at.now c.args.n c.args.plus (formulas_of c.args.formulas.now)) (omega arith) c.loop-f.invariant.0
+
+pub implied-encoded-requires : goal.implied-encoded-requires
+implied-encoded-requires t c =
+    let measure : weight (formula c.args.g.now) + weight (formula c.args.h.now) + 1 ≡ t = c.decreases in
+    (omega (arith, measure), (c.requires.ranged.0, (room_two c.args.n (extent (formula c.args.g.now)) (extent (formula c.args.h.now)) c.requires.room).0))
+
+pub implied-encoded-requires-2 : goal.implied-encoded-requires-2
+implied-encoded-requires-2 t c =
+    let measure : weight (formula c.args.g.now) + weight (formula c.args.h.now) + 1 ≡ t = c.decreases in
+    (omega (arith, measure), (c.requires.ranged.1, (room_two c.args.n (extent (formula c.args.g.now)) (extent (formula c.args.h.now)) c.requires.room).1))
+
+pub equivalent-encoded-requires : goal.equivalent-encoded-requires
+equivalent-encoded-requires t c =
+    let measure : weight (formula c.args.g.now) + weight (formula c.args.h.now) + 1 ≡ t = c.decreases in
+    (omega (arith, measure), (c.requires.ranged.0, (room_both c.args.n (extent (formula c.args.g.now)) (extent (formula c.args.h.now)) c.requires.room).0))
+
+pub equivalent-encoded-requires-2 : goal.equivalent-encoded-requires-2
+equivalent-encoded-requires-2 t c =
+    let measure : weight (formula c.args.g.now) + weight (formula c.args.h.now) + 1 ≡ t = c.decreases in
+    (omega (arith, measure), (c.requires.ranged.1, (room_both c.args.n (extent (formula c.args.g.now)) (extent (formula c.args.h.now)) c.requires.room).1))
+
+pub equivalent-encoded-requires-3 : goal.equivalent-encoded-requires-3
+equivalent-encoded-requires-3 t c =
+    let measure : weight (formula c.args.g.now) + weight (formula c.args.h.now) + 1 ≡ t = c.decreases in
+    (omega (arith, measure), (c.requires.ranged.0, (room_both c.args.n (extent (formula c.args.g.now)) (extent (formula c.args.h.now)) c.requires.room).0))
+
+pub equivalent-encoded-requires-4 : goal.equivalent-encoded-requires-4
+equivalent-encoded-requires-4 t c =
+    let measure : weight (formula c.args.g.now) + weight (formula c.args.h.now) + 1 ≡ t = c.decreases in
+    (omega (arith, measure), (c.requires.ranged.1, (room_both c.args.n (extent (formula c.args.g.now)) (extent (formula c.args.h.now)) c.requires.room).1))
+
+pub implied-returns-in_err-first : goal.implied-returns-in_err-first
+implied-returns-in_err-first t c = (made_err form form _ _ _ c.from_residual.ensures.1 c.in_err-first.ensures)
+
+pub implied-returns-in_err-second : goal.implied-returns-in_err-second
+implied-returns-in_err-second t c = (made_ok form form _ _ c.in_ok-first.ensures (made_err form form _ _ _ c.from_residual-in_err-second.ensures.1 c.in_err-second.ensures))
+
+pub implied-returns-in_err-pair : goal.implied-returns-in_err-pair
+implied-returns-in_err-pair t c = made_memory form _ c.from_residual-in_err-pair.ensures.1
+
+pub implied-returns : goal.implied-returns
+implied-returns t c = (made_ok form form _ _ c.in_ok-first.ensures (made_ok form form _ _ c.in_ok-second.ensures (made_just form _ _ (c.junction.ensures ∙ ap (λ l. junction (not c.args.plus) (forms_of l)) c.in_ok-pair.ensures))))
+
+pub equivalent-returns-in_err-first : goal.equivalent-returns-in_err-first
+equivalent-returns-in_err-first t c = (made_err form form _ _ _ c.from_residual.ensures.1 c.in_err-first.ensures)
+
+pub equivalent-returns-in_err-second : goal.equivalent-returns-in_err-second
+equivalent-returns-in_err-second t c = (made_ok form form _ _ c.in_ok-first.ensures (made_err form form _ _ _ c.from_residual-in_err-second.ensures.1 c.in_err-second.ensures))
+
+pub equivalent-returns-in_err-third : goal.equivalent-returns-in_err-third
+equivalent-returns-in_err-third t c = (made_ok form form _ _ c.in_ok-first.ensures (made_ok form form _ _ c.in_ok-second.ensures (made_err form form _ _ _ c.from_residual-in_err-third.ensures.1 c.in_err-third.ensures)))
+
+pub equivalent-returns-in_err-fourth : goal.equivalent-returns-in_err-fourth
+equivalent-returns-in_err-fourth t c = (made_ok form form _ _ c.in_ok-first.ensures (made_ok form form _ _ c.in_ok-second.ensures (made_ok form form _ _ c.in_ok-third.ensures (made_err form form _ _ _ c.from_residual-in_err-fourth.ensures.1 c.in_err-fourth.ensures))))
+
+pub equivalent-returns-in_err-both_ways : goal.equivalent-returns-in_err-both_ways
+equivalent-returns-in_err-both_ways t c = made_memory form _ c.from_residual-in_err-both_ways.ensures.1
+
+pub equivalent-returns : goal.equivalent-returns
+equivalent-returns t c = (made_ok form form _ _ c.in_ok-first.ensures (made_ok form form _ _ c.in_ok-second.ensures (made_ok form form _ _ c.in_ok-third.ensures (made_ok form form _ _ c.in_ok-fourth.ensures (made_just form _ _ c.in_ok-both_ways.ensures)))))
+
+pub bound-returns-in_err-names : goal.bound-returns-in_err-names
+bound-returns-in_err-names t c = made_memory form _ c.from_residual.ensures.1
+
+pub bound-encoded-requires : goal.bound-encoded-requires
+bound-encoded-requires t c =
+    let measure : weight (formula c.args.g.now) + 1 ≡ t = c.decreases in
+    (omega (arith, measure), (c.requires.ranged, room_above c.args.n (extent (formula c.args.g.now)) c.requires.room))
+
+pub bound-returns-in_err-body : goal.bound-returns-in_err-body
+bound-returns-in_err-body t c = made_err form form _ _ _ c.from_residual-in_err-body.ensures.1 (bound_as (c.args.at.now ++ c.args.n ∷ []) c.as_slice.result.now (suc c.args.n) (c.args.n + 1) c.args.plus (formula c.args.g.now) _ (c.as_slice.ensures ∙ c.in_ok-names.ensures) (omega arith) c.in_err-body.ensures)
+
+pub bound-returns-in_err-quantified : goal.bound-returns-in_err-quantified
+bound-returns-in_err-quantified t c = made_memory form _ c.from_residual-in_err-quantified.ensures.1
+
+pub bound-returns : goal.bound-returns
+bound-returns t c = made_ok form form _ _ (bound_as (c.args.at.now ++ c.args.n ∷ []) c.as_slice.result.now (suc c.args.n) (c.args.n + 1) c.args.plus (formula c.args.g.now) _ (c.as_slice.ensures ∙ c.in_ok-names.ensures) (omega arith) c.in_ok-body.ensures) (made_just form _ _ c.in_ok-quantified.ensures)
+
+pub run-returns-in_err-stop : goal.run-returns-in_err-stop
+run-returns-in_err-stop t c = made_same _ c.from_residual.ensures.1 (c.in_err-stop.ensures.err c.args.n)
+
+pub run-graph-requires : goal.run-graph-requires
+run-graph-requires t c =
+    let measure : weight_left (actions_of c.args.code.now) + 2 ≡ t = c.decreases in
+    let halts = (subst (λ s. Halts c.args.at.now (actions_of c.args.code.now) (reverse c.args.stack) s (actions_of c.in_ok-stop.field-0.rest.now)) c.in-Graph.is c.in_ok-stop.ensures.ok) in
+    let less = halts.weight in
+    (omega (arith, measure, less), (halts.ranged.1, subst (HasRoom c.args.n) (sym halts.extent) c.requires.room))
+
+pub run-cases-requires : goal.run-cases-requires
+run-cases-requires t c =
+    let measure : weight_left (actions_of c.args.code.now) + 2 ≡ t = c.decreases in
+    let halts = (subst (λ s. Halts c.args.at.now (actions_of c.args.code.now) (reverse c.args.stack) s (actions_of c.in_ok-stop.field-0.rest.now)) c.in-Cases.is c.in_ok-stop.ensures.ok) in
+    let less = halts.weight in
+    (omega (arith, measure, less), (halts.ranged.0, (halts.ranged.1, subst (HasRoom c.args.n) (sym halts.extent) c.requires.room)))
+
+pub run-returns-in-Nothing : goal.run-returns-in-Nothing
+run-returns-in-Nothing t c = halt_made c.args.at.now (actions_of c.args.code.now) (reverse c.args.stack) _ (actions_of c.in_ok-stop.field-0.rest.now) c.args.n _ (subst (λ s. Halts c.args.at.now (actions_of c.args.code.now) (reverse c.args.stack) s (actions_of c.in_ok-stop.field-0.rest.now)) c.in-Nothing.is c.in_ok-stop.ensures.ok) (made_just form _ _ (c.junction.ensures ∙ ap (λ l. conjunction (forms_of l)) c.new.ensures))
+
+pub run-returns-in-Related : goal.run-returns-in-Related
+run-returns-in-Related t c = halt_made c.args.at.now (actions_of c.args.code.now) (reverse c.args.stack) _ (actions_of c.in_ok-stop.field-0.rest.now) c.args.n _ (subst (λ s. Halts c.args.at.now (actions_of c.args.code.now) (reverse c.args.stack) s (actions_of c.in_ok-stop.field-0.rest.now)) c.in-Related.is c.in_ok-stop.ensures.ok) c.related.ensures
+
+pub run-returns-in-Predicate : goal.run-returns-in-Predicate
+run-returns-in-Predicate t c = halt_made c.args.at.now (actions_of c.args.code.now) (reverse c.args.stack) _ (actions_of c.in_ok-stop.field-0.rest.now) c.args.n _ (subst (λ s. Halts c.args.at.now (actions_of c.args.code.now) (reverse c.args.stack) s (actions_of c.in_ok-stop.field-0.rest.now)) c.in-Predicate.is c.in_ok-stop.ensures.ok) (made_just form _ _ c.signed_predicate.ensures)
+
+pub run-returns-in-Graph : goal.run-returns-in-Graph
+run-returns-in-Graph t c = halt_made c.args.at.now (actions_of c.args.code.now) (reverse c.args.stack) _ (actions_of c.in_ok-stop.field-0.rest.now) c.args.n _ (subst (λ s. Halts c.args.at.now (actions_of c.args.code.now) (reverse c.args.stack) s (actions_of c.in_ok-stop.field-0.rest.now)) c.in-Graph.is c.in_ok-stop.ensures.ok) c.graph.ensures
+
+pub run-returns-in-Cases : goal.run-returns-in-Cases
+run-returns-in-Cases t c = halt_made c.args.at.now (actions_of c.args.code.now) (reverse c.args.stack) _ (actions_of c.in_ok-stop.field-0.rest.now) c.args.n _ (subst (λ s. Halts c.args.at.now (actions_of c.args.code.now) (reverse c.args.stack) s (actions_of c.in_ok-stop.field-0.rest.now)) c.in-Cases.is c.in_ok-stop.ensures.ok) c.cases.ensures
+
+pub graph-returns-in_err-stack : goal.graph-returns-in_err-stack
+graph-returns-in_err-stack t c = made_memory form _ c.from_residual.ensures.1
+
+pub graph-run-requires : goal.graph-run-requires
+graph-run-requires t c =
+    let measure : weight_left (actions_of c.args.code.now) + 3 ≡ t = c.decreases in
+    let left = extent_left (actions_of c.args.code.now) in
+    (omega (arith, measure), (c.requires.ranged, (room_two (c.args.n + 1) leaf left (room_above c.args.n (above_two leaf left) c.requires.room)).1))
+
+pub graph-returns-in_err-f : goal.graph-returns-in_err-f
+graph-returns-in_err-f t c = made_err form form _ _ _ c.from_residual-in_err-f.ensures.1 (run_as c.args.at.now (actions_of c.args.code.now) (suc c.args.n) (c.args.n + 1) (linear.name c.args.n ∷ reverse c.args.stack) (reverse c.in_ok-stack.stack) _ (omega arith) (c.in_ok-stack.ensures ∙ ap (λ z. z ∷ reverse c.args.stack) c.name.ensures) c.in_err-f.ensures)
+
+pub graph-returns-in_err-behind_graph : goal.graph-returns-in_err-behind_graph
+graph-returns-in_err-behind_graph t c = made_memory form _ c.from_residual-in_err-behind_graph.ensures.1
+
+pub graph-returns : goal.graph-returns
+graph-returns t c = made_ok form form _ _ (run_as c.args.at.now (actions_of c.args.code.now) (suc c.args.n) (c.args.n + 1) (linear.name c.args.n ∷ reverse c.args.stack) (reverse c.in_ok-stack.stack) _ (omega arith) (c.in_ok-stack.ensures ∙ ap (λ z. z ∷ reverse c.args.stack) c.name.ensures) c.in_ok-f.ensures) (made_just form _ _ c.in_ok-behind_graph.ensures)
+
+pub cases-tested-requires : goal.cases-tested-requires
+cases-tested-requires t c =
+    let measure : test_weight c.args.test.now + weight_left (actions_of c.args.code.now) + 3 ≡ t = c.decreases in
+    let room = room_both c.args.n (test_extent c.args.test.now) (extent_left (actions_of c.args.code.now)) c.requires.room in
+    (omega (arith, measure), (c.requires.test, room.0))
+
+pub cases-run-requires : goal.cases-run-requires
+cases-run-requires t c =
+    let measure : test_weight c.args.test.now + weight_left (actions_of c.args.code.now) + 3 ≡ t = c.decreases in
+    let room = room_both c.args.n (test_extent c.args.test.now) (extent_left (actions_of c.args.code.now)) c.requires.room in
+    (omega (arith, measure), (c.requires.ranged, room.1))
+
+pub cases-tested-requires-2 : goal.cases-tested-requires-2
+cases-tested-requires-2 t c =
+    let measure : test_weight c.args.test.now + weight_left (actions_of c.args.code.now) + 3 ≡ t = c.decreases in
+    let room = room_both c.args.n (test_extent c.args.test.now) (extent_left (actions_of c.args.code.now)) c.requires.room in
+    (omega (arith, measure), (c.requires.test, room.0))
+
+pub cases-run-requires-2 : goal.cases-run-requires-2
+cases-run-requires-2 t c =
+    let measure : test_weight c.args.test.now + weight_left (actions_of c.args.code.now) + 3 ≡ t = c.decreases in
+    let room = room_both c.args.n (test_extent c.args.test.now) (extent_left (actions_of c.args.code.now)) c.requires.room in
+    (omega (arith, measure), (c.requires.ranged, room.1))
+
+pub cases-returns-in_err-when : goal.cases-returns-in_err-when
+cases-returns-in_err-when t c = (made_err form form _ _ _ c.from_residual.ensures.1 c.in_err-when.ensures)
+
+pub cases-returns-in_err-one : goal.cases-returns-in_err-one
+cases-returns-in_err-one t c = (made_ok form form _ _ c.in_ok-when.ensures (made_err form form _ _ _ c.from_residual-in_err-one.ensures.1 c.in_err-one.ensures))
+
+pub cases-returns-in_err-unless : goal.cases-returns-in_err-unless
+cases-returns-in_err-unless t c = (made_ok form form _ _ c.in_ok-when.ensures (made_ok form form _ _ c.in_ok-one.ensures (made_err form form _ _ _ c.from_residual-in_err-unless.ensures.1 c.in_err-unless.ensures)))
+
+pub cases-returns-in_err-stack : goal.cases-returns-in_err-stack
+cases-returns-in_err-stack t c = (made_ok form form _ _ c.in_ok-when.ensures (made_ok form form _ _ c.in_ok-one.ensures (made_ok form form _ _ c.in_ok-unless.ensures (made_err form form _ _ _ c.from_residual-in_err-stack.ensures.1 (made_err (λ vs. reverse vs) form _ _ _ refl c.in_err-stack.ensures)))))
+
+pub cases-returns-in_err-other : goal.cases-returns-in_err-other
+cases-returns-in_err-other t c = (made_ok form form _ _ c.in_ok-when.ensures (made_ok form form _ _ c.in_ok-one.ensures (made_ok form form _ _ c.in_ok-unless.ensures (made_err form form _ _ _ c.from_residual-in_err-other.ensures.1 (made_ok (λ vs. reverse vs) form _ _ c.in_ok-stack.ensures c.in_err-other.ensures)))))
+
+pub cases-returns-in_err-two_cases : goal.cases-returns-in_err-two_cases
+cases-returns-in_err-two_cases t c = made_memory form _ c.from_residual-in_err-two_cases.ensures.1
+
+pub cases-returns : goal.cases-returns
+cases-returns t c = (made_ok form form _ _ c.in_ok-when.ensures (made_ok form form _ _ c.in_ok-one.ensures (made_ok form form _ _ c.in_ok-unless.ensures (made_ok form form _ _ (made_ok (λ vs. reverse vs) form _ _ c.in_ok-stack.ensures c.in_ok-other.ensures) (made_just form _ _ c.in_ok-two_cases.ensures)))))
+
+pub tested-encoded-requires : goal.tested-encoded-requires
+tested-encoded-requires t c =
+    let measure : test_weight c.args.test.now + 1 ≡ t = c.decreases in
+    let is = ap test_weight c.in-Formula.is in
+    (omega (arith, is, measure), (subst IsTestRanged c.in-Formula.is c.requires.ranged, subst (λ z. HasRoom c.args.n (test_extent z)) c.in-Formula.is c.requires.room))
+
+pub tested-returns-in-Formula : goal.tested-returns-in-Formula
+tested-returns-in-Formula t c = subst (λ z. Made form (stops.tested c.args.at.now c.args.n z c.args.plus) c.encoded.result) (sym c.in-Formula.is) c.encoded.ensures
+
+pub tested-returns-in-Relation : goal.tested-returns-in-Relation
+tested-returns-in-Relation t c =
+    subst (λ z. Made form (stops.tested c.args.at.now c.args.n z c.args.plus) c.related.result) (sym c.in-Relation.is)
+    (subst (λ q. Made form (related q c.in-Relation.s c.in-Relation.t) c.related.result) c.signed.ensures c.related.ensures)
