@@ -28,7 +28,6 @@ use Rattle.encoding.proofs.Extending.{IsRead, read_extends, read_bound, value_na
 use Rattle.formula.proofs.Stability.{form_stable}
 use Rattle.encoding.proofs.Cases.{iff_trans, moved, call_law, choice_law, absolute_law, lesser_law, greater_law}
 
-
 pub no_test : false ≡ true → ⊥
 no_test h = cc
 

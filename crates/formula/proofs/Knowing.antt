@@ -70,6 +70,20 @@ pub terms_all : (ts : List Linear) (i : ℕ) → length ts ≤ i → TermsBefore
 terms_all ts i le h = h.rest (subst (AllByRecursion IsReduced) (sym (drop_all ts i le)) tt)
 
 pub ruleset known = (
-  known_Eq, known_Neq, known_Geq, known_Pred, known_NotPred, known_NotFun, known_And, known_Or, known_Forall, known_Exists,
-  formulas_none, formulas_more, formulas_all, terms_none, terms_more, terms_all
+  known_Eq,
+  known_Neq,
+  known_Geq,
+  known_Pred,
+  known_NotPred,
+  known_NotFun,
+  known_And,
+  known_Or,
+  known_Forall,
+  known_Exists,
+  formulas_none,
+  formulas_more,
+  formulas_all,
+  terms_none,
+  terms_more,
+  terms_all,
 )

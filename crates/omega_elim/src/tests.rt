@@ -2,9 +2,9 @@
 // z are the names 0, 1 and 2.
 
 use super::bounded::{is_bounded, project};
-use performed_rules::splinter_count;
 use clause_set::{Clause, Literal, Ordered};
 use linear_term::{Place, Term, in_range};
+use performed_rules::splinter_count;
 use purse::{Entry, Purse, StepFault};
 use sqlite_items::Items;
 use std::alloc::Global;

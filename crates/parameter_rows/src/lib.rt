@@ -3,4 +3,6 @@
 #![tactic(auto)]
 
 #[cfg(test)]
+mod points;
+#[cfg(test)]
 mod solutions;

@@ -3,6 +3,7 @@
 ghost use Rattle.clause_set.specs.Literals.{HasDivisor};
 ghost use Rattle.std.specs.Prelude.{IfOk};
 
+use crate::points::first;
 use clause_set::{Clause, Dnf, Literal, literal_clauses};
 use linear_term::{Place, Term, in_range};
 use parameter_solver::{Solved, is_over, solve};
@@ -92,58 +93,6 @@ fn found(alloc: Global, d: &Dnf, names: u32, budget: u64) -> Result<Solved, Elim
         return solve(alloc, d, names, &mut purse);
     }
     Err(ElimFault::Memory)
-}
-
-fn value(t: &Term, x: i128, y: i128) -> i128 {
-    t.coef(0)
-        .saturating_mul(x)
-        .saturating_add(t.coef(1).saturating_mul(y))
-        .saturating_add(t.constant())
-}
-
-fn literal_holds(l: &Literal, x: i128, y: i128) -> bool {
-    let k = value(l.term(), x, y);
-    match l {
-        Literal::Eq(_) => k == 0,
-        Literal::Geq(_) => k >= 0,
-        Literal::Div(d, _) => k.checked_rem(*d) == Some(0),
-        Literal::NDiv(d, _) => k.checked_rem(*d) != Some(0),
-    }
-}
-
-fn clause_holds(c: &Clause, x: i128, y: i128) -> bool {
-    for l in c.literals() {
-        if !literal_holds(l, x, y) {
-            return false;
-        }
-    }
-    true
-}
-
-fn holds(d: &Dnf, x: i128, y: i128) -> bool {
-    for c in d.clauses() {
-        if clause_holds(c, x, y) {
-            return true;
-        }
-    }
-    false
-}
-
-/// The i-th integer of 0, 1, −1, 2, −2, ..
-fn integer(i: i128) -> i128 {
-    if i % 2 == 0 { 0 - i / 2 } else { i / 2 + 1 }
-}
-
-/// The first pair of integers that satisfies d, x before y, both of the first `size` integers.
-fn first(d: &Dnf, size: i128) -> Option<(i128, i128)> {
-    for i in 0..size {
-        for j in 0..size {
-            if holds(d, integer(i), integer(j)) {
-                return Some((integer(i), integer(j)));
-            }
-        }
-    }
-    None
 }
 
 const ONE_DIVISIBILITY: &[Row] = &[(0, Kind::Div(12), 1, 0, 3)];

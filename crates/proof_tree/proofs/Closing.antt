@@ -36,9 +36,11 @@ same_reduced ss ts a b = (forms_reduced (equations ss ts []).value (equations_re
 other_reduced : (ss : List Linear) (u : Linear) (ts : List Linear) (v : Linear) → AllByRecursion IsReduced ss → IsReduced u → AllByRecursion IsReduced ts → IsReduced v
     → AllByRecursion HasReducedTerms (other_values ss u ts v).value
 unfolding next just step
-other_reduced ss u ts v a p b q =
-    (forms_reduced ((equations ss ts []).value ++ unequal _ ∷ [])
-    (all_append HasReducedTerms (equations ss ts []).value (unequal _ ∷ []) (equations_reduced ss ts [] a b tt) (reduced-combination (pos 1) (negsuc 0) u v p q, tt)), tt)
+other_reduced ss u ts v a p b q = (
+  forms_reduced ((equations ss ts []).value ++ unequal _ ∷ [])
+      (all_append HasReducedTerms (equations ss ts []).value (unequal _ ∷ []) (equations_reduced ss ts [] a b tt) (reduced-combination (pos 1) (negsuc 0) u v p q, tt)),
+  tt,
+)
 
 predicate_reduced : (p : ℕ) (ss : List Linear) (g : Form) → AllByRecursion IsReduced ss → HasReducedTerms g → AllByRecursion HasReducedTerms (predicate_pair p ss g).value
 unfolding just

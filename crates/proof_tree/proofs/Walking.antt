@@ -112,6 +112,7 @@ value-all n s ss x xs out = value-on_some _ (walked n s x).value
 
 mutual
   unfolding just
+
   -- a walk that ends well is over a tree that gives what it answers
   pub walked_gives : (x : Proof) (n : ℕ) (s : Sequent) (v : List (List Literal)) → (walked n s x).value ≡ Some v → Gives s x × (given x ≡ v)
   walked_gives (node p ns log d) n s v e =
@@ -137,6 +138,7 @@ mutual
 
 mutual
   unfolding just
+
   -- and the walk over such a tree ends well
   pub gives_walked : (x : Proof) (n : ℕ) (s : Sequent) → Gives s x → (walked n s x).value ≡ Some (given x)
   gives_walked (node p ns log d) n s h =

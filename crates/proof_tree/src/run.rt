@@ -43,7 +43,10 @@ impl Verdict {
         ensures { IfOk result (λ v. v ≡ self.now) }
     {
         match self {
-            Verdict::Valid(values) => Ok(Verdict::Valid(Items::from_slice(alloc, values.as_slice())?)),
+            Verdict::Valid(values) => Ok(Verdict::Valid(Items::from_slice(
+                alloc,
+                values.as_slice(),
+            )?)),
             Verdict::Invalid => Ok(Verdict::Invalid),
         }
     }
