@@ -16,7 +16,6 @@ use denote.Struct.Owning.{shape}
 use denote.Struct.Lending.{lent_at}
 use Rattle.std.proofs.RcSteps.{word}
 use Rattle.std.specs.Box.Ownership.{box_owns}
-use Rattle.backlist.specs.Ownership.{dealloc_token}
 use Rattle.backlist.specs.Cells.{Cell, same_place, IsFresh}
 use Rattle.backlist.proofs.Found.{same_place_eq}
 use Rattle.std.specs.Mem.{type_size}
@@ -31,7 +30,7 @@ use denote.Param.{param, layout}
 use denote.Memory.{part_at}
 use denote.RawPtr.{block_ptr, null_ptr}
 use borrow.Table.OneValue.{part_out}
-use Rattle.backlist.specs.Ownership.{cells_own, cells_lent}
+use Rattle.backlist.specs.Ownership.{dealloc_token, cells_own, cells_lent}
 use Rattle.backlist.specs.contracts.boxes.Boxes as B-type
 
 -- the owner's own field, which takes no bytes

@@ -31,11 +31,10 @@ use Rattle.std.proofs.raw_atomic.Walks.{proved_at, leaves}
 use Rattle.std.proofs.VecSteps.Shapes.{after}
 use Rattle.std.proofs.RcSteps.{word, word-Good}
 use Rattle.std.specs.Box.Ownership.{box_owns}
-use Rattle.backlist.specs.Ownership.{dealloc_token}
 use Rattle.backlist.proofs.Walks.{Mark, word_had, cells_cut, cells_glue, Own}
 use Rattle.backlist.proofs.Found.{Cut, cut, there}
 use Rattle.backlist.specs.Cells.{Cell, cell, find, update}
-use Rattle.backlist.specs.Ownership.{cells_own}
+use Rattle.backlist.specs.Ownership.{dealloc_token, cells_own}
 use Rattle.backlist.specs.contracts.boxes.Pos as P-type
 use Rattle.backlist.specs.contracts.boxes.Boxes as B-type
 use Rattle.backlist.specs.contracts.boxes.Boxes.get_mut.{ended, clauses}

@@ -27,14 +27,13 @@ use Rattle.std.proofs.alloc.Calls.{handle_tells}
 use Rattle.std.proofs.raw_atomic.Walks.{proved_at, leaves}
 use Rattle.std.proofs.RcSteps.{word, word-Good}
 use Rattle.std.specs.Box.Ownership.{box_owns}
-use Rattle.backlist.specs.Ownership.{dealloc_token}
 use Rattle.std.specs.contracts.alloc.Global as G-type
 use Rattle.std.specs.contracts.impls.GlobalAllocator.TheImpl.{ghosts}
 use Rattle.std.proofs.alloc.Global.TheLaws.{the_row_laws as LG}
 use Rattle.backlist.proofs.Walks.{word_had}
 use Rattle.backlist.proofs.LooseValues.{both, loose_good, loose_in, al}
 use Rattle.backlist.specs.Cells.{Cell, cell}
-use Rattle.backlist.specs.Ownership.{cells_own}
+use Rattle.backlist.specs.Ownership.{dealloc_token, cells_own}
 use Rattle.backlist.specs.contracts.boxes.Pos as P-type
 use Rattle.backlist.specs.contracts.boxes.Boxes as B-type
 use Rattle.backlist.specs.contracts.boxes.Boxes.take.{ended, clauses}
