@@ -136,7 +136,7 @@ fn bound(alloc: Global, a: i8, own: u32, i: u16) -> Result<Literal, StepFault>
 }
 
 /// This many lower bounds and as many upper bounds of x_0.
-#[tactic(auto, using(omega_elim::proofs::Results::pushing))]
+#[tactic(auto, using(performed_rules::proofs::Results::pushing))]
 fn bounds(alloc: Global, size: u16) -> Result<Items<Literal>, StepFault>
     ensures { IfOk result (λ ls. All HasDivisor ls) }
 {
