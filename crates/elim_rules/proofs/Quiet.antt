@@ -1,4 +1,4 @@
--- Work that notes no entry.
+-- Work that notes nothing.
 use Rattle.std.proofs.Common.{◌≡◌, ℕ, zero, suc, ℤ, pos, Bool, true, false, cond, List, [], ◌∷◌, ◌++◌, Option, Some, None, refl, sym, ◌∙◌, ap}
 use Rattle.std.specs.Prelude.{slice_get, remove}
 use Rattle.linear_term.specs.declared.range.Place.{Place}
@@ -7,6 +7,7 @@ use Rattle.linear_term.proofs.Totals.{by_test}
 use Rattle.purse.specs.declared.log.Entry.{Entry}
 use Rattle.purse.specs.declared.log.Entry.TheVariants.{Equation, Apart, Merge, Shift, OneSided, Exact, Dark}
 use Rattle.purse.specs.Trace.{Event, charge, raw, mark, entry, new_log, round, enter, back, Traced, just, step, next, pay, compute, note, each, combining}
+use Rattle.purse.specs.Runs.{notes}
 use Rattle.clause_set.specs.declared.literal.Literal.{Literal}
 use Rattle.clause_set.specs.declared.literal.Literal.TheVariants.{Eq, Geq, Div, NDiv}
 use Rattle.clause_set.specs.Names.{has, coefficient, remainder}
@@ -35,20 +36,33 @@ pub entries-next : {A B : Type 0} (m : Traced A) (f : A → Traced B) → entrie
 unfolding next
 entries-next m f = entries-append m.events (f m.value).events
 
+pub notes-append : (xs ys : List Event) → notes (xs ++ ys) ≡ notes xs ++ notes ys
+notes-append [] ys = refl
+notes-append (charge n ∷ xs) ys = notes-append xs ys
+notes-append (raw ps ∷ xs) ys = notes-append xs ys
+notes-append (mark m ∷ xs) ys = ap (λ z. m ∷ z) (notes-append xs ys)
+
+pub notes-next : {A B : Type 0} (m : Traced A) (f : A → Traced B) → notes (next m f).events ≡ notes m.events ++ notes (f m.value).events
+unfolding next
+notes-next m f = notes-append m.events (f m.value).events
+
 pub quiet_next : {A B : Type 0} (m : Traced A) (f : A → Traced B) → IsQuiet m → ((a : A) → IsQuiet (f a)) → IsQuiet (next m f)
-quiet_next m f h k = record { none = entries-next m f ∙ ap (λ z. z ++ entries_of (f m.value).events) h.none ∙ (k m.value).none }
+quiet_next m f h k = record {
+  none = entries-next m f ∙ ap (λ z. z ++ entries_of (f m.value).events) h.none ∙ (k m.value).none;
+  silent = notes-next m f ∙ ap (λ z. z ++ notes (f m.value).events) h.silent ∙ (k m.value).silent;
+}
 
 pub quiet_just : {A : Type 0} (a : A) → IsQuiet (just a)
 unfolding just
-quiet_just a = record { none = refl }
+quiet_just a = record { none = refl; silent = refl }
 
 pub quiet_pay : (n : ℕ) → IsQuiet (pay n)
 unfolding step
-quiet_pay n = record { none = refl }
+quiet_pay n = record { none = refl; silent = refl }
 
 pub quiet_raw : {A : Type 0} (ps : List Place) (a : A) → IsQuiet (step (raw ps) a)
 unfolding step
-quiet_raw ps a = record { none = refl }
+quiet_raw ps a = record { none = refl; silent = refl }
 
 pub quiet_each : {C D : Type 0} (f : C → Traced (List D)) (cs : List C) (out : List D) → ((c : C) → IsQuiet (f c)) → IsQuiet (each f cs out)
 quiet_each f [] out h = quiet_just out
@@ -58,7 +72,7 @@ pub quiet_cond : {A : Type 0} (b : Bool) (m w : Traced A) → IsQuiet m → IsQu
 quiet_cond true m w h k = h
 quiet_cond false m w h k = k
 
-quiet_combining : (m : ℤ) (s : Linear) (n : ℤ) (t : Linear) → IsQuiet (combining m s n t)
+pub quiet_combining : (m : ℤ) (s : Linear) (n : ℤ) (t : Linear) → IsQuiet (combining m s n t)
 quiet_combining m s n t = quiet_raw _ _
 
 -- ---- the rules

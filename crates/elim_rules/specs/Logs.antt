@@ -1,9 +1,10 @@
 -- Elimination by the rules that a log names.
 use Rattle.std.specs.Prelude.{◌≡◌, ℕ, zero, suc, Bool, cond, List, [], ◌∷◌, ◌++◌, length, Option, Some, None, Result, Ok, Err}
-use Rattle.std.specs.List.{list_any}
+use Rattle.std.specs.List.{AllByRecursion, list_any}
 use Rattle.purse.specs.declared.log.Entry.{Entry}
 use Rattle.linear_term.specs.declared.range.Place.{Place}
 use Rattle.purse.specs.declared.fault.StepFault.TheVariants as step_fault
+use Rattle.purse.specs.Runs.{notes}
 use Rattle.purse.specs.Work.{ChargedAt}
 use Rattle.purse.specs.Trace.{Funds, Mark, at, Event, charge, raw, mark, entry, new_log, round, enter, back, Traced, just, step, next, pay, note}
 use Rattle.clause_set.specs.declared.literal.Literal.{Literal}
@@ -109,9 +110,22 @@ abbrev pub by_whole_log : {A : Type 0} → Reader A → List Entry → Traced (O
 by_whole_log m ls = next (m ls) (λ o. just (used_up o))
 
 -- ---- laws
--- the work notes no entry
+-- the work notes nothing
 pub record IsQuiet {A : Type 0} (w : Traced A) : Type 0 where
   pub none : entries_of w.events ≡ []
+  pub silent : notes w.events ≡ []
+
+-- the note is of a log
+abbrev pub IsOfLog : Mark → Type 0
+IsOfLog (entry e) = Unit {0}
+IsOfLog new_log = Unit {0}
+IsOfLog (round k) = ⊥
+IsOfLog (enter n) = ⊥
+IsOfLog (back n) = ⊥
+
+-- the work notes entries and beginnings of logs alone
+pub record NotesLogs {A : Type 0} (w : Traced A) : Type 0 where
+  pub logs : AllByRecursion IsOfLog (notes w.events)
 
 -- by the entries that the work w notes, m does w, with its charges and numbers, and leaves the others
 pub record Does {A : Type 0} (m : Reader A) (w : Traced A) : Type 0 where

@@ -15,9 +15,9 @@ ghost use Rattle.clause_set.specs.Rules.{applies, first_rule, measure, rule};
 ghost use Rattle.formula.specs.Form.{Form, FormTruth, IsFormOver, existential, universal};
 ghost use Rattle.formula.specs.Sizes.{depth};
 ghost use Rattle.elim_rules.specs.Elimination.{IsOut, IsSplit, by_first, exists_name, taken_out};
-ghost use Rattle.elim_rules.specs.Logs.{Checked, Yields, by_log, by_whole_log, entries_of, name_by_log, names_by_log};
+ghost use Rattle.elim_rules.specs.Logs.{Checked, NotesLogs, Yields, by_log, by_whole_log, entries_of, name_by_log, names_by_log};
 ghost use Rattle.elim_rules.specs.Presburger.{IsPresburger, IsTrueAt};
-ghost use Rattle.elim_rules.specs.Whole.{AreOver, IsExact, IsSatisfied, Lacks, eliminated, names_out};
+ghost use Rattle.elim_rules.specs.Whole.{AreOver, IsExact, IsSatisfied, Lacks, eliminated, eliminating, names_out};
 
 /// A rule comes first exactly where the clause has the name. It applies, it leaves clauses that are nearer to being without
 /// the name, and it is a split or a merge only where no equation has the name.
@@ -81,4 +81,10 @@ pub fn log_law()
     ensures name { (x : ℕ) (d : List (List Literal)) → AreFormed d → Yields (name_by_log x d) (IsOut x d) }
     ensures checked { (m n : ℕ) (f : Form) (log : List Entry) (d : List (List Literal)) (old new : Funds) → depth f < m → IsPresburger f
         → Checked (by_whole_log (by_log m n f) log) old (Ok d) new → IsExact d f n }
+{}
+
+/// An elimination notes entries of its log and beginnings of logs, and nothing else.
+pub fn notes_law()
+    ensures formula { (n : ℕ) (f : Form) → NotesLogs (eliminating n f) }
+    ensures name { (x : ℕ) (d : List (List Literal)) → NotesLogs (exists_name x d) }
 {}

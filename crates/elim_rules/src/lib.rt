@@ -7,5 +7,6 @@
 mod laws;
 
 pub use laws::{
-    exact_law, first_rule_law, log_law, name_law, replay_law, rule_law, satisfaction_law, truth_law,
+    exact_law, first_rule_law, log_law, name_law, notes_law, replay_law, rule_law,
+    satisfaction_law, truth_law,
 };

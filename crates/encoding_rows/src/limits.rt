@@ -77,6 +77,14 @@ fn a_million_nodes_are_encoded(rt: HostRuntime) -> Result<(), Fail> {
 }
 
 #[test]
+fn a_long_sum_takes_no_stack(rt: HostRuntime) -> Result<(), Fail> {
+    let before = "\\universalConstants { int a; } \\problem { ";
+    let text = chain(rt.alloc(), before, "a + ", 299_999, "a >= 0 }")?;
+    assert_eq!(rt; measured(rt.alloc(), text.as_str()), Some((2, 2)));
+    Ok(())
+}
+
+#[test]
 fn two_thousand_levels_are_encoded(rt: HostRuntime) -> Result<(), Fail> {
     // each function is two levels, and each universal constant one
     for (universals, functions, wanted) in [

@@ -19,7 +19,8 @@ use Rattle.proof_tree.specs.Reduced.{IsReducedSequent}
 use Rattle.proof_tree.specs.Rules.{constraint_by}
 use Rattle.proof_tree.specs.Says.{IsConstraint, TruthAt, TruthBy}
 use Rattle.proof_tree.proofs.Premises.{reduced_by}
-use Rattle.proof_tree.proofs.Yielding.{rule_yields, whole_yields}
+use Rattle.proof_tree.proofs.Yielding.{rule_yields}
+use Rattle.elim_rules.proofs.Wholes.{whole_yields}
 
 formed_at : (s : Sequent) (i : ℕ) (o : Option Member) → IsWellFormed s → slice_get s.members i ≡ o → AllByRecursion IsWellFormed (premises_at s i o)
 formed_at s i None formed is = tt
@@ -39,8 +40,8 @@ mutual
   -- the constraints of a proof are in form
   pub node_formed : (s : Sequent) (n : Proof) → IsReducedSequent s → Gives s n → AreFormed (given n)
   node_formed s (node p ns log d) r g =
-      (whole_yields (constraint_by s p (all_given ns)) (IsConstraint s (place p) (truths (all_given ns))) log d
-      (rule_yields s p (all_given ns) r g.0 (nodes_formed (premises_by s (place p)) ns (reduced_by s (place p) r) g.1) (given_length (premises_by s (place p)) ns g.1)) g.2).formed
+      (whole_yields (constraint_by s p (all_given ns)) (IsConstraint s (place p) (truths (all_given ns)))
+      (rule_yields s p (all_given ns) r g.0 (nodes_formed (premises_by s (place p)) ns (reduced_by s (place p) r) g.1) (given_length (premises_by s (place p)) ns g.1)) log d g.2).formed
 
   pub nodes_formed : (ss : List Sequent) (ns : Proofs) → AllByRecursion IsReducedSequent ss → AreGiven ss ns → AllByRecursion AreFormed (all_given ns)
   nodes_formed [] no_proof r g = tt
@@ -52,8 +53,8 @@ mutual
 pub constraint_is : (s : Sequent) (p : Pick) (ns : Proofs) (log : List Entry) (d : List (List Literal)) → IsReducedSequent s → Gives s (node p ns log d)
     → IsConstraint s (place p) (truths (all_given ns)) d
 constraint_is s p ns log d r g =
-    whole_yields (constraint_by s p (all_given ns)) (IsConstraint s (place p) (truths (all_given ns))) log d
-    (rule_yields s p (all_given ns) r g.0 (nodes_formed (premises_by s (place p)) ns (reduced_by s (place p) r) g.1) (given_length (premises_by s (place p)) ns g.1)) g.2
+    whole_yields (constraint_by s p (all_given ns)) (IsConstraint s (place p) (truths (all_given ns)))
+    (rule_yields s p (all_given ns) r g.0 (nodes_formed (premises_by s (place p)) ns (reduced_by s (place p) r) g.1) (given_length (premises_by s (place p)) ns g.1)) log d g.2
 
 covers_at : (w : Meaning) (s : Sequent) (i : ℕ) (o : Option Member) (ds : List (List ℤ → Bool)) (d : List ℤ → Bool) → IsWellFormed s → slice_get s.members i ≡ o
     → AreCovered w (premises_at s i o) ds → ((e : List ℤ) → length e ≡ s.count → d e ≡ true → TruthAt o ds e) → Covers w d s

@@ -44,7 +44,7 @@ use Rattle.proof_tree.specs.Walk.{is_same, on_some}
 use Rattle.proof_tree.proofs.Denying.{node_tight}
 use Rattle.proof_tree.proofs.Giving.{node_covers, node_formed}
 use Rattle.proof_tree.proofs.Walking.{same_so, some_cond, some_then, value-cond, value-on_some}
-use Rattle.proof_tree.proofs.Yielding.{whole_yields}
+use Rattle.elim_rules.proofs.Wholes.{whole_yields}
 
 -- ---- values put into a constraint
 -- the last values first
@@ -154,7 +154,7 @@ concluded_invalid f n p (Nothing log) d h e =
     let b = some_then (by_whole_log (names_by_log n d) log.entries).value (λ r. verdict_if (is_same r []) Invalid) Invalid
     (sym (value-on_some (λ r. just (verdict_if (is_same r []) Invalid)) (by_whole_log (names_by_log n d) log.entries).value) ∙ a.1) in
     let two = both_true (is_pure f) (is_root_rule p) a.0 in
-    let y = whole_yields (names_by_log n d) (λ r. IsSatisfied d n ↔ (dnf_truth r [] ≡ true)) log.entries (b.0) (names_yield n d h) b.1 in
+    let y = whole_yields (names_by_log n d) (λ r. IsSatisfied d n ↔ (dnf_truth r [] ≡ true)) (names_yield n d h) log.entries (b.0) b.1 in
     (two.0, two.1, none_satisfied n d (b.0) (invalid_is (is_same (b.0) []) b.2) y)
 
 -- ---- the root

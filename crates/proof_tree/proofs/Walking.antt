@@ -87,7 +87,13 @@ log_fits s (pick.Beta i) ds log d h = none_read _ log d h
 log_fits s (pick.Gamma i) ds log d h = refl
 log_fits s pick.Close ds log d h = refl
 
-value-redone : (s : Sequent) (p : Pick) (ds : List (List (List Literal))) (log : List Entry) → (redone s p ds log).value ≡ (by_whole_log (constraint_by s p ds) log).value
+-- a node that gives its constraint fits
+pub gives_fits : (s : Sequent) (p : Pick) (ns : Proofs) (log : List Entry) (d : List (List Literal)) → Gives s (node p ns log d) → fits s p ns log ≡ true
+gives_fits s p ns log d h =
+    join_fits (applies s p) (nat_eq (width ns) (length (premises_of s p))) (cond (eliminates p) true (is_empty log)) h.0
+    (same_width (width ns) (length (premises_of s p)) (width_is ns ∙ given_length (premises_of s p) ns h.1)) (log_fits s p (all_given ns) log d h.2)
+
+pub value-redone : (s : Sequent) (p : Pick) (ds : List (List (List Literal))) (log : List Entry) → (redone s p ds log).value ≡ (by_whole_log (constraint_by s p ds) log).value
 unfolding next just step
 value-redone s p ds log = refl
 
@@ -144,8 +150,7 @@ mutual
   gives_walked (node p ns log d) n s h =
       value-walked n s p ns log d
       ∙ ap (λ b. cond b (then_some (all_walked (n + 1) (premises_of s p) ns []).value (λ ds. then_some (by_whole_log (constraint_by s p ds) log).value (ends_in d))) None)
-      (join_fits (applies s p) (nat_eq (width ns) (length (premises_of s p))) (cond (eliminates p) true (is_empty log)) h.0
-      (same_width (width ns) (length (premises_of s p)) (width_is ns ∙ given_length (premises_of s p) ns h.1)) (log_fits s p (all_given ns) log d h.2))
+      (gives_fits s p ns log d h)
       ∙ ap (λ o. then_some o (λ ds. then_some (by_whole_log (constraint_by s p ds) log).value (ends_in d))) (all_gives_walked ns (n + 1) (premises_of s p) [] h.1)
       ∙ ap (λ o. then_some o (ends_in d)) h.2
       ∙ ap (λ b. cond b (Some d) None) (same_self d)

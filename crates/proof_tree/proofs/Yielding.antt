@@ -3,7 +3,6 @@ use Rattle.std.proofs.Common.{◌≡◌, ◌+◌, ℕ, suc, ℤ, Bool, true, fal
 use Rattle.std.specs.List.{AllByRecursion, slice_get}
 use Rattle.typed_formula.specs.Truth.{Meaning}
 use Rattle.integers.specs.Entry.{put}
-use Rattle.purse.specs.declared.log.Entry.{Entry}
 use Rattle.purse.specs.Trace.{Traced, just, next}
 use Rattle.clause_set.specs.declared.literal.Literal.{Literal}
 use Rattle.clause_set.specs.Dnfs.{conjunction, negation, top}
@@ -15,7 +14,7 @@ use Rattle.clause_set.proofs.Shapes.{conjunction-formed, negation-formed}
 use Rattle.formula.specs.Form.{Form, Forms, FormTruth, equal, unequal, at_least, holds, fails, differs, conjunction as all_of, disjunction as any_of, universal, existential, no_form, and_form}
 use Rattle.formula.specs.Sizes.{depth}
 use Rattle.elim_rules.specs.Elimination.{IsOut}
-use Rattle.elim_rules.specs.Logs.{Reader, Rest, Yields, by_log, by_whole_log, name_by_log, read_next, reads_none, used_up}
+use Rattle.elim_rules.specs.Logs.{Reader, Yields, by_log, name_by_log, read_next, reads_none}
 use Rattle.elim_rules.specs.Presburger.{IsPresburger, IsTrueAt}
 use Rattle.elim_rules.specs.Whole.{IsExact}
 use Rattle.elim_rules.proofs.Accepted.{log_exact, name_yields, yields_map}
@@ -36,19 +35,6 @@ use Rattle.proof_tree.specs.Reduced.{IsReducedSequent}
 use Rattle.proof_tree.specs.Rules.{conjoined, constraint_by, every_by_log, first_given}
 use Rattle.proof_tree.specs.Says.{FalsityAt, IsConstraint, TruthAt}
 use Rattle.proof_tree.proofs.Closing.{closing_presburger}
-
--- ---- a whole log
-used_up_is : {A : Type 0} (P : A → Type 0) (o : Option (Rest A)) (a : A) → ((r : Rest A) → o ≡ Some r → P r.value) → used_up o ≡ Some a → P a
-used_up_is P None a h is = absurd (cc)
-used_up_is P (Some r) a h is = ended r.log (h r refl) is
-  where
-    ended : (ls : List Entry) → P r.value → used_up (Some (record { value = r.value; log = ls })) ≡ Some a → P a
-    ended [] p s = let t : r.value ≡ a = cc in subst P t p
-    ended (l ∷ ls) p s = absurd (cc)
-
-pub whole_yields : {A : Type 0} (m : Reader A) (P : A → Type 0) (log : List Entry) (a : A) → Yields m P → (by_whole_log m log).value ≡ Some a → P a
-unfolding next just
-whole_yields m P log a h is = used_up_is P (m log).value a (λ r at. h.yields log r at) is
 
 -- ---- beta
 abbrev AllFormed : List (List (List Literal)) → Type 0

@@ -6,3 +6,4 @@ pub mod Says
 pub mod Tight
 pub mod Walk
 pub mod Proves
+pub mod Views

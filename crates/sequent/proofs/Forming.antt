@@ -13,7 +13,7 @@ brought_over over n b f le h =
     subst (λ m. IsFormOver (m + b) (brought over n f)) whole (form_over over (n - over) b f h)
 
 -- a formula of the principal, among all constants
-new_formed : (over n : ℕ) (f : Form) → over ≤ n → IsFormOver over f → IsMember n (member (brought over n f) n 0)
+pub new_formed : (over n : ℕ) (f : Form) → over ≤ n → IsFormOver over f → IsMember n (member (brought over n f) n 0)
 new_formed over n f le h =
     let none : over + 0 ≡ over = omega arith in
     let same : n + 0 ≡ n = omega arith in

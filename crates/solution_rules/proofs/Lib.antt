@@ -7,3 +7,4 @@ pub mod Candidates
 pub mod Splits
 pub mod Outs
 pub mod Solving
+pub mod Noting

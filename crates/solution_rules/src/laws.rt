@@ -5,6 +5,7 @@ ghost use Rattle.clause_set.specs.Formed.{IsFormed};
 ghost use Rattle.clause_set.specs.Literals.{clause_truth, dnf_truth};
 ghost use Rattle.clause_set.specs.Primitive.{IsShaped};
 ghost use Rattle.clause_set.specs.declared.literal.Literal.{Literal};
+ghost use Rattle.elim_rules.specs.Logs.{NotesLogs};
 ghost use Rattle.elim_rules.specs.Whole.{Lacks};
 ghost use Rattle.integers.specs.Entry.{put};
 ghost use Rattle.solution_rules.specs.Best.{IsBest, IsNearer, rank};
@@ -32,4 +33,9 @@ pub fn candidates_law()
 pub fn solutions_law()
     ensures best { (n : ℕ) (d : List (List Literal)) (v : List ℤ) → IsGiven n d → (solving n d).value ≡ Some v → IsBest (dnf_truth d) n v }
     ensures none { (n : ℕ) (d : List (List Literal)) → IsGiven n d → ((solving n d).value ≡ None) ↔ ((w : List ℤ) → length w ≡ n → dnf_truth d w ≡ false) }
+{}
+
+/// Solving notes entries and beginnings of logs, and nothing else.
+pub fn notes_law()
+    ensures { (n : ℕ) (d : List (List Literal)) → NotesLogs (solving n d) }
 {}

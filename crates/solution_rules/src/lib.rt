@@ -5,4 +5,4 @@
 
 mod laws;
 
-pub use laws::{candidates_law, nearer_law, solutions_law};
+pub use laws::{candidates_law, nearer_law, notes_law, solutions_law};

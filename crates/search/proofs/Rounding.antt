@@ -1,0 +1,64 @@
+-- The loop over rounds.
+use Rattle.std.proofs.Common.{◌≡◌, ℕ, suc, ◌+◌, ◌-◌, ◌≤◌, refl, ◌∙◌, ap, sym, subst, arith, Some, None, Result, Ok, Err, IsErrAnd}
+use Rattle.purse.specs.declared.fault.StepFault.{StepFault}
+use Rattle.purse.specs.Followed.{Followed}
+use Rattle.purse.specs.Runs.{total}
+use Rattle.purse.specs.Trace.{Funds, At}
+use Rattle.purse.proofs.Advancing.{followed_later, followed_whole}
+use Rattle.purse.proofs.Following.{Going, follow_err, follow_just, follow_ok, going_all, going_ends, going_next}
+use Rattle.formula.specs.Form.{Form}
+use Rattle.search.specs.declared.course.Course.{Course}
+use Rattle.search.specs.declared.judge.Found.{Found}
+use Rattle.search.specs.Course.{noted}
+use Rattle.search.specs.Rounds.{answer_in, run_as}
+use Rattle.search.specs.Run.{canonical_run, one_round, or_further, rounds}
+use Rattle.search.proofs.Endings.{round_charges}
+
+-- before the round with the limit k: what is left of the run, and that each round before has charged
+pub record Turn (f : Form) (n k : ℕ) (now : Funds) (c : Course) (old : Funds) (c0 : Course) : Type 0 where
+  pub going : Going noted (rounds f n (suc (old.budget - k)) k) now c (canonical_run f n old.budget) old c0
+  pub charged : k ≤ now.spent
+  pub budget : now.budget ≡ old.budget
+  pub within : now.spent ≤ now.budget
+
+pub first_turn : (f : Form) (n : ℕ) (old : Funds) (c0 : Course) → old.spent ≤ old.budget → Turn f n 0 old c0 old c0
+unfolding canonical_run
+first_turn f n old c0 h = record {
+  going = let e : old.budget - 0 ≡ old.budget = omega arith in subst (λ m. Going noted (rounds f n (suc m) 0) old c0 (rounds f n (suc old.budget) 0) old c0) (sym e) (going_all (rounds f n (suc old.budget) 0) old c0);
+  charged = omega arith;
+  budget = refl;
+  within = h;
+}
+
+pub next_turn : (f : Form) (n k : ℕ) {now b old : Funds} {c d c0 : Course} → Turn f n k now c old c0 → Followed noted (one_round f n k) now c (Ok None) b d → Turn f n (k + 1) b d old c0
+next_turn f n k {now} {b} {old} {c} {d} {c0} turn h =
+    let later = followed_later (Ok None) turn.within h in
+    let spent : b.spent ≡ now.spent + total (one_round f n k).events = ap (λ (z : At). z.funds.spent) (followed_whole noted (one_round f n k) now b c d None turn.within h).1.stands in
+    let least : 1 ≤ total (one_round f n k).events = round_charges f n k in
+    let is : b.budget ≡ now.budget = later.budget in
+    let within : b.spent ≤ b.budget = later.within in
+    let before : k ≤ now.spent = turn.charged in
+    let same : now.budget ≡ old.budget = turn.budget in
+    let e : old.budget - k ≡ suc (old.budget - (k + 1)) = omega (arith, spent, least, is, within, before, same) in
+    let g : suc k ≡ k + 1 = omega arith in
+    record {
+      going =
+          subst (λ m. Going noted (rounds f n m (k + 1)) b d (canonical_run f n old.budget) old c0) e
+          (subst (λ m. Going noted (rounds f n (old.budget - k) m) b d (canonical_run f n old.budget) old c0) g (going_next (one_round f n k) (or_further (rounds f n (old.budget - k) (suc k))) turn.going h));
+      charged = omega (arith, spent, least, before);
+      budget = is ∙ same;
+      within = within;
+    }
+
+pub run_found : (f : Form) (n k : ℕ) {now b old : Funds} {c d c0 : Course} (a : Found) → Turn f n k now c old c0 → Followed noted (one_round f n k) now c (Ok (Some (answer_in a))) b d
+    → Followed noted (canonical_run f n old.budget) old c0 (Ok (answer_in a)) b d
+run_found f n k {old = old} a turn h =
+    going_ends turn.going (follow_ok (one_round f n k) (or_further (rounds f n (old.budget - k) (suc k))) h (follow_just (answer_in a) (answer_in a) refl))
+
+run_err : (e : StepFault) (r : Result Found StepFault) → IsErrAnd r (λ x. x ≡ e) → IsErrAnd (run_as r) (λ x. x ≡ e)
+run_err e (Ok o) h = absurd h
+run_err e (Err x) h = h
+
+pub run_cut : (f : Form) (n k : ℕ) {now b old : Funds} {c d c0 : Course} {e : StepFault} (r : Result Found StepFault) → Turn f n k now c old c0 → IsErrAnd r (λ x. x ≡ e) → Followed noted (one_round f n k) now c (Err e) b d
+    → Followed noted (canonical_run f n old.budget) old c0 (run_as r) b d
+run_cut f n k {old = old} r turn is h = going_ends turn.going (follow_err (one_round f n k) (or_further (rounds f n (old.budget - k) (suc k))) (run_as r) (run_err _ r is) h)

@@ -1,0 +1,61 @@
+-- What a search answers: the end of the canonical run, with its tree, or where the run was cut.
+use Rattle.std.specs.Prelude.{◌≡◌, ℕ, ◌-◌, false, List, [], Result, Ok, Err, Contains}
+use Rattle.linear_term.specs.declared.range.Memory.{Memory}
+use Rattle.linear_term.specs.declared.range.Place.{Place}
+use Rattle.linear_term.specs.Range.{stays}
+use Rattle.purse.specs.declared.fault.StepFault.{StepFault}
+use Rattle.purse.specs.declared.fault.StepFault.TheVariants as step_fault
+use Rattle.purse.specs.declared.log.ElimLog.{ElimLog}
+use Rattle.purse.specs.Followed.{after_notes}
+use Rattle.purse.specs.Runs.{total}
+use Rattle.purse.specs.Trace.{Funds, Mark, At, at}
+use Rattle.purse.specs.Work.{Reaches}
+use Rattle.formula.specs.Form.{Form}
+use Rattle.proof_tree.specs.declared.node.Conclusion.{Conclusion}
+use Rattle.proof_tree.specs.declared.node.Conclusion.TheVariants.{Solution, Nothing}
+use Rattle.proof_tree.specs.declared.node.Tree.{Tree}
+use Rattle.proof_tree.specs.declared.run.Run.{Run}
+use Rattle.proof_tree.specs.declared.run.Why.TheVariants as why
+use Rattle.proof_tree.specs.Proof.{Proof, given}
+use Rattle.proof_tree.specs.Proves.{proof_walk}
+use Rattle.proof_tree.specs.Views.{proof_of}
+use Rattle.search.specs.declared.course.Course.{Course}
+use Rattle.search.specs.declared.judge.Outcome.{Outcome}
+use Rattle.search.specs.declared.judge.Outcome.TheVariants.{Valid, Invalid, Unknown}
+use Rattle.search.specs.Course.{no_log, noted}
+use Rattle.search.specs.Run.{canonical_run, ending, ends_with, out_of_steps, overflows, valid, invalid, saturated, too_long}
+
+abbrev pub no_course : Course
+no_course = record { round = 0; nodes = 0; log = no_log }
+
+-- where a run stands at a whose purse held this before: its round, the nodes entered in it, the elimination in progress, and
+-- what it charged itself
+abbrev pub run_of : Funds → At → Run
+run_of old a = let c = after_notes noted no_course a.marks in record { round = c.round; nodes = c.nodes; log = c.log; spent = a.funds.spent - old.spent }
+
+-- the outcome of a run that is cut
+abbrev pub stopped_by : StepFault → Run → Result Outcome Memory
+stopped_by step_fault.Steps run = Ok (Unknown why.Steps run)
+stopped_by (step_fault.Overflow p) run = Ok (Unknown (why.Overflow p) run)
+stopped_by step_fault.Memory run = Err (record {})
+
+-- t is this proof with this conclusion, and its charges are those of the walk that checks it
+pub record IsTree (f : Form) (n : ℕ) (x : Proof) (c : Conclusion) (t : Tree) : Type 0 where
+  pub root : proof_of t.root ≡ x
+  pub conclusion : t.conclusion ≡ c
+  pub charges : t.charges ≡ total (proof_walk f n x c).events
+
+-- the outcome is the end of the canonical run for f over n names from old on, or memory was wanting before the end
+abbrev pub EndsAs : Form → ℕ → Funds → Result Outcome Memory → Funds → Type 0
+EndsAs f n old (Ok (Valid d vs t)) new =
+    (ms : List Mark) × (x : Proof) × (ending (canonical_run f n old.budget) (at old []) ≡ ends_with (valid vs x) (at new ms)) × (d ≡ given x) × IsTree f n x (Solution vs) t
+EndsAs f n old (Ok (Invalid d t)) new =
+    (ms : List Mark) × (log : ElimLog) × (x : Proof) × (ending (canonical_run f n old.budget) (at old []) ≡ ends_with (invalid log.entries x) (at new ms)) × (d ≡ given x)
+    × IsTree f n x (Nothing log) t
+EndsAs f n old (Ok (Unknown why.Saturated run)) new =
+    (ms : List Mark) × (log : ElimLog) × (x : Proof) × (ending (canonical_run f n old.budget) (at old []) ≡ ends_with (saturated log.entries x) (at new ms)) × (run ≡ run_of old (at new ms))
+EndsAs f n old (Ok (Unknown why.Branch run)) new = (ms : List Mark) × (ending (canonical_run f n old.budget) (at old []) ≡ ends_with too_long (at new ms)) × (run ≡ run_of old (at new ms))
+EndsAs f n old (Ok (Unknown why.Steps run)) new = (ms : List Mark) × (ending (canonical_run f n old.budget) (at old []) ≡ out_of_steps (at new ms)) × (run ≡ run_of old (at new ms))
+EndsAs f n old (Ok (Unknown (why.Overflow p) run)) new =
+    (ms : List Mark) × (ps : List Place) × (ending (canonical_run f n old.budget) (at old []) ≡ overflows ps (at new ms)) × Contains ps p × (stays p ≡ false) × (run ≡ run_of old (at new ms))
+EndsAs f n old (Err m) new = (ms : List Mark) × Reaches (canonical_run f n old.budget).events (at old []) (at new ms)

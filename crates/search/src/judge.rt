@@ -1,0 +1,153 @@
+// How a search ends.
+
+ghost use Rattle.elim_rules.specs.Whole.{AreOver};
+ghost use Rattle.formula.specs.Tree.{form};
+ghost use Rattle.purse.specs.Followed.{Followed};
+ghost use Rattle.search.specs.Course.{noted};
+ghost use Rattle.search.specs.Outcomes.{stopped_by};
+ghost use Rattle.search.specs.Rounds.{found_by, outcome_of, solving_of};
+ghost use Rattle.std.specs.Prelude.{◌≡◌, ◌<◌, ◌^◌, IfOk};
+
+use super::course::Course;
+use super::walk::Built;
+use clause_set::Dnf;
+use formula::{Core, is_pure};
+use linear_term::Memory;
+use parameter_solver::{Solved, solve};
+use proof_tree::{Conclusion, Run, Tree, Why};
+use purse::{ElimLog, Purse, StepFault};
+use sqlite_items::Items;
+use std::alloc::Global;
+
+/// How a search ended: with values that satisfy the constraint of its tree; with a constraint that nothing satisfies, of a
+/// formula without predicates and functions; or without an answer, with why and where.
+#[derive(Drop)]
+pub enum Outcome {
+    Valid {
+        constraint: Dnf,
+        solution: Items<i128>,
+        tree: Tree,
+    },
+    Invalid {
+        constraint: Dnf,
+        tree: Tree,
+    },
+    Unknown {
+        why: Why,
+        run: Run,
+    },
+}
+
+/// The values that satisfy a constraint best, found in a log of their own.
+pub fn solution(
+    alloc: Global,
+    d: &Dnf,
+    constants: u32,
+    course: &mut Course,
+    purse: &mut Purse,
+) -> Result<Solved, StepFault>
+    requires over { AreOver constants d.now }
+    requires budget { purse.old.budget < 2 ^ 32 }
+    ensures { Followed noted (solving_of constants d.now) purse.old course.old result purse.new course.new }
+{
+    course.begin_log(alloc);
+    match solve(alloc, d, constants, purse) {
+        Ok(solved) => Ok(solved),
+        Err(fault) => Err(course.cut(fault)),
+    }
+}
+
+/// What a run finds that is not cut.
+#[derive(Drop)]
+pub enum Found {
+    /// Values satisfy the constraint of the tree, which charges so much.
+    Valid(Built, u64, Items<i128>),
+    /// The log takes all names out of the constraint of the tree, which leaves false: so much is charged for both.
+    Invalid(Built, u64, ElimLog),
+    /// The same of a formula that is not pure, where no leaf of the tree is open.
+    Saturated(Built, ElimLog),
+    /// A branch would have got too many nodes.
+    Branch,
+}
+
+/// What the solution of its tree's constraint says of a round: None where a further round is to come.
+pub fn conclude(root: &Core, tree: Built, charged: u64, spent: u64, solved: Solved) -> Option<Found>
+    ensures { result ≡ found_by (form root.now) tree charged spent solved }
+{
+    match solved {
+        Solved::Values(values) => Some(Found::Valid(tree, charged, values)),
+        Solved::None(log) => {
+            if is_pure(root) {
+                Some(Found::Invalid(tree, spent, log))
+            } else if tree.has_open {
+                None
+            } else {
+                Some(Found::Saturated(tree, log))
+            }
+        }
+    }
+}
+
+/// The outcome of a run that found this, and stood there.
+pub fn ended(alloc: Global, found: Found, run: Run) -> Result<Outcome, Memory>
+    ensures { IfOk result (λ o. o ≡ outcome_of found run) }
+{
+    match found {
+        Found::Valid(tree, charges, values) => {
+            let Built {
+                root,
+                constraint,
+                ..
+            } = tree;
+            let solution = Items::from_slice(alloc, values.as_slice())?;
+            let tree = Tree {
+                charges,
+                root,
+                conclusion: Conclusion::Solution(values),
+            };
+            Ok(Outcome::Valid {
+                constraint,
+                solution,
+                tree,
+            })
+        }
+        Found::Invalid(tree, charges, log) => {
+            let Built {
+                root,
+                constraint,
+                ..
+            } = tree;
+            let tree = Tree {
+                charges,
+                root,
+                conclusion: Conclusion::Nothing(log),
+            };
+            Ok(Outcome::Invalid { constraint, tree })
+        }
+        Found::Saturated(_, _) => Ok(Outcome::Unknown {
+            why: Why::Saturated,
+            run,
+        }),
+        Found::Branch => Ok(Outcome::Unknown {
+            why: Why::Branch,
+            run,
+        }),
+    }
+}
+
+/// The outcome of a run that was cut.
+pub fn stopped(fault: StepFault, run: Run) -> Result<Outcome, Memory>
+    ensures { result ≡ stopped_by fault run }
+{
+    match fault {
+        StepFault::Steps => Ok(Outcome::Unknown {
+            why: Why::Steps,
+            run,
+        }),
+        StepFault::Overflow(place) => Ok(Outcome::Unknown {
+            why: Why::Overflow(place),
+            run,
+        }),
+        StepFault::Memory => Err(Memory),
+    }
+}
