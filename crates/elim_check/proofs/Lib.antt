@@ -1,0 +1,14 @@
+pub mod Always
+pub mod Answering
+pub mod Arms
+pub mod Bounding
+pub mod Chained
+pub mod Entries
+pub mod Formed
+pub mod Members
+pub mod Naming
+pub mod Replaying
+pub mod Sides
+pub mod Singles
+pub mod Telling
+pub mod Unfolded

@@ -1,0 +1,5 @@
+pub mod Answers
+pub mod Checked
+pub mod Every
+pub mod Reading
+pub mod Steps

@@ -1,0 +1,81 @@
+// Names out of a disjunction, by the entries of a log.
+
+ghost use Rattle.elim_check.specs.Reading.{ReadAt};
+ghost use Rattle.elim_check.specs.Every.{every_by_log};
+ghost use Rattle.elim_rules.specs.Logs.{name_by_log, names_by_log};
+ghost use Rattle.std.specs.Prelude.{◌≡◌, ◌≤◌, IfOk, length};
+
+use super::fault::Stop;
+use super::replay::replay;
+use clause_set::{Clause, Dnf, not};
+use linear_term::Memory;
+use purse::{Entry, Purse};
+use sqlite_items::Items;
+use std::alloc::Global;
+
+/// A copy of the clauses.
+#[tactic(auto, using(clause_set::proofs::Walks::copies))]
+fn copies(alloc: Global, cs: &[Clause]) -> Result<Items<Clause>, Memory>
+    ensures { IfOk result (λ copy. copy ≡ cs.now) }
+{
+    let mut out = Items::new(alloc);
+    for c in cs {
+        out.push(c.copy(alloc)?)?;
+    }
+    Ok(out)
+}
+
+/// The disjunction of "some value of x makes d true", by the entries from the place on.
+pub(crate) fn some_value(
+    alloc: Global,
+    d: &Dnf,
+    x: u32,
+    log: &[Entry],
+    place: &mut usize,
+    purse: &mut Purse,
+) -> Result<Dnf, Stop>
+    requires { place.old ≤ length log.now }
+    ensures { ReadAt (name_by_log x d.now) log.now place.old purse.old result place.new purse.new }
+{
+    let todo = copies(alloc, d.clauses())?;
+    let out = replay(alloc, todo, x, log, place, purse)?;
+    Ok(Dnf::tidy(alloc, out, purse)?)
+}
+
+/// The disjunction of "every value of x makes d true": no value makes its negation true.
+pub(crate) fn every_value(
+    alloc: Global,
+    d: &Dnf,
+    x: u32,
+    log: &[Entry],
+    place: &mut usize,
+    purse: &mut Purse,
+) -> Result<Dnf, Stop>
+    requires { place.old ≤ length log.now }
+    ensures { ReadAt (every_by_log x d.now) log.now place.old purse.old result place.new purse.new }
+{
+    let fails = not(alloc, d, purse)?;
+    let some = some_value(alloc, &fails, x, log, place, purse)?;
+    Ok(not(alloc, &some, purse)?)
+}
+
+/// The disjunction of "some values of the names below `names` make d true", the greatest name first.
+pub(crate) fn some_values(
+    alloc: Global,
+    d: &Dnf,
+    names: u32,
+    log: &[Entry],
+    place: &mut usize,
+    purse: &mut Purse,
+) -> Result<Dnf, Stop>
+    requires { place.old ≤ length log.now }
+    ensures { ReadAt (names_by_log names d.now) log.now place.old purse.old result place.new purse.new }
+{
+    let mut left = names;
+    let mut rest = d.copy(alloc)?;
+    'names: while left > 0 {
+        rest = some_value(alloc, &rest, left - 1, log, place, purse)?;
+        left -= 1;
+    }
+    Ok(rest)
+}
