@@ -1,37 +1,52 @@
 -- The job that the words after the program's name ask for.
-use Rattle.std.specs.Prelude.{◌≡◌, ◌≢◌, ◌⊎◌, ℕ, ◌&&◌, ◌||◌, Bool, not, List, [], ◌∷◌, Option, Some, None, codes, nat_eq, string_bytes, bytes_eq, if◌then◌else◌}
-use Rattle.std.specs.List.{starts_with}
+use Rattle.std.specs.Prelude.{◌≡◌, ◌≤◌, ℕ, true, List, [], ◌∷◌, codes, length, string_bytes}
+use Rattle.std.specs.Str.Parse.{digits_value, IsNumeral}
 use Rattle.job_words.specs.declared.jobs.Job.{Job}
 use Rattle.job_words.specs.declared.jobs.Job.TheVariants as job
+use Rattle.job_words.specs.Uses.{Text, Use, Options, Spells, operands, values_of}
 
--- a job by the bytes of its words: to solve the problem in this file
+-- a job by the bytes of its words: to solve the problem in a file, or to give its constraint, within a budget
 pub data Task : Type 0 where
-  solve : (file : List ℕ) → Task
-
--- a word that is no option: '-' alone, or a word that does not begin with '-'
-abbrev pub is_operand : List ℕ → Bool
-is_operand word = bytes_eq word (codes "-") || not (starts_with nat_eq word (codes "-"))
-
--- the job that words name: 'solve' and one operand, the file
-abbrev pub job_of : List (List ℕ) → Option Task
-job_of [] = None
-job_of (command ∷ []) = None
-job_of (command ∷ file ∷ []) = if bytes_eq command (codes "solve") && is_operand file then Some (solve file) else None
-job_of (command ∷ file ∷ more ∷ rest) = None
-
--- the files that a job reads, in their order
-abbrev pub files_of : Option Task → List (List ℕ)
-files_of None = []
-files_of (Some (solve file)) = file ∷ []
+  solve : (file : Text) → (budget : ℕ) → Task
+  eliminate : (file : Text) → (budget : ℕ) → Task
 
 -- a job as its words
 abbrev pub task_of : Job → Task
-task_of (job.Solve file) = solve (string_bytes file)
+task_of (job.Solve file budget) = solve (string_bytes file) budget
+task_of (job.Elim file budget) = eliminate (string_bytes file) budget
 
--- a word that may stand for a file: '-' alone, or one that does not begin with '-'
-abbrev pub IsOperand : List ℕ → Type 0
-IsOperand word = (word ≡ codes "-") ⊎ ((rest : List ℕ) → word ≢ 45 ∷ rest)
+-- the files that a job reads, in their order
+abbrev pub files_of : Task → List Text
+files_of (solve file budget) = file ∷ []
+files_of (eliminate file budget) = file ∷ []
 
--- words name the job to solve a file: they are 'solve' and the file's name
-abbrev pub NamesSolve : List (List ℕ) → List ℕ → Type 0
-NamesSolve words file = (words ≡ codes "solve" ∷ file ∷ []) × IsOperand file
+-- a text of 1 to 10 decimal digits writes the number, which lies from 1 to 'most'
+pub record IsNumber (most : ℕ) (text : Text) (n : ℕ) : Type 0 where
+  pub digits : IsNumeral 10 text
+  pub few : length text ≤ 10
+  pub value : digits_value 10 text ≡ n
+  pub least : 1 ≤ n
+  pub within : n ≤ most
+
+-- a budget, by the values that its option is given: the usual one where there is none, and the number that one value writes
+abbrev pub IsBudget : List Text → ℕ → Type 0
+IsBudget [] n = n ≡ 50000000
+IsBudget (text ∷ []) n = IsNumber 1000000000 text n
+IsBudget (text ∷ more ∷ rest) n = ⊥
+
+-- the option of a command with a budget
+abbrev pub budget_option : Options
+budget_option = (codes "budget", true) ∷ []
+
+-- the words behind `solve` or `elim` name a file and a budget
+pub record NamesFile (line : List Text) (file : Text) (budget : ℕ) : Type 0 where
+  pub us : List Use
+  pub spells : Spells budget_option line us
+  pub file_is : operands us ≡ file ∷ []
+  pub budget_is : IsBudget (values_of (codes "budget") us) budget
+
+-- the words name the job
+abbrev pub NamesJob : List Text → Task → Type 0
+NamesJob [] task = ⊥
+NamesJob (command ∷ line) (solve file budget) = (command ≡ codes "solve") × NamesFile line file budget
+NamesJob (command ∷ line) (eliminate file budget) = (command ≡ codes "elim") × NamesFile line file budget

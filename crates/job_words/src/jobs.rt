@@ -1,10 +1,16 @@
 // What the program can be asked for.
 
+ghost use Rattle.std.specs.Prelude.{◌≡◌};
+
+use std::alloc::AllocError;
+
 /// A job that words name.
 #[derive(Debug, Drop)]
 pub enum Job {
-    /// To say whether the problem in this file is valid.
-    Solve { file: String },
+    /// To say whether the problem in this file is valid, within a budget.
+    Solve { file: String, budget: u64 },
+    /// To give the constraint of the problem in this file, within a budget.
+    Elim { file: String, budget: u64 },
 }
 
 /// Why words give no job.
@@ -13,4 +19,14 @@ pub enum WordsFault {
     /// They name none.
     Words,
     Memory,
+}
+
+impl From<AllocError> for WordsFault {
+    ghost use Rattle.job_words.specs.declared.jobs.WordsFault.{WordsFault};
+
+    ghost from_gives = { λ _ e. e ≡ WordsFault.Memory };
+
+    fn from(_error: AllocError) -> WordsFault {
+        WordsFault::Memory
+    }
 }

@@ -1,38 +1,86 @@
-// The words of the command line.
+// The words of the command line, and the job that they name.
 
-ghost use Rattle.job_words.specs.Jobs.{is_operand, job_of, solve, task_of, NamesSolve};
-ghost use Rattle.std.specs.Prelude.{◌≡◌, ◌↔◌, ℕ, List, map, None, Some, string_bytes, IfOk, IsErrOf};
+ghost use Rattle.clap.specs.Words.{first_value, found_of};
+ghost use Rattle.job_words.specs.Jobs.{IsBudget, NamesJob, Task, task_of};
+ghost use Rattle.job_words.specs.Uses.{listed, Text};
+ghost use Rattle.std.specs.Prelude.{◌≡◌, ◌∷◌, ℕ, List, map, codes, string_bytes, None, Some, IfOk, IfErr, MatchResult};
 
+use crate::commands::{elim_command, read, solve_command};
 use crate::jobs::{Job, WordsFault};
+use crate::numbers::number;
+use clap::ArgMatches;
 use std::alloc::Global;
 
-/// The job that the words after the program's name name: `solve` and a file, which is `-` or does not begin with `-`.
+// The greatest budget.
+const MOST: u64 = 1_000_000_000;
+
+// The budget where none is given.
+const USUAL: u64 = 50_000_000;
+
+/// The job that the words after the program's name name.
 pub fn job(alloc: Global, words: &[String]) -> Result<Job, WordsFault>
-    ensures named { IfOk result (λ job. job_of (map string_bytes words.now) ≡ Some (task_of job)) }
-    ensures refused { IsErrOf result WordsFault.Words ↔ (job_of (map string_bytes words.now) ≡ None) }
+    ensures named { IfOk result (λ job. NamesJob (map string_bytes words.now) (task_of job)) }
+    ensures refused { IfErr result (λ e. e ≡ WordsFault.Words → (task : Task) → NamesJob (map string_bytes words.now) task → ⊥) }
 {
-    let [command, file] = words else {
+    let [command, line @ ..] = words else {
         return Err(WordsFault::Words);
     };
-    if command.as_str() != "solve" || !is_operand(file.as_str()) {
-        return Err(WordsFault::Words);
+    match command.as_str() {
+        "solve" => solve_job(alloc, line),
+        "elim" => elim_job(alloc, line),
+        _ => Err(WordsFault::Words),
     }
-    let Ok(file) = String::from_str(alloc, file.as_str()) else {
-        return Err(WordsFault::Memory);
-    };
-    Ok(Job::Solve { file })
 }
 
-// Whether a word is no option.
-fn is_operand(word: &str) -> bool
-    ensures { result ≡ is_operand word.now }
-{
-    word == "-" || !word.as_bytes().starts_with(b"-")
-}
-
-/// Words name the job to solve a file exactly where they are `solve` and the name of the file, which is `-` or does not
-/// begin with `-`.
-#[tactic(auto, using(crate::proofs::Naming::names_solve))]
+/// Words name one job at most.
+#[tactic(auto, using(crate::proofs::Naming::one_job))]
 pub fn words_law()
-    ensures { (words : List (List ℕ)) (file : List ℕ) → (job_of words ≡ Some (solve file)) ↔ NamesSolve words file }
+    ensures { (words : List Text) (a : Task) (b : Task) → NamesJob words a → NamesJob words b → a ≡ b }
 {}
+
+// `solve FILE [--budget N]`
+fn solve_job(alloc: Global, line: &[String]) -> Result<Job, WordsFault>
+    ensures named { IfOk result (λ job. NamesJob (codes "solve" ∷ map string_bytes line.now) (task_of job)) }
+    ensures refused { IfErr result (λ e. e ≡ WordsFault.Words → (task : Task) → NamesJob (codes "solve" ∷ map string_bytes line.now) task → ⊥) }
+{
+    let matches = read(solve_command(alloc)?, line)?;
+    let file = text_in(alloc, &matches, "FILE")?;
+    let budget = budget_in(&matches)?;
+    Ok(Job::Solve { file, budget })
+}
+
+// `elim FILE [--budget N]`
+fn elim_job(alloc: Global, line: &[String]) -> Result<Job, WordsFault>
+    ensures named { IfOk result (λ job. NamesJob (codes "elim" ∷ map string_bytes line.now) (task_of job)) }
+    ensures refused { IfErr result (λ e. e ≡ WordsFault.Words → (task : Task) → NamesJob (codes "elim" ∷ map string_bytes line.now) task → ⊥) }
+{
+    let matches = read(elim_command(alloc)?, line)?;
+    let file = text_in(alloc, &matches, "FILE")?;
+    let budget = budget_in(&matches)?;
+    Ok(Job::Elim { file, budget })
+}
+
+// The word that an operand has.
+fn text_in(alloc: Global, matches: &ArgMatches<'_>, id: &str) -> Result<String, WordsFault>
+    ensures found { IfOk result (λ text. Some (string_bytes text) ≡ first_value (found_of matches.now) id.now) }
+    ensures missing { IfErr result (λ e. e ≡ WordsFault.Words → first_value (found_of matches.now) id.now ≡ None) }
+{
+    match matches.get_str(id) {
+        Some(text) => Ok(String::from_str(alloc, text)?),
+        None => Err(WordsFault::Words),
+    }
+}
+
+// The budget that the option's value gives.
+fn budget_in(matches: &ArgMatches<'_>) -> Result<u64, WordsFault>
+    ensures { MatchResult result (λ n. IsBudget (listed (first_value (found_of matches.now) (codes "budget"))) n)
+        (λ e. (n : ℕ) → IsBudget (listed (first_value (found_of matches.now) (codes "budget"))) n → ⊥) }
+{
+    match matches.get_str("budget") {
+        Some(text) => match number(text, MOST) {
+            Some(n) => Ok(n),
+            None => Err(WordsFault::Words),
+        },
+        None => Ok(USUAL),
+    }
+}

@@ -14,13 +14,12 @@ use Rattle.problem_file.specs.Refusals.{refusal_name}
 use Rattle.problem_file.specs.Special.{first_unsupported}
 use Rattle.problem_file.specs.Answers.{Poses, PosesUnsupported, AnswersFile, refused, unsupported, posed}
 use Rattle.problem_file.specs.Faults.{RefusesFile, IsTold}
-use Rattle.problem_file.proofs.Bytes.{same_file, one_problem, one_refusal, read_or_refused}
+use Rattle.problem_file.proofs.Bytes.{same_file, one_problem, one_refusal, read_or_refused, some_same}
 use Rattle.problem_file.proofs.Existing.{either}
-use Rattle.problem_file.proofs.Places.{some_same}
 
 -- two readings of the same bytes have the same first unsupported place
-one_place : (bytes : List ℕ) (p q : Problem) (m n : Option ℕ) (h : Reads bytes p) (k : Reads bytes q) → first_unsupported h.file p ≡ m → first_unsupported k.file q ≡ n → m ≡ n
-one_place bytes p q m n h k e f = sym e ∙ ap (λ z. first_unsupported z p) (same_file bytes h.file k.file h.read k.read) ∙ f
+one_place : (bytes : List ℕ) (p q : Problem) (m n : Option ℕ) (h : Reads bytes p) (k : Reads bytes q) → first_unsupported h.file ≡ m → first_unsupported k.file ≡ n → m ≡ n
+one_place bytes p q m n h k e f = sym e ∙ ap first_unsupported (same_file bytes h.file k.file h.read k.read) ∙ f
 
 -- there is one at most
 pub one_unsupported : (bytes : List ℕ) (m n : ℕ) → PosesUnsupported bytes m → PosesUnsupported bytes n → m ≡ n
@@ -32,9 +31,9 @@ posed_or_unsupported bytes p at h k = let bad : None ≡ Some at = one_place byt
 
 -- a problem that is read is answered, or there is such a place
 pub supported_or_not : (bytes : List ℕ) (p : Problem) → Reads bytes p → Poses bytes p ⊎ ((at : ℕ) × PosesUnsupported bytes at)
-supported_or_not bytes p h = by (first_unsupported h.file p) refl
+supported_or_not bytes p h = by (first_unsupported h.file) refl
   where
-    by : (place : Option ℕ) → first_unsupported h.file p ≡ place → Poses bytes p ⊎ ((at : ℕ) × PosesUnsupported bytes at)
+    by : (place : Option ℕ) → first_unsupported h.file ≡ place → Poses bytes p ⊎ ((at : ℕ) × PosesUnsupported bytes at)
     by (Some at) first = inr (at, record { problem = p; reads = h; first = first })
     by None supported = inl (record { reads = h; supported = supported })
 
@@ -51,6 +50,13 @@ one_of_file IsAnswer same one bytes a b (unsupported at h e) (posed q k f) = abs
 one_of_file IsAnswer same one bytes a b (posed p h e) (refused s k f) = absurd (read_or_refused bytes p s h.reads k)
 one_of_file IsAnswer same one bytes a b (posed p h e) (unsupported on k f) = absurd (posed_or_unsupported bytes p on h k)
 one_of_file IsAnswer same one bytes a b (posed p h e) (posed q k f) = one q a b (same p q a (one_problem bytes p q h.reads k.reads) e) f
+
+-- the answer to the bytes of a problem that is answered is one of its answers
+pub posed_answered : (IsAnswer : Problem → Answer → Type 0) → ((p q : Problem) (a : Answer) → AreSame p q → IsAnswer p a → IsAnswer q a)
+    → (bytes : List ℕ) (a : Answer) (p : Problem) → AnswersFile IsAnswer bytes a → Poses bytes p → IsAnswer p a
+posed_answered IsAnswer same bytes a p (refused r h e) poses = absurd (read_or_refused bytes p r poses.reads h)
+posed_answered IsAnswer same bytes a p (unsupported at h e) poses = absurd (posed_or_unsupported bytes p at poses h)
+posed_answered IsAnswer same bytes a p (posed q k e) poses = same q p a (one_problem bytes q p k.reads poses.reads) e
 
 -- an answer for each problem is an answer for each file
 pub some_of_file : (IsAnswer : Problem → Answer → Type 0) → ((bytes : List ℕ) (p : Problem) → Poses bytes p → (a : Answer) × IsAnswer p a) → (bytes : List ℕ) → (a : Answer) × AnswersFile IsAnswer bytes a

@@ -1,5 +1,5 @@
 -- Bytes pose at most one problem, or have one first refusal.
-use Rattle.std.proofs.Common.{◌≡◌, ℕ, ◌^◌, List, length, sym, ◌∙◌, ap, subst}
+use Rattle.std.proofs.Common.{◌≡◌, ◌↔◌, ℕ, ◌^◌, List, length, Some, None, sym, ◌∙◌, ap, subst}
 use Rattle.std.proofs.lemmas.Bool.{ltb-true}
 use Rattle.pri_tokens.specs.Lexemes.{lexemes_of}
 use Rattle.pri_reader.specs.declared.tree.File.{File}
@@ -12,13 +12,18 @@ use Rattle.pri_reader.proofs.SourceFiles.{small_asks, shallow_asks}
 use Rattle.pri_typing.specs.declared.problem.Problem.{Problem}
 use Rattle.pri_typing.specs.Faults.{least}
 use Rattle.pri_typing.specs.Files.{file_faults, IsTyped}
-use Rattle.pri_typing.specs.WellFormed.{HasDistinctNames, IsWellFormed}
+use Rattle.pri_typing.specs.Problems.{IsPure}
+use Rattle.pri_typing.specs.WellFormed.{HasDistinctNames, HasIdentifiers, IsWellFormed}
 use Rattle.pri_typing.proofs.Least.{least-none}
 use Rattle.pri_typing.proofs.Divisions.{cuts_proper}
 use Rattle.pri_typing.proofs.Formed.{well_formed, names_differ}
+use Rattle.pri_typing.proofs.Identified.{file_identified, names_identified}
+use Rattle.pri_typing.proofs.Purity.{first_pure}
 use Rattle.pri_typing.proofs.Ranged.{file_ranged}
-use Rattle.problem_file.proofs.Places.{some_same}
 use Rattle.problem_file.specs.Reads.{IsFileOf, Reads, Refusal, unread, untyped, FirstRefusal, AreSame}
+
+pub some_same : {X : Type 0} (x y : X) → Some x ≡ Some y → x ≡ y
+some_same x y h = cc
 
 pub same_file : (bytes : List ℕ) (f g : File) → IsFileOf bytes f → IsFileOf bytes g → f ≡ g
 same_file bytes f g h k = one_file (file_setting bytes) (lexemes_of bytes) f g h k
@@ -59,3 +64,10 @@ reads_formed bytes p h =
 
 pub reads_distinct : (bytes : List ℕ) (p : Problem) → Reads bytes p → HasDistinctNames p
 reads_distinct bytes p h = names_differ h.file p (least-none _ h.sound) h.typed
+
+pub reads_identifiers : (bytes : List ℕ) (p : Problem) → Reads bytes p → HasIdentifiers p
+reads_identifiers bytes p h = names_identified h.file p h.typed (file_identified (file_setting bytes) h.file h.read)
+
+-- a problem has a first application exactly where it has one
+pub reads_pure : (bytes : List ℕ) (p : Problem) → Reads bytes p → (p.first_application ≡ None) ↔ IsPure p
+reads_pure bytes p h = first_pure h.file p (least-none _ h.sound) h.typed

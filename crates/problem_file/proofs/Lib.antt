@@ -1,5 +1,5 @@
 pub mod Answering
 pub mod Bytes
+pub mod Encoded
 mod Existing
-pub mod Places
-mod Specials
+pub mod Reduced

@@ -9,13 +9,17 @@ use Rattle.problem_file.specs.Special.{first_unsupported}
 -- the bytes pose the problem, and nothing in them is unsupported
 pub record Poses (bytes : List ℕ) (p : Problem) : Type 0 where
   pub reads : Reads bytes p
-  pub supported : first_unsupported reads.file p ≡ None
+  pub supported : first_unsupported reads.file ≡ None
 
 -- the bytes pose a problem with something unsupported, and first there
 pub record PosesUnsupported (bytes : List ℕ) (at : ℕ) : Type 0 where
   pub problem : Problem
   pub reads : Reads bytes problem
-  pub first : first_unsupported reads.file problem ≡ Some at
+  pub first : first_unsupported reads.file ≡ Some at
+
+-- the bytes pose a problem that is so, and nothing in them is unsupported
+abbrev pub PosesOne : List ℕ → (Problem → Type 0) → Type 0
+PosesOne bytes Is = (p : Problem) × Poses bytes p × Is p
 
 -- the answer to a problem's file: a refusal, or, of the problem that it poses, one of these
 pub data AnswersFile (IsAnswer : Problem → Answer → Type 0) (bytes : List ℕ) (answer : Answer) : Type 0 where

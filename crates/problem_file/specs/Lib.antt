@@ -1,4 +1,5 @@
 pub mod Answers
+pub mod Encoded
 pub mod Faults
 pub mod Reads
 pub mod Refusals

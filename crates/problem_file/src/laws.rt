@@ -2,10 +2,12 @@
 
 ghost use Rattle.problem_file.specs.Answers.{Poses, PosesUnsupported};
 ghost use Rattle.problem_file.specs.Reads.{AreSame, FirstRefusal, Reads, Refusal};
-ghost use Rattle.problem_file.specs.Special.{least_place};
-ghost use Rattle.pri_typing.specs.WellFormed.{HasDistinctNames, IsWellFormed};
+ghost use Rattle.encoding.specs.Problems.{problem_root};
+ghost use Rattle.formula.specs.Reduced.{HasReducedTerms};
+ghost use Rattle.pri_typing.specs.Problems.{IsPure};
+ghost use Rattle.pri_typing.specs.WellFormed.{HasDistinctNames, HasIdentifiers, IsWellFormed};
 ghost use Rattle.pri_typing.specs.declared.problem.Problem.{Problem};
-ghost use Rattle.std.specs.Prelude.{◌≡◌, ◌≤◌, ◌⊎◌, ℕ, List, [], None, Some, All, Contains};
+ghost use Rattle.std.specs.Prelude.{◌≡◌, ◌↔◌, ◌⊎◌, ℕ, List, None};
 
 /// Bytes pose a problem or have a first refusal, and not both; and of each at most one.
 pub fn one_problem_law()
@@ -15,10 +17,13 @@ pub fn one_problem_law()
     ensures some { (bytes : List ℕ) → ((p : Problem) × Reads bytes p) ⊎ ((r : Refusal) × FirstRefusal bytes r) }
 {}
 
-/// The problem that bytes pose is well formed, and its symbols have different names.
+/// The problem that bytes pose is well formed, and its symbols have different identifiers as names; it has a first application
+/// exactly where it is not pure.
 pub fn problem_law()
     ensures well_formed { (bytes : List ℕ) (p : Problem) → Reads bytes p → IsWellFormed p }
     ensures distinct { (bytes : List ℕ) (p : Problem) → Reads bytes p → HasDistinctNames p }
+    ensures identifiers { (bytes : List ℕ) (p : Problem) → Reads bytes p → HasIdentifiers p }
+    ensures pure { (bytes : List ℕ) (p : Problem) → Reads bytes p → (p.first_application ≡ None) ↔ IsPure p }
 {}
 
 /// A problem that bytes pose is answered, or there is a first place of something that is not, and not both.
@@ -26,4 +31,10 @@ pub fn unsupported_law()
     ensures either { (bytes : List ℕ) (p : Problem) (at : ℕ) → Poses bytes p → PosesUnsupported bytes at → ⊥ }
     ensures place { (bytes : List ℕ) (m n : ℕ) → PosesUnsupported bytes m → PosesUnsupported bytes n → m ≡ n }
     ensures some { (bytes : List ℕ) (p : Problem) → Reads bytes p → Poses bytes p ⊎ ((at : ℕ) × PosesUnsupported bytes at) }
+{}
+
+/// The terms of an encoded problem are reduced.
+#[tactic(auto, using(crate::proofs::Reduced::problem_reduced))]
+pub fn encoding_law()
+    ensures { (p : Problem) → HasReducedTerms (problem_root p).value }
 {}

@@ -1,13 +1,16 @@
-// Problem files: from their bytes to the problem that they pose, or to why they pose none, and how that is told.
+// Problem files: from their bytes to the problem that they pose and its encoding, or to why there is none, and how that is
+// told.
 #![tactic(auto)]
 
+mod encoder;
 mod fault;
 mod laws;
 mod reading;
 mod refusals;
 mod special;
 
+pub use encoder::{encode_problem, refuse_encoding};
 pub use fault::FileFault;
-pub use laws::{one_problem_law, problem_law, unsupported_law};
+pub use laws::{encoding_law, one_problem_law, problem_law, unsupported_law};
 pub use reading::read_problem;
 pub use refusals::refuse;

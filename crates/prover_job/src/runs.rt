@@ -1,23 +1,24 @@
 // The top call: the words, then the files of their job, then its answer, then the text of the answer.
 
-ghost use Rattle.answers.specs.Answer.{IsStatus};
+ghost use Rattle.answers.specs.Answer.{IsStatus, words_answer};
+ghost use Rattle.answers.specs.Files.{AnswersSource};
 ghost use Rattle.answers.specs.Outside.{Meets};
-ghost use Rattle.job_words.specs.Jobs.{files_of, job_of, solve, task_of};
-ghost use Rattle.prover_io.specs.Outside.{Broke, Rose};
-ghost use Rattle.prover_job.specs.Runs.{AnswersJob, AnswersTask, IsJobFile, SaysRefuted, SaysValid};
-ghost use Rattle.std.specs.Prelude.{◌≡◌, ◌≢◌, ◌⊎◌, ℕ, List, map, string_bytes, None, Some, Contains};
+ghost use Rattle.job_words.specs.Jobs.{NamesJob, Task, eliminate, solve, task_of};
+ghost use Rattle.prover_io.specs.Outside.{Rose};
+ghost use Rattle.prover_job.specs.Runs.{AnswersTask, BrokeAt, IsElimCaused, IsJobFile, IsSolveCaused, NameNoJob, SaysConstraint, SaysRefuted, SaysValid, budget_of};
+ghost use Rattle.std.specs.Prelude.{◌≡◌, ◌≢◌, ◌<◌, ◌^◌, ◌⊎◌, ℕ, List, map, string_bytes};
 
 use crate::tasks::{Stop, job_output};
 use answers::put_answer;
 use answers::status::{NO_MEMORY, SOURCE_FAILED, WORDS_REFUSED};
-use job_words::{Job, WordsFault, job};
+use job_words::{Job, WordsFault, job, words_law};
 use prover_io::{Sink, Source};
 use std::alloc::Global;
 use typed_formula::World;
 
-/// Does the job that the words name, and answers the exit status: 0 valid, 1 invalid, 2 unknown, 3 the file is refused, 5 the
-/// words name no job, 6 the source failed, 7 the sink failed, 8 no memory, 9 the file is too long. The interpretation has no
-/// call, so what is promised in it is promised in every one.
+/// Does the job that the words name, and answers the exit status: 0 valid, or the constraint is made, 1 invalid, 2 unknown,
+/// 3 the file is refused, 5 the words name no job, 6 the source failed, 7 the sink failed, 8 no memory, 9 the file is too
+/// long. The interpretation has no call, so what is promised in it is promised in every one.
 pub fn run<S: Source, K: Sink, W: World>(
     alloc: Global,
     words: &[String],
@@ -25,23 +26,28 @@ pub fn run<S: Source, K: Sink, W: World>(
     sink: &mut K,
     world: &W,
 ) -> u8
-    ensures answered { Meets (AnswersJob (S.bytes_of source.old) (job_of (map string_bytes words.now))) result
-        (K.taken sink.old) (K.taken sink.new) }
-    ensures valid { (file : List ℕ) → job_of (map string_bytes words.now) ≡ Some (solve file) → result ≡ 0
-        → SaysValid (record { truth = W.truth world.now; value = W.value world.now })
-        (S.bytes_of source.old file) (K.taken sink.old) (K.taken sink.new) }
-    ensures refuted { (file : List ℕ) → job_of (map string_bytes words.now) ≡ Some (solve file) → result ≡ 1
+    ensures answered { (task : Task) → NamesJob (map string_bytes words.now) task
+        → Meets (AnswersTask (S.bytes_of source.old) task) result (K.taken sink.old) (K.taken sink.new) }
+    ensures no_job { NameNoJob (map string_bytes words.now) → Meets (λ answer. answer ≡ words_answer) result (K.taken sink.old) (K.taken sink.new) }
+    ensures valid { (file : List ℕ) (budget : ℕ) → NamesJob (map string_bytes words.now) (solve file budget) → result ≡ 0
+        → SaysValid (record { truth = W.truth world.now; value = W.value world.now }) (S.bytes_of source.old file) (K.taken sink.old) (K.taken sink.new) }
+    ensures refuted { (file : List ℕ) (budget : ℕ) → NamesJob (map string_bytes words.now) (solve file budget) → result ≡ 1
         → SaysRefuted (S.bytes_of source.old file) }
-    ensures unread { job_of (map string_bytes words.now) ≡ None → source.new ≡ source.old }
-    ensures begun { job_of (map string_bytes words.now) ≢ None → result ≢ 8
-        → IsJobFile (job_of (map string_bytes words.now)) (S.at source.new) }
+    ensures constraint { (file : List ℕ) (budget : ℕ) → NamesJob (map string_bytes words.now) (eliminate file budget) → result ≡ 0
+        → SaysConstraint (record { truth = W.truth world.now; value = W.value world.now }) (S.bytes_of source.old file) (K.taken sink.old) (K.taken sink.new) }
+    ensures solve_causes { (file : List ℕ) (budget : ℕ) → NamesJob (map string_bytes words.now) (solve file budget)
+        → Meets (AnswersSource (IsSolveCaused budget) (S.bytes_of source.old file)) result (K.taken sink.old) (K.taken sink.new) }
+    ensures elim_causes { (file : List ℕ) (budget : ℕ) → NamesJob (map string_bytes words.now) (eliminate file budget)
+        → Meets (AnswersSource (IsElimCaused budget) (S.bytes_of source.old file)) result (K.taken sink.old) (K.taken sink.new) }
+    ensures unread { NameNoJob (map string_bytes words.now) → source.new ≡ source.old }
+    ensures begun { (task : Task) → NamesJob (map string_bytes words.now) task → result ≢ 8 → IsJobFile task (S.at source.new) }
     ensures source_failed { result ≡ 6 → Rose (S.faults source.old) (S.faults source.new) }
-    ensures named { result ≡ 6 → (file : List ℕ) × Contains (files_of (job_of (map string_bytes words.now))) file
-        × Broke (Some file) (S.at source.new) (S.broken source.new) }
+    ensures named { result ≡ 6 → (task : Task) × NamesJob (map string_bytes words.now) task × BrokeAt task (S.at source.new) (S.broken source.new) }
     ensures sink_failed { result ≡ 7 → Rose (K.faults sink.old) (K.faults sink.new) }
     ensures silent { (result ≡ 6) ⊎ (result ≡ 8) → sink.new ≡ sink.old }
     ensures status { IsStatus result }
 {
+    words_law();
     match job(alloc, words) {
         Ok(job) => do_job(alloc, source, sink, &job),
         Err(WordsFault::Words) => put_answer(sink, WORDS_REFUSED, b"refused words\n"),
@@ -51,11 +57,11 @@ pub fn run<S: Source, K: Sink, W: World>(
 
 // Does a job, and answers the exit status.
 fn do_job<S: Source, K: Sink>(alloc: Global, source: &mut S, sink: &mut K, job: &Job) -> u8
+    requires { budget_of (task_of job.now) < 2 ^ 32 }
     ensures answered { Meets (AnswersTask (S.bytes_of source.old) (task_of job.now)) result (K.taken sink.old) (K.taken sink.new) }
-    ensures begun { result ≢ 8 → IsJobFile (Some (task_of job.now)) (S.at source.new) }
+    ensures begun { result ≢ 8 → IsJobFile (task_of job.now) (S.at source.new) }
     ensures source_failed { result ≡ 6 → Rose (S.faults source.old) (S.faults source.new) }
-    ensures named { result ≡ 6 → (file : List ℕ) × Contains (files_of (Some (task_of job.now))) file
-        × Broke (Some file) (S.at source.new) (S.broken source.new) }
+    ensures named { result ≡ 6 → BrokeAt (task_of job.now) (S.at source.new) (S.broken source.new) }
     ensures sink_failed { result ≡ 7 → Rose (K.faults sink.old) (K.faults sink.new) }
     ensures silent { (result ≡ 6) ⊎ (result ≡ 8) → sink.new ≡ sink.old }
     ensures status { IsStatus result }

@@ -2,20 +2,20 @@
 
 ghost use Rattle.answers.specs.Answer.{answer_of, long_answer};
 ghost use Rattle.answers.specs.Files.{AnswersSource};
-ghost use Rattle.job_words.specs.Jobs.{files_of, task_of};
+ghost use Rattle.elim_job.specs.Eliminated.{IsEliminated};
+ghost use Rattle.job_words.specs.Jobs.{task_of};
 ghost use Rattle.prover_io.specs.Outside.{Broke, Rose};
 ghost use Rattle.prover_io.specs.declared.whole.ReadFault.{ReadFault};
-ghost use Rattle.prover_job.specs.Runs.{AnswersTask, IsJobFile};
+ghost use Rattle.prover_job.specs.Runs.{AnswersTask, BrokeAt, IsJobFile, budget_of};
 ghost use Rattle.prover_job.specs.declared.tasks.Stop.{Stop};
 ghost use Rattle.solve_job.specs.Solved.{IsSolved};
-ghost use Rattle.std.specs.Prelude.{◌≡◌, ◌≢◌, ℕ, List, Contains, IfOk, IsErrOf, Some};
+ghost use Rattle.std.specs.Prelude.{◌≡◌, ◌≢◌, ◌<◌, ◌^◌, IfOk, IsErrOf, Some};
 
 use answers::status::FILE_TOO_LONG;
 use answers::{Output, say};
 use job_words::Job;
 use linear_term::Memory;
 use prover_io::{ReadFault, Source, read_all};
-use solve_job::answer;
 use std::alloc::Global;
 
 // How many bytes a problem's file has at most.
@@ -45,26 +45,52 @@ pub(crate) fn job_output<S: Source>(
     source: &mut S,
     job: &Job,
 ) -> Result<Output, Stop>
+    requires { budget_of (task_of job.now) < 2 ^ 32 }
     ensures answered { IfOk result (λ output. AnswersTask (S.bytes_of source.old) (task_of job.now) (answer_of output)) }
     ensures rose { IsErrOf result Stop.Source → Rose (S.faults source.old) (S.faults source.new) }
-    ensures broke { IsErrOf result Stop.Source → (file : List ℕ) × Contains (files_of (Some (task_of job.now))) file
-        × Broke (Some file) (S.at source.new) (S.broken source.new) }
-    ensures begun { ¬ (IsErrOf result Stop.Memory) → IsJobFile (Some (task_of job.now)) (S.at source.new) }
+    ensures broke { IsErrOf result Stop.Source → BrokeAt (task_of job.now) (S.at source.new) (S.broken source.new) }
+    ensures begun { ¬ (IsErrOf result Stop.Memory) → IsJobFile (task_of job.now) (S.at source.new) }
 {
     match job {
-        Job::Solve { file } => solve_output(alloc, source, file.as_str()),
+        Job::Solve { file, budget } => solve_output(alloc, source, file.as_str(), *budget),
+        Job::Elim { file, budget } => elim_output(alloc, source, file.as_str(), *budget),
     }
 }
 
 // What `solve` answers to a file.
-fn solve_output<S: Source>(alloc: Global, source: &mut S, file: &str) -> Result<Output, Stop>
-    ensures answered { IfOk result (λ output. AnswersSource IsSolved (S.bytes_of source.old file.now) (answer_of output)) }
+fn solve_output<S: Source>(
+    alloc: Global,
+    source: &mut S,
+    file: &str,
+    budget: u64,
+) -> Result<Output, Stop>
+    requires { budget < 2 ^ 32 }
+    ensures answered { IfOk result (λ output. AnswersSource (IsSolved budget) (S.bytes_of source.old file.now) (answer_of output)) }
     ensures rose { IsErrOf result Stop.Source → Rose (S.faults source.old) (S.faults source.new) }
     ensures broke { IsErrOf result Stop.Source → Broke (Some file.now) (S.at source.new) (S.broken source.new) }
     ensures begun { ¬ (IsErrOf result Stop.Memory) → S.at source.new ≡ Some file.now }
 {
     match read_all(alloc, source, file, FILE) {
-        Ok(bytes) => Ok(answer(alloc, bytes.as_slice())?),
+        Ok(bytes) => Ok(solve_job::answer(alloc, bytes.as_slice(), budget)?),
+        Err(fault) => unread(alloc, fault),
+    }
+}
+
+// What `elim` answers to a file.
+fn elim_output<S: Source>(
+    alloc: Global,
+    source: &mut S,
+    file: &str,
+    budget: u64,
+) -> Result<Output, Stop>
+    requires { budget < 2 ^ 32 }
+    ensures answered { IfOk result (λ output. AnswersSource (IsEliminated budget) (S.bytes_of source.old file.now) (answer_of output)) }
+    ensures rose { IsErrOf result Stop.Source → Rose (S.faults source.old) (S.faults source.new) }
+    ensures broke { IsErrOf result Stop.Source → Broke (Some file.now) (S.at source.new) (S.broken source.new) }
+    ensures begun { ¬ (IsErrOf result Stop.Memory) → S.at source.new ≡ Some file.now }
+{
+    match read_all(alloc, source, file, FILE) {
+        Ok(bytes) => Ok(elim_job::answer(alloc, bytes.as_slice(), budget)?),
         Err(fault) => unread(alloc, fault),
     }
 }

@@ -10,4 +10,6 @@ mod refused;
 #[cfg(test)]
 mod runs;
 #[cfg(test)]
+mod solved;
+#[cfg(test)]
 mod words;

@@ -94,40 +94,8 @@ fn refused_files_name_the_place(rt: HostRuntime) -> Result<(), Fail> {
                 (3, "refused: Parts at 28\n"),
             ),
             (
-                "\\universalConstants { int x; } \\problem { x = 0 }",
-                (3, "refused: Unsupported at 0\n"),
-            ),
-            (
-                "\\existentialConstants { } \\problem { \\forall int x; x = 0 }",
-                (3, "refused: Unsupported at 37\n"),
-            ),
-            (
-                "\\problem { \\exists (int x, y; int z) x = 0 }",
-                (3, "refused: Unsupported at 11\n"),
-            ),
-            (
-                "\\problem { 1 = \\abs(1) }",
-                (3, "refused: Unsupported at 15\n"),
-            ),
-            (
-                "\\problem { \\min(1, 2) = 1 | \\max(1, 2) = 1 }",
-                (3, "refused: Unsupported at 11\n"),
-            ),
-            (
-                "\\problem { 1 = \\if (true) \\then (1) \\else (2) }",
-                (3, "refused: Unsupported at 15\n"),
-            ),
-            (
                 "\\problem { \\part[a] true | \\part[b] true } \\interpolant { a; b }",
                 (3, "refused: Unsupported at 43\n"),
-            ),
-            (
-                "\\predicates { p; } \\problem { p }",
-                (3, "refused: Unsupported at 0\n"),
-            ),
-            (
-                "\\problem { p() } \\predicates { p; }",
-                (3, "refused: Unsupported at 17\n"),
             ),
         ],
     )

@@ -40,10 +40,23 @@ pub fn ends(
 
 // Runs each of these files, and asks for its answer.
 pub fn answers(rt: &impl Abort, alloc: Global, rows: &[(&str, (u8, &str))]) -> Result<(), Fail> {
-    for (file, (status, text)) in rows {
-        let (ended, taken) = ends(alloc, &["solve", "f"], file.as_bytes(), &[], &[])?;
-        assert_eq!(rt; ended, *status, "at {file}");
-        assert_eq!(rt; taken.as_slice(), text.as_bytes(), "at {file}");
+    for (file, answer) in rows {
+        answers_to(rt, alloc, &["solve", "f"], file, *answer)?;
     }
+    Ok(())
+}
+
+// Runs these words over this file, and asks for its answer.
+pub fn answers_to(
+    rt: &impl Abort,
+    alloc: Global,
+    words: &[&str],
+    file: &str,
+    answer: (u8, &str),
+) -> Result<(), Fail> {
+    let (status, text) = answer;
+    let (ended, taken) = ends(alloc, words, file.as_bytes(), &[], &[])?;
+    assert_eq!(rt; ended, status, "at {words:?} {file}");
+    assert_eq!(rt; taken.as_slice(), text.as_bytes(), "at {words:?} {file}");
     Ok(())
 }

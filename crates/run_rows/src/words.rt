@@ -9,7 +9,7 @@ const TRUE: &[u8] = b"\\problem { true }";
 fn words_name_a_job_or_are_refused(rt: HostRuntime) -> Result<(), Fail> {
     let refused = (5, "refused words\n");
     let valid = (0, "VALID\n");
-    let rows: [(&[&str], (u8, &str)); 10] = [
+    let rows: [(&[&str], (u8, &str)); 16] = [
         (&["solve", "f"], valid),
         (&["solve", "-"], valid),
         (&["solve", "g"], (6, "")),
@@ -18,6 +18,12 @@ fn words_name_a_job_or_are_refused(rt: HostRuntime) -> Result<(), Fail> {
         (&["solve", "-x"], refused),
         (&["--", "solve"], refused),
         (&["solve", "--"], refused),
+        (&["solve", "--", "f"], valid),
+        (&["elim", "f"], (0, "constraint: true\n")),
+        (&["sol", "f"], refused),
+        (&["solve", "f", "--budget", "0"], refused),
+        (&["solve", "f", "--budget", "1000000001"], refused),
+        (&["solve", "f", "--budget", "9", "--budget=9"], refused),
         (&["f", "solve"], refused),
         (&[], refused),
     ];

@@ -1,39 +1,106 @@
--- Each file has exactly one answer of `solve`.
-use Rattle.std.proofs.Common.{◌≡◌, ℕ, Bool, true, false, List, refl, sym, ◌∙◌, ap, codes}
-use Rattle.typed_formula.specs.Formula.{formula}
-use Rattle.linear_term.specs.Range.{all_stay}
-use Rattle.ground_truth.specs.Ground.{is_true}
-use Rattle.ground_truth.specs.Computed.{computed_for}
+-- A file has at most one answer of `solve`, and it has a status of answers.
+use Rattle.std.proofs.Common.{◌≡◌, ◌≢◌, ℕ, ℤ, List, [], ◌∷◌, ◌++◌, length, refl, sym, ◌∙◌, ap, subst, codes}
+use Rattle.purse.specs.Trace.{at}
+use Rattle.formula.specs.Form.{Form}
+use Rattle.proof_tree.specs.Proof.{Proof, given}
+use Rattle.search.specs.Run as run
+use Rattle.search.specs.Run.{Ending, ending, ends_with, out_of_steps, overflows, canonical_run}
 use Rattle.pri_typing.specs.declared.problem.Problem.{Problem}
-use Rattle.answers.specs.Answer.{Answer, says_line, unknown_answer}
+use Rattle.pri_printer.specs.Printed.{dnf_text}
+use Rattle.pri_printer.specs.Text.{listed_text, value_texts}
+use Rattle.encoding.specs.Problems.{problem_root}
+use Rattle.answers.specs.Answer.{Answer, line, says_line, unknown_answer, IsAnswerStatus}
+use Rattle.constraint_text.specs.Constraint.{constraint_line}
+use Rattle.constraint_text.proofs.Printed.{text_same}
 use Rattle.problem_file.specs.Reads.{AreSame}
-use Rattle.problem_file.proofs.Answering.{one_of_file, some_of_file}
-use Rattle.solve_job.specs.Solved.{IsSolved, AnswersNumbers, overflow, valid, invalid}
+use Rattle.problem_file.specs.Answers.{Poses, refused, unsupported, posed}
+use Rattle.problem_file.specs.Encoded.{AnswersEncoded, Fits, large, leaves, runs}
+use Rattle.problem_file.proofs.Answering.{one_of_file, posed_answered}
+use Rattle.problem_file.proofs.Encoded.{fitting_answered, one_of_encoded, root_same, same_encoded}
+use Rattle.solve_job.specs.Solved.{valid_answer, AnswersEnd, closed, valid, invalid, saturated, branch, steps, overflow, run_end, AnswersRun, IsSolved}
 
--- the answer to a problem is that of its formula's tree
-same_numbers : (p q : Problem) (a : Answer) → AreSame p q → AnswersNumbers p a → AnswersNumbers q a
-same_numbers p q a same (overflow leaves e) = overflow (ap (λ f. all_stay (computed_for f)) (sym same.formula) ∙ leaves) e
-same_numbers p q a same (valid is e) = valid (ap (λ f. all_stay (computed_for f)) (sym same.formula) ∙ is.0, ap is_true (sym same.formula) ∙ is.1) e
-same_numbers p q a same (invalid is e) = invalid (ap (λ f. all_stay (computed_for f)) (sym same.formula) ∙ is.0, ap is_true (sym same.formula) ∙ is.1) e
+-- ---- one answer to each end
 
-one_by_numbers : (p : Problem) (a b : Answer) → AnswersNumbers p a → AnswersNumbers p b → a ≡ b
-one_by_numbers p a b (overflow h e) (overflow k f) = e ∙ sym f
-one_by_numbers p a b (overflow h e) (valid k f) = let stays = k.0 in absurd cc
-one_by_numbers p a b (overflow h e) (invalid k f) = let stays = k.0 in absurd cc
-one_by_numbers p a b (valid h e) (overflow k f) = let stays = h.0 in absurd cc
-one_by_numbers p a b (valid h e) (valid k f) = e ∙ sym f
-one_by_numbers p a b (valid h e) (invalid k f) = let is = h.1 in let is_not = k.1 in absurd cc
-one_by_numbers p a b (invalid h e) (overflow k f) = let stays = h.0 in absurd cc
-one_by_numbers p a b (invalid h e) (valid k f) = let is = k.1 in let is_not = h.1 in absurd cc
-one_by_numbers p a b (invalid h e) (invalid k f) = e ∙ sym f
+-- the answer where values were found, for these names of existential constants
+abbrev pub found_answer : Problem → List (List ℕ) → Proof → List ℤ → Answer
+found_answer p [] x vs = says_line 0 (codes "VALID")
+found_answer p (name ∷ names) x vs = valid_answer p (dnf_text p (given x)) vs
 
-some_by_numbers : (p : Problem) (stays is : Bool) → all_stay (computed_for (formula p.formula)) ≡ stays → is_true (formula p.formula) ≡ is → (a : Answer) × AnswersNumbers p a
-some_by_numbers p false is e f = (unknown_answer (codes "overflow"), overflow e refl)
-some_by_numbers p true true e f = (says_line 0 (codes "VALID"), valid (e, f) refl)
-some_by_numbers p true false e f = (says_line 1 (codes "INVALID"), invalid (e, f) refl)
+-- the answer to each end
+abbrev pub end_answer : Problem → Ending run.Answer → Answer
+end_answer p (ends_with (run.valid vs x) stands) = found_answer p p.existentials x vs
+end_answer p (ends_with (run.invalid log x) stands) = says_line 1 (codes "INVALID")
+end_answer p (ends_with (run.saturated log x) stands) = unknown_answer (codes "saturated")
+end_answer p (ends_with run.too_long stands) = unknown_answer (codes "branch")
+end_answer p (out_of_steps stands) = unknown_answer (codes "steps")
+end_answer p (overflows numbers stands) = unknown_answer (codes "overflow")
 
-pub one_answer : (bytes : List ℕ) (a b : Answer) → IsSolved bytes a → IsSolved bytes b → a ≡ b
-one_answer = one_of_file AnswersNumbers same_numbers one_by_numbers
+found_some : (p : Problem) (x : Proof) (vs : List ℤ) (names : List (List ℕ)) → names ≢ [] → valid_answer p (dnf_text p (given x)) vs ≡ found_answer p names x vs
+found_some p x vs [] some = absurd (some refl)
+found_some p x vs (name ∷ names) some = refl
 
-pub some_answer : (bytes : List ℕ) → (a : Answer) × IsSolved bytes a
-some_answer = some_of_file AnswersNumbers (λ bytes p poses. some_by_numbers p (all_stay (computed_for (formula p.formula))) (is_true (formula p.formula)) refl refl)
+-- an answer is that of the end
+pub by_end : (p : Problem) (end : Ending run.Answer) (a : Answer) → AnswersEnd p end a → a ≡ end_answer p end
+by_end p end a (closed vs x stands is none e) = e ∙ sym (ap (end_answer p) is ∙ ap (λ names. found_answer p names x vs) none)
+by_end p end a (valid vs x stands text is some printed e) =
+    e ∙ ap (λ t. valid_answer p t vs) printed.text ∙ found_some p x vs p.existentials some ∙ sym (ap (end_answer p) is)
+by_end p end a (invalid log x stands is e) = e ∙ sym (ap (end_answer p) is)
+by_end p end a (saturated log x stands is e) = e ∙ sym (ap (end_answer p) is)
+by_end p end a (branch stands is e) = e ∙ sym (ap (end_answer p) is)
+by_end p end a (steps stands is e) = e ∙ sym (ap (end_answer p) is)
+by_end p end a (overflow numbers stands is e) = e ∙ sym (ap (end_answer p) is)
+
+one_of_end : (p : Problem) (end : Ending run.Answer) (a b : Answer) → AnswersEnd p end a → AnswersEnd p end b → a ≡ b
+one_of_end p end a b h k = by_end p end a h ∙ sym (by_end p end b k)
+
+-- ---- the same for the same problem
+
+valid_answer_same : (p q : Problem) (text : List ℕ) (vs : List ℤ) → AreSame p q → valid_answer p text vs ≡ valid_answer q text vs
+valid_answer_same p q text vs same =
+    ap (λ names. record { status = 0; text = line (codes "VALID") ++ (constraint_line text ++ line (codes "solution: " ++ listed_text (value_texts names vs))) }) same.existentials
+
+same_end : (p q : Problem) (end : Ending run.Answer) (a : Answer) → AreSame p q → AnswersEnd p end a → AnswersEnd q end a
+same_end p q end a same (closed vs x stands is none e) = closed vs x stands is (sym same.existentials ∙ none) e
+same_end p q end a same (valid vs x stands text is some printed e) =
+    valid vs x stands text is (λ none. some (same.existentials ∙ none)) (text_same p q (given x) text same printed) (e ∙ valid_answer_same p q text vs same)
+same_end p q end a same (invalid log x stands is e) = invalid log x stands is e
+same_end p q end a same (saturated log x stands is e) = saturated log x stands is e
+same_end p q end a same (branch stands is e) = branch stands is e
+same_end p q end a same (steps stands is e) = steps stands is e
+same_end p q end a same (overflow numbers stands is e) = overflow numbers stands is e
+
+run_end_same : (budget : ℕ) (p q : Problem) → AreSame p q → run_end budget p ≡ run_end budget q
+run_end_same budget p q same =
+    let from : Form → ℕ → Ending run.Answer = λ f n. ending (canonical_run f n budget) (at (record { budget = budget; spent = 0 }) []) in
+    ap (λ w. from w.value (length p.existentials)) (root_same p q same) ∙ ap (λ names. from (problem_root q).value (length names)) same.existentials
+
+same_run : (budget : ℕ) (p q : Problem) (a : Answer) → AreSame p q → AnswersRun budget p a → AnswersRun budget q a
+same_run budget p q a same h = subst (λ end. AnswersEnd q end a) (run_end_same budget p q same) (same_end p q (run_end budget p) a same h)
+
+-- ---- one answer
+
+pub one_answer : (budget : ℕ) (bytes : List ℕ) (a b : Answer) → IsSolved budget bytes a → IsSolved budget bytes b → a ≡ b
+one_answer budget = one_of_file (AnswersEncoded (AnswersRun budget)) (same_encoded (AnswersRun budget) (same_run budget)) (one_of_encoded (AnswersRun budget) (λ p. one_of_end p (run_end budget p)))
+
+-- the answer to the bytes of a problem whose encoding fits is that of its run
+pub run_answered : (budget : ℕ) (bytes : List ℕ) (a : Answer) (p : Problem) → IsSolved budget bytes a → Poses bytes p → Fits p → AnswersRun budget p a
+run_answered budget bytes a p solved poses =
+    fitting_answered (AnswersRun budget) p a (posed_answered (AnswersEncoded (AnswersRun budget)) (same_encoded (AnswersRun budget) (same_run budget)) bytes a p solved poses)
+
+-- ---- its status
+
+end_status : (p : Problem) (end : Ending run.Answer) (a : Answer) → AnswersEnd p end a → IsAnswerStatus a.status
+end_status p end a (closed vs x stands is none e) = subst (λ b. IsAnswerStatus b.status) (sym e) refl
+end_status p end a (valid vs x stands text is some printed e) = subst (λ b. IsAnswerStatus b.status) (sym e) refl
+end_status p end a (invalid log x stands is e) = subst (λ b. IsAnswerStatus b.status) (sym e) refl
+end_status p end a (saturated log x stands is e) = subst (λ b. IsAnswerStatus b.status) (sym e) refl
+end_status p end a (branch stands is e) = subst (λ b. IsAnswerStatus b.status) (sym e) refl
+end_status p end a (steps stands is e) = subst (λ b. IsAnswerStatus b.status) (sym e) refl
+end_status p end a (overflow numbers stands is e) = subst (λ b. IsAnswerStatus b.status) (sym e) refl
+
+pub solved_status : (budget : ℕ) (bytes : List ℕ) (a : Answer) → IsSolved budget bytes a → IsAnswerStatus a.status
+solved_status budget bytes a (refused r h e) = subst (λ b. IsAnswerStatus b.status) (sym e) refl
+solved_status budget bytes a (unsupported at h e) = subst (λ b. IsAnswerStatus b.status) (sym e) refl
+solved_status budget bytes a (posed p h (large l e)) = subst (λ b. IsAnswerStatus b.status) (sym e) refl
+solved_status budget bytes a (posed p h (leaves l e)) = subst (λ b. IsAnswerStatus b.status) (sym e) refl
+solved_status budget bytes a (posed p h (runs f k)) = end_status p (run_end budget p) a k

@@ -1,4 +1,5 @@
-mod Causing
-mod Exactly
-mod Grounding
+pub mod Causing
+pub mod Exactly
+pub mod Grounded
 pub mod Meaning
+mod Outcomes

@@ -1,63 +1,139 @@
 -- What the answers of `solve` mean.
-use Rattle.std.proofs.Common.{◌≡◌, ◌≢◌, ◌↔◌, ℕ, ℤ, Bool, true, false, List, [], ◌++◌, length, refl, sym, ◌∙◌, ap}
+use Rattle.std.proofs.Common.{◌≡◌, ◌≢◌, ℕ, zero, suc, ◌+◌, ℤ, true, List, [], ◌∷◌, ◌++◌, length, refl, sym, ◌∙◌, ap, subst, append_assoc, append-nil, length-append, arith}
 use Rattle.typed_formula.specs.Formula.{formula}
-use Rattle.typed_formula.specs.Truth.{Meaning, Truth}
+use Rattle.typed_formula.specs.Truth.{Meaning}
 use Rattle.typed_formula.specs.declared.world.Table.{Table}
-use Rattle.ground_truth.specs.Ground.{is_true}
-use Rattle.ground_truth.proofs.Meanings.{truth_meant}
+use Rattle.purse.specs.Trace.{At, just, next}
+use Rattle.clause_set.specs.Literals.{dnf_truth}
+use Rattle.formula.specs.Form.{Form, FormTruth, is_pure, universal}
+use Rattle.elim_rules.specs.Presburger.{IsPresburger}
+use Rattle.elim_rules.proofs.Reduced.{presburger_of}
+use Rattle.elim_rules.proofs.Whole.{anywhere, counterexample}
+use Rattle.proof_tree.specs.Proof.{Proof, given}
+use Rattle.search.specs.Meaning.{IsFound, IsLost, Tells}
+use Rattle.search.specs.Run as run
+use Rattle.search.specs.Run.{Ending, ends_with, out_of_steps, overflows}
+use Rattle.encoding.specs.Problems.{body, constants, problem_root}
+use Rattle.encoding.specs.Root.{for_last}
+use Rattle.encoding.proofs.Problems.{holds_is, over_constants_is, pure_is, root_over}
 use Rattle.pri_typing.specs.declared.problem.Problem.{Problem}
-use Rattle.pri_typing.specs.Problems.{Holds, IsRefuted, IsRefutedAt, meaning_of}
+use Rattle.pri_typing.specs.Problems.{Holds, IsRefuted, meaning_of}
+use Rattle.pri_typing.specs.WellFormed.{IsWellFormed}
+use Rattle.pri_printer.specs.Printed.{dnf_formula}
 use Rattle.answers.specs.Answer.{Answer}
-use Rattle.problem_file.specs.Answers.{Poses, refused, unsupported, posed}
-use Rattle.solve_job.specs.Solved.{IsSolved, overflow, valid, invalid}
-use Rattle.solve_job.specs.Headline.{Headline}
-use Rattle.solve_job.proofs.Grounding.{posed_ground, no_existentials, no_universals}
+use Rattle.constraint_text.specs.Constraint.{IsTextOf}
+use Rattle.constraint_text.proofs.Printed.{speaks, true_where}
+use Rattle.problem_file.specs.Reads.{Reads}
+use Rattle.problem_file.specs.Answers.{refused, unsupported, posed}
+use Rattle.problem_file.specs.Encoded.{large, leaves, runs}
+use Rattle.problem_file.proofs.Bytes.{reads_formed}
+use Rattle.problem_file.proofs.Reduced.{problem_reduced, body_reduced}
+use Rattle.solve_job.specs.Solved.{AnswersEnd, closed, valid, invalid, saturated, branch, steps, overflow, run_end, IsSolved}
+use Rattle.solve_job.specs.Headline as headline_words
+use Rattle.solve_job.specs.Headline.{Constrains, Headline}
+use Rattle.search.proofs.Telling.{answer_tells}
 
--- the truth of the formula in any interpretation at any integers is that by its numbers
-truth_at : (bytes : List ℕ) (p : Problem) → Poses bytes p → (w : Meaning) (e : List ℤ) → (is_true (formula p.formula) ≡ true) ↔ Truth w (formula p.formula) e
-truth_at bytes p h w e = truth_meant (formula p.formula) (posed_ground bytes p h) w e
+-- what the answer of a run on the encoded problem says of it
+pub tells : (budget : ℕ) (p : Problem) (a : run.Answer) (stands : At) → run_end budget p ≡ ends_with a stands → Tells (problem_root p).value (length p.existentials) a
+tells budget p a stands is =
+    answer_tells (problem_root p).value (length p.existentials) (record { budget = budget; spent = 0 }) a stands (root_over p) (problem_reduced p) is
 
-none_long : {X : Type 0} (xs : List X) → xs ≡ [] → 0 ≡ length xs
-none_long xs h = sym (ap length h)
+-- ---- VALID
 
-true_holds : (w : Meaning) (bytes : List ℕ) (p : Problem) → Poses bytes p → is_true (formula p.formula) ≡ true → Holds w p []
-true_holds w bytes p h is = record { many = none_long p.existentials (no_existentials bytes p h); is = λ u many. (truth_at bytes p h w ([] ++ u)).0 is }
+-- the printed constraint and values mean what the headline says
+found_constrains : (w : Meaning) (p : Problem) (x : Proof) (vs : List ℤ) (text : List ℕ) → IsWellFormed p → IsFound (problem_root p).value (length p.existentials) vs x → IsTextOf p (given x) text
+    → Constrains w p text vs
+found_constrains w p x vs text formed found printed = record {
+  constraint = dnf_formula p (given x);
+  says = printed.says;
+  alone = speaks p (given x) found.over;
+  holds = λ e t. (holds_is w p e formed t.many).0 (found.covers w e t.many ((true_where w p (given x) e found.over t.many).0 t));
+  solved = (true_where w p (given x) vs found.over found.best.names).1 found.best.satisfies;
+  exact = λ pure e h. (true_where w p (given x) e found.over h.many).1 (found.exact ((pure_is p).1 pure) w e h.many ((holds_is w p e formed h.many).1 h));
+}
 
-pub true_exactly : (w : Meaning) (bytes : List ℕ) (p : Problem) → Poses bytes p → (is_true (formula p.formula) ≡ true) ↔ Holds w p []
-true_exactly w bytes p h = (true_holds w bytes p h, λ holds. (truth_at bytes p h w ([] ++ [])).1 (holds.is [] (none_long p.universals (no_universals bytes p h))))
+no_values : (vs : List ℤ) → length vs ≡ 0 → vs ≡ []
+no_values [] e = refl
+no_values (v ∷ vs) e = absurd (omega (arith, e))
+
+-- without existential constants the problem holds
+found_closed : (w : Meaning) (p : Problem) (x : Proof) (vs : List ℤ) → IsWellFormed p → IsFound (problem_root p).value (length p.existentials) vs x → p.existentials ≡ [] → Holds w p []
+found_closed w p x vs formed found none =
+    let empty : vs ≡ [] = no_values vs (found.best.names ∙ ap length none) in
+    let many : 0 ≡ length p.existentials = sym (ap length none) in
+    (holds_is w p [] formed many).0 (found.covers w [] many (subst (λ v. dnf_truth (given x) v ≡ true) empty found.best.satisfies))
+
+-- ---- INVALID
+
+presburger_last : (k : ℕ) (g : Form) → IsPresburger g → IsPresburger (for_last k g)
+presburger_last zero g h = h
+presburger_last (suc k) g h = presburger_last k g h
+
+pure_first : (k : ℕ) (g : Form) → is_pure (for_last k g) ≡ true → is_pure g ≡ true
+pure_first zero g h = h
+pure_first (suc k) g h = pure_first k g h
+
+-- values of the last k names at which the formula fails
+record Witness (w : Meaning) (k : ℕ) (g : Form) (e : List ℤ) : Type 0 where
+  values : List ℤ
+  many : length values ≡ k
+  fails : ¬ (FormTruth w g (e ++ values))
+
+-- a formula without predicates and functions that fails for all values of its last names has values at which it fails
+last_fails : (w : Meaning) (k : ℕ) (g : Form) (e : List ℤ) → IsPresburger g → ¬ (FormTruth w (for_last k g) e) → Witness w k g e
+last_fails w zero g e is h = record { values = []; many = refl; fails = λ t. h (subst (FormTruth w g) (append-nil e) t) }
+last_fails w (suc k) g e is h =
+    let whole = presburger_last k g is in
+    let one = counterexample (for_last k g) e whole (λ t. h ((anywhere w (universal (for_last k g)) e whole).1 t)) in
+    let rest = last_fails w k g (e ++ one.0 ∷ []) is (λ t. one.1 ((anywhere w (for_last k g) (e ++ one.0 ∷ []) whole).0 t)) in
+    record { values = one.0 ∷ rest.values; many = ap suc rest.many; fails = λ t. rest.fails (subst (FormTruth w g) (sym (append_assoc e (one.0 ∷ []) rest.values)) t) }
 
 -- the table without rows
 pub no_table : Table
 no_table = record { truths = []; values = [] }
 
-false_refuted : (bytes : List ℕ) (p : Problem) → Poses bytes p → is_true (formula p.formula) ≡ false → IsRefuted p
-false_refuted bytes p h is = λ e many. record {
-  table = no_table;
-  universals = [];
-  fit = none_long p.universals (no_universals bytes p h);
-  fails = λ t. let bad = (truth_at bytes p h (meaning_of no_table) (e ++ [])).1 t in absurd cc;
-}
+-- a problem that is false everywhere is refuted: its universal constants have values at which it fails
+lost_refuted : (p : Problem) → IsWellFormed p → IsLost (problem_root p).value (length p.existentials) → IsRefuted p
+unfolding next just
+lost_refuted p formed lost = λ e many.
+    let w = meaning_of no_table in
+    let k = length p.universals in
+    let g = (body p).value in
+    let at = last_fails w k g e (presburger_of g (pure_first k g lost.pure) (body_reduced p)) (lost.fails w e many) in
+    let all : length (e ++ at.values) ≡ constants p = length-append e at.values ∙ ap (λ n. n + length at.values) many ∙ ap (λ n. length p.existentials + n) at.many in
+    record { table = no_table; universals = at.values; fit = at.many; fails = λ t. at.fails ((over_constants_is w p (formula p.formula) (e ++ at.values) formed.products all).1 t) }
 
-pub false_exactly : (bytes : List ℕ) (p : Problem) → Poses bytes p → (is_true (formula p.formula) ≡ false) ↔ IsRefuted p
-false_exactly bytes p h = (false_refuted bytes p h, λ lost. by (is_true (formula p.formula)) refl (lost [] (none_long p.existentials (no_existentials bytes p h))))
-  where
-    by : (b : Bool) → is_true (formula p.formula) ≡ b → IsRefutedAt p [] → is_true (formula p.formula) ≡ false
-    by false is at = is
-    by true is at = absurd (at.fails ((truth_at bytes p h (meaning_of at.table) ([] ++ at.universals)).0 is))
+-- ---- the headline
 
 -- an answer with another status than 0 and 1 says nothing
 silent : (w : Meaning) (bytes : List ℕ) (a : Answer) (s : ℕ) → a.status ≡ s → s ≢ 0 → s ≢ 1 → Headline w bytes a
-silent w bytes a s e zero one = record { valid = λ z. absurd (zero (sym e ∙ z)); invalid = λ z. absurd (one (sym e ∙ z)) }
+silent w bytes a s e not_zero not_one = record { valid = λ z. absurd (not_zero (sym e ∙ z)); invalid = λ z. absurd (not_one (sym e ∙ z)) }
 
-pub headline : (w : Meaning) (bytes : List ℕ) (a : Answer) → IsSolved bytes a → Headline w bytes a
-headline w bytes a (refused r h e) = silent w bytes a 3 (ap (λ b. b.status) e) (λ z. cc) (λ z. cc)
-headline w bytes a (unsupported at h e) = silent w bytes a 3 (ap (λ b. b.status) e) (λ z. cc) (λ z. cc)
-headline w bytes a (posed p h (overflow leaves e)) = silent w bytes a 2 (ap (λ b. b.status) e) (λ z. cc) (λ z. cc)
-headline w bytes a (posed p h (valid is e)) = record {
-  valid = λ z. record { problem = p; reads = h.reads; says = ap (λ b. b.text) e; holds = true_holds w bytes p h is.1 };
+end_means : (w : Meaning) (budget : ℕ) (bytes : List ℕ) (p : Problem) (a : Answer) → Reads bytes p → AnswersEnd p (run_end budget p) a → Headline w bytes a
+end_means w budget bytes p a reads (closed vs x stands is none e) = record {
+  valid = λ z. record { problem = p; reads = reads; valid = headline_words.closed none (ap (λ b. b.text) e) (found_closed w p x vs (reads_formed bytes p reads) (tells budget p _ stands is) none) };
   invalid = λ z. let bad = sym z ∙ ap (λ b. b.status) e in absurd cc;
 }
-headline w bytes a (posed p h (invalid is e)) = record {
-  valid = λ z. let bad = sym z ∙ ap (λ b. b.status) e in absurd cc;
-  invalid = λ z. record { problem = p; reads = h.reads; refuted = false_refuted bytes p h is.1 };
+end_means w budget bytes p a reads (valid vs x stands text is some printed e) = record {
+  valid = λ z. record {
+    problem = p;
+    reads = reads;
+    valid = headline_words.constrained text vs some (ap (λ b. b.text) e) (found_constrains w p x vs text (reads_formed bytes p reads) (tells budget p _ stands is) printed);
+  };
+  invalid = λ z. let bad = sym z ∙ ap (λ b. b.status) e in absurd cc;
 }
+end_means w budget bytes p a reads (invalid log x stands is e) = record {
+  valid = λ z. let bad = sym z ∙ ap (λ b. b.status) e in absurd cc;
+  invalid = λ z. record { problem = p; reads = reads; refuted = lost_refuted p (reads_formed bytes p reads) (tells budget p _ stands is) };
+}
+end_means w budget bytes p a reads (saturated log x stands is e) = silent w bytes a 2 (ap (λ b. b.status) e) (λ z. cc) (λ z. cc)
+end_means w budget bytes p a reads (branch stands is e) = silent w bytes a 2 (ap (λ b. b.status) e) (λ z. cc) (λ z. cc)
+end_means w budget bytes p a reads (steps stands is e) = silent w bytes a 2 (ap (λ b. b.status) e) (λ z. cc) (λ z. cc)
+end_means w budget bytes p a reads (overflow numbers stands is e) = silent w bytes a 2 (ap (λ b. b.status) e) (λ z. cc) (λ z. cc)
+
+pub headline : (w : Meaning) (budget : ℕ) (bytes : List ℕ) (a : Answer) → IsSolved budget bytes a → Headline w bytes a
+headline w budget bytes a (refused r h e) = silent w bytes a 3 (ap (λ b. b.status) e) (λ z. cc) (λ z. cc)
+headline w budget bytes a (unsupported at h e) = silent w bytes a 3 (ap (λ b. b.status) e) (λ z. cc) (λ z. cc)
+headline w budget bytes a (posed p h (large l e)) = silent w bytes a 3 (ap (λ b. b.status) e) (λ z. cc) (λ z. cc)
+headline w budget bytes a (posed p h (leaves l e)) = silent w bytes a 2 (ap (λ b. b.status) e) (λ z. cc) (λ z. cc)
+headline w budget bytes a (posed p h (runs f k)) = end_means w budget bytes p a h.reads k

@@ -1,26 +1,63 @@
 -- Where each answer of `solve` comes.
-use Rattle.std.specs.Prelude.{◌≡◌, ◌↔◌, ℕ, List, codes}
+use Rattle.std.specs.Prelude.{◌≡◌, ◌↔◌, ◌⊎◌, ℕ, ℤ, List, codes}
+use Rattle.linear_term.specs.declared.range.Place.{Place}
+use Rattle.purse.specs.declared.log.Entry.{Entry}
+use Rattle.purse.specs.Trace.{At}
+use Rattle.proof_tree.specs.Proof.{Proof}
+use Rattle.search.specs.Run as run
+use Rattle.search.specs.Run.{Ending, ends_with, out_of_steps, overflows}
 use Rattle.pri_typing.specs.declared.problem.Problem.{Problem}
-use Rattle.answers.specs.Answer.{Answer, placed, refused_answer}
+use Rattle.pri_typing.specs.Problems.{IsPure}
+use Rattle.answers.specs.Answer.{Answer, placed, refused_answer, unknown_answer}
 use Rattle.problem_file.specs.Reads.{Refusal, FirstRefusal}
 use Rattle.problem_file.specs.Refusals.{refusal_name}
-use Rattle.problem_file.specs.Answers.{Poses, PosesUnsupported}
-use Rattle.solve_job.specs.Solved.{Overflows, IsTrueByNumbers, IsFalseByNumbers}
+use Rattle.problem_file.specs.Answers.{Poses, PosesOne, PosesUnsupported}
+use Rattle.problem_file.specs.Encoded.{Fits, IsLarge, LeavesRange}
+use Rattle.solve_job.specs.Solved.{run_end}
 
--- the bytes pose a problem that is so, and nothing in them is unsupported
-abbrev pub PosesOne : List ℕ → (Problem → Type 0) → Type 0
-PosesOne bytes Is = (p : Problem) × Poses bytes p × Is p
+-- the ends of a run
+abbrev pub IsValid : Ending run.Answer → Type 0
+IsValid end = (vs : List ℤ) × (x : Proof) × (stands : At) × (end ≡ ends_with (run.valid vs x) stands)
 
--- the file is refused: by its first refusal, or at something unsupported
+abbrev pub IsInvalid : Ending run.Answer → Type 0
+IsInvalid end = (log : List Entry) × (x : Proof) × (stands : At) × (end ≡ ends_with (run.invalid log x) stands)
+
+abbrev pub IsSaturated : Ending run.Answer → Type 0
+IsSaturated end = (log : List Entry) × (x : Proof) × (stands : At) × (end ≡ ends_with (run.saturated log x) stands)
+
+abbrev pub IsTooLong : Ending run.Answer → Type 0
+IsTooLong end = (stands : At) × (end ≡ ends_with run.too_long stands)
+
+abbrev pub IsOutOfSteps : Ending run.Answer → Type 0
+IsOutOfSteps end = (stands : At) × (end ≡ out_of_steps stands)
+
+abbrev pub IsOutOfRange : Ending run.Answer → Type 0
+IsOutOfRange end = (numbers : List Place) × (stands : At) × (end ≡ overflows numbers stands)
+
+-- the bytes pose a problem whose encoding fits and whose canonical run with this budget ends so
+abbrev pub Ends : ℕ → List ℕ → (Ending run.Answer → Type 0) → Type 0
+Ends budget bytes Is = PosesOne bytes (λ p. Fits p × Is (run_end budget p))
+
+-- the file is refused: by its first refusal, at something unsupported, or as large
 pub data IsRefused (bytes : List ℕ) : Type 0 where
   first : (r : Refusal) → FirstRefusal bytes r → IsRefused bytes
   special : (at : ℕ) → PosesUnsupported bytes at → IsRefused bytes
+  too_large : PosesOne bytes IsLarge → IsRefused bytes
 
 -- each answer comes exactly where its row says, and a refusal with the name and the place
-pub record Causes (bytes : List ℕ) (answer : Answer) : Type 0 where
-  pub valid : (answer.status ≡ 0) ↔ PosesOne bytes IsTrueByNumbers
-  pub invalid : (answer.status ≡ 1) ↔ PosesOne bytes IsFalseByNumbers
-  pub overflow : (answer.status ≡ 2) ↔ PosesOne bytes Overflows
+pub record Causes (budget : ℕ) (bytes : List ℕ) (answer : Answer) : Type 0 where
+  pub valid : (answer.status ≡ 0) ↔ Ends budget bytes IsValid
+  pub invalid : (answer.status ≡ 1) ↔ Ends budget bytes IsInvalid
+  pub steps : (answer ≡ unknown_answer (codes "steps")) ↔ Ends budget bytes IsOutOfSteps
+  pub overflow : (answer ≡ unknown_answer (codes "overflow")) ↔ (PosesOne bytes LeavesRange ⊎ Ends budget bytes IsOutOfRange)
+  pub branch : (answer ≡ unknown_answer (codes "branch")) ↔ Ends budget bytes IsTooLong
+  pub saturated : (answer ≡ unknown_answer (codes "saturated")) ↔ Ends budget bytes IsSaturated
   pub refuses : (answer.status ≡ 3) ↔ IsRefused bytes
   pub refused : (r : Refusal) → FirstRefusal bytes r → answer ≡ refused_answer (refusal_name r)
   pub unsupported : (at : ℕ) → PosesUnsupported bytes at → answer ≡ refused_answer (placed (codes "Unsupported") at)
+  pub large : PosesOne bytes IsLarge → answer ≡ refused_answer (codes "Large")
+
+-- a problem without predicates and functions whose encoding fits is decided, unless the budget ends or a number leaves the range
+abbrev pub Decides : ℕ → List ℕ → Answer → Type 0
+Decides budget bytes answer =
+    (p : Problem) → Poses bytes p → Fits p → IsPure p → ¬ (IsOutOfSteps (run_end budget p)) → ¬ (IsOutOfRange (run_end budget p)) → (answer.status ≡ 0) ⊎ (answer.status ≡ 1)

@@ -1,17 +1,33 @@
 -- What the answers of `solve` mean.
-use Rattle.std.specs.Prelude.{◌≡◌, ℕ, List, [], codes}
+use Rattle.std.specs.Prelude.{◌≡◌, ◌≢◌, ℕ, ℤ, List, [], codes}
+use Rattle.typed_formula.specs.Formula.{Formula}
 use Rattle.typed_formula.specs.Truth.{Meaning}
 use Rattle.pri_typing.specs.declared.problem.Problem.{Problem}
-use Rattle.pri_typing.specs.Problems.{Holds, IsRefuted}
+use Rattle.pri_typing.specs.Problems.{Holds, IsPure, IsRefuted, IsTrueAt, Says, SpeaksOfExistentials}
 use Rattle.answers.specs.Answer.{Answer, line}
 use Rattle.problem_file.specs.Reads.{Reads}
+use Rattle.solve_job.specs.Solved.{valid_answer}
 
--- the bytes read as a problem without existential constants that holds in the interpretation, and the text says VALID
+-- the printed constraint x and values vs of a problem: at each value of the existential constants satisfying the constraint the
+-- problem holds; the printed values satisfy it; without predicates and functions it is exact
+pub record Constrains (w : Meaning) (p : Problem) (x : List ℕ) (vs : List ℤ) : Type 0 where
+  pub constraint : Formula
+  pub says : Says x p constraint
+  pub alone : SpeaksOfExistentials p constraint
+  pub holds : (e : List ℤ) → IsTrueAt w p constraint e → Holds w p e
+  pub solved : IsTrueAt w p constraint vs
+  pub exact : IsPure p → (e : List ℤ) → Holds w p e → IsTrueAt w p constraint e
+
+-- the text says that the problem is valid: without existential constants it holds, and else a constraint and values are printed
+pub data IsValidText (w : Meaning) (p : Problem) (text : List ℕ) : Type 0 where
+  closed : p.existentials ≡ [] → text ≡ line (codes "VALID") → Holds w p [] → IsValidText w p text
+  constrained : (x : List ℕ) (vs : List ℤ) → p.existentials ≢ [] → text ≡ (valid_answer p x vs).text → Constrains w p x vs → IsValidText w p text
+
+-- the bytes read as a problem of which the text says that it is valid
 pub record Validates (w : Meaning) (bytes : List ℕ) (text : List ℕ) : Type 0 where
   pub problem : Problem
   pub reads : Reads bytes problem
-  pub says : text ≡ line (codes "VALID")
-  pub holds : Holds w problem []
+  pub valid : IsValidText w problem text
 
 -- the bytes read as a problem that is refuted
 pub record Refutes (bytes : List ℕ) : Type 0 where

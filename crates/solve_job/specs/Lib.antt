@@ -1,3 +1,5 @@
 pub mod Causes
+pub mod Ground
 pub mod Headline
 pub mod Solved
+pub mod Told

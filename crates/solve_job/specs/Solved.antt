@@ -1,31 +1,46 @@
--- What `solve` answers. Problems of numbers alone are answered today.
-use Rattle.std.specs.Prelude.{◌≡◌, ℕ, true, false, List, codes}
-use Rattle.typed_formula.specs.Formula.{formula}
-use Rattle.linear_term.specs.Range.{all_stay}
-use Rattle.ground_truth.specs.Ground.{is_true}
-use Rattle.ground_truth.specs.Computed.{computed_for}
+-- What `solve` answers: one row for each end of the canonical run on the encoded problem.
+use Rattle.std.specs.Prelude.{◌≡◌, ◌≢◌, ℕ, ℤ, List, [], ◌++◌, length, codes}
+use Rattle.linear_term.specs.declared.range.Place.{Place}
+use Rattle.purse.specs.declared.log.Entry.{Entry}
+use Rattle.purse.specs.Trace.{At, at}
+use Rattle.proof_tree.specs.Proof.{Proof, given}
+use Rattle.search.specs.Run as run
+use Rattle.search.specs.Run.{Ending, ending, ends_with, out_of_steps, overflows, canonical_run}
 use Rattle.pri_typing.specs.declared.problem.Problem.{Problem}
-use Rattle.answers.specs.Answer.{Answer, says_line, unknown_answer}
+use Rattle.pri_printer.specs.Printed.{solution_text}
+use Rattle.encoding.specs.Problems.{problem_root}
+use Rattle.answers.specs.Answer.{Answer, line, says_line, unknown_answer}
+use Rattle.constraint_text.specs.Constraint.{IsTextOf, constraint_line}
 use Rattle.problem_file.specs.Answers.{AnswersFile}
+use Rattle.problem_file.specs.Encoded.{AnswersEncoded}
 
--- a number on the way to the truth of the problem's formula leaves the range
-abbrev pub Overflows : Problem → Type 0
-Overflows p = all_stay (computed_for (formula p.formula)) ≡ false
+-- the line with the values of the existential constants
+abbrev pub solution_line : Problem → List ℤ → List ℕ
+solution_line p vs = line (codes "solution: " ++ solution_text p vs)
 
--- the numbers stay in the range, and by them the formula is true
-abbrev pub IsTrueByNumbers : Problem → Type 0
-IsTrueByNumbers p = (all_stay (computed_for (formula p.formula)) ≡ true) × (is_true (formula p.formula) ≡ true)
+-- the answer that a problem with existential constants is valid, with a constraint and values
+abbrev pub valid_answer : Problem → List ℕ → List ℤ → Answer
+valid_answer p x vs = record { status = 0; text = line (codes "VALID") ++ (constraint_line x ++ solution_line p vs) }
 
--- the numbers stay in the range, and by them the formula is false
-abbrev pub IsFalseByNumbers : Problem → Type 0
-IsFalseByNumbers p = (all_stay (computed_for (formula p.formula)) ≡ true) × (is_true (formula p.formula) ≡ false)
+-- the answer to a problem whose run ends so
+pub data AnswersEnd (p : Problem) (end : Ending run.Answer) (answer : Answer) : Type 0 where
+  closed : (vs : List ℤ) (x : Proof) (stands : At) → end ≡ ends_with (run.valid vs x) stands → p.existentials ≡ [] → answer ≡ says_line 0 (codes "VALID") → AnswersEnd p end answer
+  valid : (vs : List ℤ) (x : Proof) (stands : At) (text : List ℕ) → end ≡ ends_with (run.valid vs x) stands → p.existentials ≢ [] → IsTextOf p (given x) text
+      → answer ≡ valid_answer p text vs → AnswersEnd p end answer
+  invalid : (log : List Entry) (x : Proof) (stands : At) → end ≡ ends_with (run.invalid log x) stands → answer ≡ says_line 1 (codes "INVALID") → AnswersEnd p end answer
+  saturated : (log : List Entry) (x : Proof) (stands : At) → end ≡ ends_with (run.saturated log x) stands → answer ≡ unknown_answer (codes "saturated") → AnswersEnd p end answer
+  branch : (stands : At) → end ≡ ends_with run.too_long stands → answer ≡ unknown_answer (codes "branch") → AnswersEnd p end answer
+  steps : (stands : At) → end ≡ out_of_steps stands → answer ≡ unknown_answer (codes "steps") → AnswersEnd p end answer
+  overflow : (numbers : List Place) (stands : At) → end ≡ overflows numbers stands → answer ≡ unknown_answer (codes "overflow") → AnswersEnd p end answer
 
--- the answer to a problem of numbers alone
-pub data AnswersNumbers (p : Problem) (answer : Answer) : Type 0 where
-  overflow : Overflows p → answer ≡ unknown_answer (codes "overflow") → AnswersNumbers p answer
-  valid : IsTrueByNumbers p → answer ≡ says_line 0 (codes "VALID") → AnswersNumbers p answer
-  invalid : IsFalseByNumbers p → answer ≡ says_line 1 (codes "INVALID") → AnswersNumbers p answer
+-- how the canonical run on the encoded problem ends with this budget
+abbrev pub run_end : ℕ → Problem → Ending run.Answer
+run_end budget p = ending (canonical_run (problem_root p).value (length p.existentials) budget) (at (record { budget = budget; spent = 0 }) [])
 
--- the answer of `solve` to the bytes of a file
-abbrev pub IsSolved : List ℕ → Answer → Type 0
-IsSolved = AnswersFile AnswersNumbers
+-- the answer to a problem whose encoding fits
+abbrev pub AnswersRun : ℕ → Problem → Answer → Type 0
+AnswersRun budget p answer = AnswersEnd p (run_end budget p) answer
+
+-- the answer of `solve` with this budget to the bytes of a file
+abbrev pub IsSolved : ℕ → List ℕ → Answer → Type 0
+IsSolved budget = AnswersFile (AnswersEncoded (AnswersRun budget))

@@ -3,6 +3,7 @@
 
 mod laws;
 mod solving;
+mod telling;
 
-pub use laws::{causes_law, headline_law, numbers_law, one_answer_law};
+pub use laws::{causes_law, decided_law, enough_law, headline_law, one_answer_law};
 pub use solving::answer;

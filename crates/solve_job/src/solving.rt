@@ -1,38 +1,62 @@
 // The answer to a problem's file.
 
 ghost use Rattle.answers.specs.Answer.{answer_of};
-ghost use Rattle.ground_truth.specs.Ground.{IsGround};
-ghost use Rattle.solve_job.specs.Solved.{AnswersNumbers, IsSolved};
-ghost use Rattle.typed_formula.specs.Formula.{formula};
+ghost use Rattle.pri_typing.specs.WellFormed.{HasDistinctNames, HasIdentifiers, IsWellFormed};
+ghost use Rattle.problem_file.specs.Encoded.{AnswersEncoded, IsEncoded};
+ghost use Rattle.solve_job.specs.Solved.{AnswersRun, IsSolved};
 ghost use Rattle.std.specs.Prelude.{◌<◌, ◌^◌, length, IfOk};
 
-use answers::status::{INVALID, VALID};
-use answers::{Output, say, unknown};
-use ground_truth::decide;
+use crate::telling::tell;
+use answers::Output;
+use function_encoding::Encoded;
 use linear_term::Memory;
 use pri_typing::Problem;
-use problem_file::{read_problem, refuse};
+use problem_file::{encode_problem, read_problem, refuse, refuse_encoding};
+use purse::Purse;
+use search::prove;
 use std::alloc::Global;
 
-/// The answer of `solve` to a problem's file of these bytes: of each file there is exactly one.
-pub fn answer(alloc: Global, bytes: &[u8]) -> Result<Output, Memory>
-    requires { length bytes.now < 2 ^ 32 }
-    ensures { IfOk result (λ output. IsSolved bytes.now (answer_of output)) }
+/// The answer of `solve` with a budget to a problem's file of these bytes.
+pub fn answer(alloc: Global, bytes: &[u8], budget: u64) -> Result<Output, Memory>
+    requires bytes { length bytes.now < 2 ^ 32 }
+    requires budget { budget < 2 ^ 32 }
+    ensures { IfOk result (λ output. IsSolved budget bytes.now (answer_of output)) }
 {
     match read_problem(alloc, bytes) {
-        Ok(problem) => problem_answer(alloc, &problem),
+        Ok(problem) => problem_answer(alloc, &problem, budget),
         Err(fault) => refuse(alloc, fault),
     }
 }
 
-// The answer to a problem of numbers alone.
-fn problem_answer(alloc: Global, problem: &Problem) -> Result<Output, Memory>
-    requires { IsGround (formula problem.now.formula) }
-    ensures { IfOk result (λ output. AnswersNumbers problem.now (answer_of output)) }
+// The answer to a problem.
+fn problem_answer(alloc: Global, problem: &Problem, budget: u64) -> Result<Output, Memory>
+    requires well_formed { IsWellFormed problem.now }
+    requires distinct { HasDistinctNames problem.now }
+    requires identifiers { HasIdentifiers problem.now }
+    requires budget { budget < 2 ^ 32 }
+    ensures { IfOk result (λ output. AnswersEncoded (AnswersRun budget) problem.now (answer_of output)) }
 {
-    match decide(&problem.formula) {
-        Some(true) => say(alloc, VALID, b"VALID"),
-        Some(false) => say(alloc, INVALID, b"INVALID"),
-        None => unknown(alloc, b"overflow"),
+    match encode_problem(alloc, problem) {
+        Ok(encoded) => run_answer(alloc, problem, &encoded, budget),
+        Err(refusal) => refuse_encoding(alloc, refusal),
     }
+}
+
+// The answer to an encoded problem: it tells how the search ends that has this budget.
+fn run_answer(
+    alloc: Global,
+    problem: &Problem,
+    encoded: &Encoded,
+    budget: u64,
+) -> Result<Output, Memory>
+    requires well_formed { IsWellFormed problem.now }
+    requires distinct { HasDistinctNames problem.now }
+    requires identifiers { HasIdentifiers problem.now }
+    requires encoded { IsEncoded problem.now encoded.now }
+    requires budget { budget < 2 ^ 32 }
+    ensures { IfOk result (λ output. AnswersRun budget problem.now (answer_of output)) }
+{
+    let mut purse = Purse::new(budget);
+    let outcome = prove(alloc, &encoded.root, encoded.constants, &mut purse)?;
+    tell(alloc, problem, &outcome)
 }

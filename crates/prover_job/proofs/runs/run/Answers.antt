@@ -1,8 +1,27 @@
-use Rattle.prover_job.proofs.Telling.{says_valid, says_refuted}
+-- What is answered of the job that was read is answered of each job that the words name.
+use Rattle.job_words.specs.Jobs.{eliminate, solve, task_of}
+use Rattle.prover_job.proofs.Telling.{named_budget, met_as, says_valid, says_refuted, says_constraint, solve_caused, elim_caused}
 use Rattle.prover_job.proofs.runs.run.Goals as goal
 
+pub do_job-requires : goal.do_job-requires
+do_job-requires g c = named_budget _ _ c.in-Ok.ensures.named
+
 pub returns-in-Ok-clause-valid : goal.returns-in-Ok-clause-valid
-returns-in-Ok-clause-valid g c = λ file is zero. says_valid _ _ _ file _ _ _ (c.do_job.ensures.answered) (rw c.in-Ok.ensures.named at is) zero
+returns-in-Ok-clause-valid g c = λ file budget names zero. says_valid _ budget (g.S.Source.bytes_of c.args.source.now file) _ _ _
+    (met_as (g.S.Source.bytes_of c.args.source.now) _ (task_of c.in-Ok.job) (solve file budget) _ _ _ c.words_law.ensures c.in-Ok.ensures.named names c.do_job.ensures.answered) zero
 
 pub returns-in-Ok-clause-refuted : goal.returns-in-Ok-clause-refuted
-returns-in-Ok-clause-refuted g c = λ file is one. says_refuted _ _ file _ _ _ (c.do_job.ensures.answered) (rw c.in-Ok.ensures.named at is) one
+returns-in-Ok-clause-refuted g c = λ file budget names zero. says_refuted budget (g.S.Source.bytes_of c.args.source.now file) _ _ _
+    (met_as (g.S.Source.bytes_of c.args.source.now) _ (task_of c.in-Ok.job) (solve file budget) _ _ _ c.words_law.ensures c.in-Ok.ensures.named names c.do_job.ensures.answered) zero
+
+pub returns-in-Ok-clause-constraint : goal.returns-in-Ok-clause-constraint
+returns-in-Ok-clause-constraint g c = λ file budget names zero. says_constraint _ budget (g.S.Source.bytes_of c.args.source.now file) _ _ _
+    (met_as (g.S.Source.bytes_of c.args.source.now) _ (task_of c.in-Ok.job) (eliminate file budget) _ _ _ c.words_law.ensures c.in-Ok.ensures.named names c.do_job.ensures.answered) zero
+
+pub returns-in-Ok-clause-solve_causes : goal.returns-in-Ok-clause-solve_causes
+returns-in-Ok-clause-solve_causes g c = λ file budget names. solve_caused budget (g.S.Source.bytes_of c.args.source.now file) _ _ _
+    (met_as (g.S.Source.bytes_of c.args.source.now) _ (task_of c.in-Ok.job) (solve file budget) _ _ _ c.words_law.ensures c.in-Ok.ensures.named names c.do_job.ensures.answered)
+
+pub returns-in-Ok-clause-elim_causes : goal.returns-in-Ok-clause-elim_causes
+returns-in-Ok-clause-elim_causes g c = λ file budget names. elim_caused budget (g.S.Source.bytes_of c.args.source.now file) _ _ _
+    (met_as (g.S.Source.bytes_of c.args.source.now) _ (task_of c.in-Ok.job) (eliminate file budget) _ _ _ c.words_law.ensures c.in-Ok.ensures.named names c.do_job.ensures.answered)

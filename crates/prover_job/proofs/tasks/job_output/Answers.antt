@@ -1,6 +1,9 @@
 use Rattle.std.proofs.Common.{◌≡◌, rules}
-use Rattle.job_words.specs.Jobs.{solve, task_of}
+use Rattle.job_words.specs.Jobs.{eliminate, solve, task_of}
 use Rattle.prover_job.proofs.tasks.job_output.Goals as goal
 
-pub returns-clause-answered : goal.returns-clause-answered
-returns-clause-answered g c = let is : task_of c.args.job.now ≡ solve c.as_str.result.now = search rules in rw is c.solve_output.ensures.answered
+pub returns-in-Solve-clause-answered : goal.returns-in-Solve-clause-answered
+returns-in-Solve-clause-answered g c = let is : task_of c.args.job.now ≡ solve c.as_str.result.now c.in-Solve.budget = search rules in rw is c.solve_output.ensures.answered
+
+pub returns-in-Elim-clause-answered : goal.returns-in-Elim-clause-answered
+returns-in-Elim-clause-answered g c = let is : task_of c.args.job.now ≡ eliminate c.as_str-in-Elim.result.now c.in-Elim.budget = search rules in rw is c.elim_output.ensures.answered

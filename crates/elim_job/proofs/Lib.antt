@@ -1,0 +1,4 @@
+pub mod Causing
+pub mod Exactly
+pub mod Meaning
+mod Telling

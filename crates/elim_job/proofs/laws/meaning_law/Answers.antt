@@ -1,0 +1,5 @@
+use Rattle.elim_job.proofs.Meaning.{means}
+use Rattle.elim_job.proofs.laws.meaning_law.Goals as goal
+
+pub returns : goal.returns
+returns c = means

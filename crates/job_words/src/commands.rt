@@ -1,0 +1,58 @@
+// The commands as `clap` reads them: their operands and options, without help and version.
+
+ghost use Rattle.clap.specs.Words.{app_of, fault_of, found_of, is_simple_and_free, matches_of, rows_of};
+ghost use Rattle.job_words.specs.Jobs.{budget_option};
+ghost use Rattle.job_words.specs.Shapes.{command_app};
+ghost use Rattle.std.specs.Prelude.{◌≡◌, ◌≢◌, [], ◌∷◌, codes, map, string_bytes, true, IfOk, IfErr};
+
+use crate::jobs::WordsFault;
+use clap::error::ErrorKind;
+use clap::{Arg, ArgMatches, Command};
+use std::alloc::{AllocError, Global};
+
+// `solve FILE [--budget N]`
+pub(crate) fn solve_command<'a>(alloc: Global) -> Result<Command<'a>, AllocError>
+    ensures { IfOk result (λ c. app_of c ≡ command_app (codes "solve") (codes "FILE" ∷ []) budget_option) }
+{
+    let file = Arg::new(alloc, "FILE").required(true);
+    let budget = Arg::new(alloc, "budget").long("budget");
+    Command::new(alloc, "solve")
+        .no_binary_name(true)
+        .disable_help_flag(true)
+        .disable_version_flag(true)
+        .arg(file)?
+        .arg(budget)
+}
+
+// `elim FILE [--budget N]`
+pub(crate) fn elim_command<'a>(alloc: Global) -> Result<Command<'a>, AllocError>
+    ensures { IfOk result (λ c. app_of c ≡ command_app (codes "elim") (codes "FILE" ∷ []) budget_option) }
+{
+    let file = Arg::new(alloc, "FILE").required(true);
+    let budget = Arg::new(alloc, "budget").long("budget");
+    Command::new(alloc, "elim")
+        .no_binary_name(true)
+        .disable_help_flag(true)
+        .disable_version_flag(true)
+        .arg(file)?
+        .arg(budget)
+}
+
+// What the command finds in the words, or that it refuses them.
+pub(crate) fn read<'a>(
+    command: Command<'a>,
+    words: &'a [String],
+) -> Result<ArgMatches<'a>, WordsFault>
+    requires { is_simple_and_free (app_of command) ≡ true }
+    ensures found { IfOk result (λ m. (fault_of (app_of command.entry) (map string_bytes words.entry.now) ≡ [])
+        × (rows_of (found_of m) ≡ matches_of (app_of command.entry) (map string_bytes words.entry.now))) }
+    ensures refused { IfErr result (λ e. e ≡ WordsFault.Words → fault_of (app_of command.entry) (map string_bytes words.entry.now) ≢ []) }
+{
+    match command.try_get_matches_from(words) {
+        Ok(matches) => Ok(matches),
+        Err(error) => match error.kind() {
+            ErrorKind::OutOfMemory => Err(WordsFault::Memory),
+            _ => Err(WordsFault::Words),
+        },
+    }
+}

@@ -1,0 +1,74 @@
+-- What the outcome of a search is for the problem, and what is told of it.
+use Rattle.std.proofs.Common.{◌≡◌, ℕ, ◌≤◌, [], Bool, true, false, ◌||◌, nat_lt, length, Result, Ok, Err, IfOk, refl, sym, ◌∙◌, ap, subst, arith}
+use Rattle.std.proofs.lemmas.Grind.{common_steps}
+use Rattle.linear_term.specs.declared.range.Memory.{Memory}
+use Rattle.purse.specs.Trace.{Funds, at}
+use Rattle.formula.specs.Form.{Form}
+use Rattle.formula.specs.Sizes.{size, depth}
+use Rattle.formula.specs.Tree.{form}
+use Rattle.elim_rules.specs.Whole.{AreOver}
+use Rattle.proof_tree.specs.declared.run.Why.TheVariants as why
+use Rattle.search.specs.declared.judge.Outcome.{Outcome}
+use Rattle.search.specs.declared.judge.Outcome.TheVariants.{Valid, Invalid, Unknown}
+use Rattle.search.specs.Outcomes.{EndsAs}
+use Rattle.search.specs.Run as run
+use Rattle.search.specs.Run.{Ending, ending, canonical_run}
+use Rattle.encoding.specs.Problems.{is_large, problem_root}
+use Rattle.function_encoding.specs.declared.answer.Encoded.{Encoded}
+use Rattle.pri_typing.specs.declared.problem.Problem.{Problem}
+use Rattle.answers.specs.Answer.{Answer, answer_of}
+use Rattle.answers.specs.declared.output.Output.{Output}
+use Rattle.constraint_text.specs.Constraint.{IsTextOf}
+use Rattle.problem_file.specs.Encoded.{IsEncoded}
+use Rattle.solve_job.specs.Solved.{closed, valid, invalid, saturated, branch, steps, overflow, run_end, AnswersRun}
+use Rattle.solve_job.specs.Told.{IsFitting, alone, lines, TellsOutcome}
+use Rattle.solve_job.proofs.Meaning.{tells}
+
+-- ---- what is not too large
+
+neither : (a b : Bool) → (a || b) ≡ false → (a ≡ false) × (b ≡ false)
+neither true b h = absurd cc
+neither false b h = (refl, h)
+
+not_above : (most n : ℕ) → nat_lt most n ≡ false → n ≤ most
+not_above most n h = grind (arith, common_steps)
+
+pub small_size : (f : Form) → is_large f ≡ false → size f ≤ 1000000
+small_size f small = not_above 1000000 (size f) (neither (nat_lt 1000000 (size f)) (nat_lt 2000 (depth f)) small).0
+
+pub small_depth : (f : Form) → is_large f ≡ false → depth f ≤ 2000
+small_depth f small = not_above 2000 (depth f) (neither (nat_lt 1000000 (size f)) (nat_lt 2000 (depth f)) small).1
+
+-- ---- the run of the code is that of the problem
+
+abbrev start : ℕ → Funds
+start budget = record { budget = budget; spent = 0 }
+
+run_is : (budget : ℕ) (p : Problem) (e : Encoded) → IsEncoded p e → ending (canonical_run (form e.root) e.constants budget) (at (start budget) []) ≡ run_end budget p
+run_is budget p e h =
+    let from : Form → ℕ → Ending run.Answer = λ f n. ending (canonical_run f n budget) (at (start budget) []) in
+    ap (λ f. from f e.constants) h.root ∙ ap (from (problem_root p).value) h.constants
+
+-- a constraint that was found is one of the problem
+pub fitting : (budget : ℕ) (p : Problem) (e : Encoded) → IsEncoded p e → (o : Outcome) (new : Funds) → EndsAs (form e.root) e.constants (start budget) (Ok o) new → IsFitting p o
+fitting budget p e h (Valid d vs t) new k =
+    let found = tells budget p (run.valid vs k.1) (at new k.0) (sym (run_is budget p e h) ∙ k.2) in (subst (AreOver (length p.existentials)) (sym k.3) found.over, found.best.names)
+fitting budget p e h (Invalid d t) new k = tt
+fitting budget p e h (Unknown y r) new k = tt
+
+told : (budget : ℕ) (p : Problem) (e : Encoded) → IsEncoded p e → (o : Outcome) (new : Funds) (a : Answer) → EndsAs (form e.root) e.constants (start budget) (Ok o) new → TellsOutcome p o a
+    → AnswersRun budget p a
+told budget p e h (Valid d vs t) new a k (alone none is) = closed vs k.1 (at new k.0) (sym (run_is budget p e h) ∙ k.2) none is
+told budget p e h (Valid d vs t) new a k (lines text some ls is) =
+    valid vs k.1 (at new k.0) ls.0 (sym (run_is budget p e h) ∙ k.2) some (subst (λ d. IsTextOf p d ls.0) k.3 ls.1) (is ∙ ap (λ x. record { status = 0; text = x }) ls.2)
+told budget p e h (Invalid d t) new a k is = invalid (k.1).entries k.2 (at new k.0) (sym (run_is budget p e h) ∙ k.3) is
+told budget p e h (Unknown why.Saturated r) new a k is = saturated (k.1).entries k.2 (at new k.0) (sym (run_is budget p e h) ∙ k.3) is
+told budget p e h (Unknown why.Branch r) new a k is = branch (at new k.0) (sym (run_is budget p e h) ∙ k.1) is
+told budget p e h (Unknown why.Steps r) new a k is = steps (at new k.0) (sym (run_is budget p e h) ∙ k.1) is
+told budget p e h (Unknown (why.Overflow place) r) new a k is = overflow k.1 (at new k.0) (sym (run_is budget p e h) ∙ k.2) is
+
+-- what is told of the outcome is the answer to the problem
+pub told_so : (budget : ℕ) (p : Problem) (e : Encoded) → IsEncoded p e → (o : Outcome) (new : Funds) → EndsAs (form e.root) e.constants (start budget) (Ok o) new → (r : Result Output Memory)
+    → IfOk r (λ out. TellsOutcome p o (answer_of out)) → IfOk r (λ out. AnswersRun budget p (answer_of out))
+told_so budget p e h o new k (Ok out) is = told budget p e h o new (answer_of out) k is
+told_so budget p e h o new k (Err m) is = tt

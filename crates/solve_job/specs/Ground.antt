@@ -1,0 +1,28 @@
+-- Problems of numbers alone.
+use Rattle.std.specs.Prelude.{◌≡◌, ◌≤◌, ◌+◌, ◌*◌, ℕ, List}
+use Rattle.typed_formula.specs.Formula.{Formula, formula, applies, for_all, for_some}
+use Rattle.pri_typing.specs.declared.problem.Problem.{Problem}
+use Rattle.pri_typing.specs.Everywhere.{Everywhere}
+use Rattle.pri_typing.specs.Problems.{IsNoCall}
+use Rattle.formula.specs.Sizes.{size}
+use Rattle.encoding.specs.Problems.{constants, problem_root}
+use Rattle.problem_file.specs.Answers.{Poses}
+use Rattle.problem_file.specs.Encoded.{Fits}
+use Rattle.solve_job.specs.Causes.{IsOutOfSteps}
+use Rattle.solve_job.specs.Solved.{run_end}
+
+-- neither a predicate nor a quantifier
+abbrev pub IsPlain : ℕ → Formula → Type 0
+IsPlain n (applies p ts) = ⊥
+IsPlain n (for_all f) = ⊥
+IsPlain n (for_some f) = ⊥
+IsPlain n _ = Unit {0}
+
+-- the problem has no constant, quantifier, predicate or function
+pub record IsGround (p : Problem) : Type 0 where
+  pub alone : constants p ≡ 0
+  pub plain : Everywhere (record { of_formula = IsPlain; of_term = IsNoCall }) 0 (formula p.formula)
+
+-- seven steps a node of its encoding, and three more, are enough for such a problem
+abbrev pub IsEnough : ℕ → List ℕ → Type 0
+IsEnough budget bytes = (p : Problem) → Poses bytes p → Fits p → IsGround p → 7 * size (problem_root p).value + 3 ≤ budget → ¬ (IsOutOfSteps (run_end budget p))

@@ -1,0 +1,100 @@
+// Each rule of the words, with a row on each side of it.
+
+use job_words::{Job, WordsFault, job};
+use std::alloc::Global;
+use std::process::Abort;
+use std::test::Fail;
+
+// The job that the words name, as a text.
+fn named(alloc: Global, words: &[&str]) -> Result<String, Fail> {
+    let mut given = Vec::new(alloc);
+    for word in words {
+        given.push(String::from_str(alloc, word)?)?;
+    }
+    match job(alloc, given.as_slice()) {
+        Ok(Job::Solve { file, budget }) => Ok(format!(in alloc; "solve {file} {budget}")?),
+        Ok(Job::Elim { file, budget }) => Ok(format!(in alloc; "elim {file} {budget}")?),
+        Err(WordsFault::Words) => Ok(String::from_str(alloc, "no job")?),
+        Err(WordsFault::Memory) => Ok(String::from_str(alloc, "no memory")?),
+    }
+}
+
+fn check(rt: &impl Abort, alloc: Global, rows: &[(&[&str], &str)]) -> Result<(), Fail> {
+    for (words, expected) in rows {
+        let answer = named(alloc, words)?;
+        assert_eq!(rt; answer.as_str(), *expected, "words {words:?}");
+    }
+    Ok(())
+}
+
+#[test]
+fn words_name_jobs(rt: HostRuntime) -> Result<(), Fail> {
+    let rows: [(&[&str], &str); 16] = [
+        (&["solve", "f"], "solve f 50000000"),
+        (&["elim", "f"], "elim f 50000000"),
+        (&["solve", "f", "--budget", "1"], "solve f 1"),
+        (
+            &["elim", "--budget", "1000000000", "f"],
+            "elim f 1000000000",
+        ),
+        (&["solve", "--budget=0000000007", "f"], "solve f 7"),
+        (&["solve", "-"], "solve - 50000000"),
+        (&["solve", ""], "solve  50000000"),
+        (&["solve", "solve"], "solve solve 50000000"),
+        (&["solve", "--", "f"], "solve f 50000000"),
+        (&["solve", "f", "--"], "solve f 50000000"),
+        (&["solve", "--", "--"], "solve -- 50000000"),
+        (&["solve", "--", "-x"], "solve -x 50000000"),
+        (&["elim", "--", "--budget"], "elim --budget 50000000"),
+        (
+            &["elim", "--budget", "5", "--", "--budget=6"],
+            "elim --budget=6 5",
+        ),
+        (&["solve", "f=g", "--budget=5"], "solve f=g 5"),
+        (&["solve", "ä", "--budget=5"], "solve ä 5"),
+    ];
+    check(&rt, rt.alloc(), &rows)
+}
+
+#[test]
+fn words_name_none(rt: HostRuntime) -> Result<(), Fail> {
+    let rows: [&[&str]; 33] = [
+        &[],
+        &["f"],
+        &["f", "solve"],
+        &["--", "solve", "f"],
+        &["--budget", "1", "solve", "f"],
+        &["sol", "f"],
+        &["help"],
+        &["--version"],
+        &["solve"],
+        &["solve", "--"],
+        &["solve", "f", "g"],
+        &["solve", "f", "--", "g"],
+        &["solve", "-x"],
+        &["solve", "f", "-h"],
+        &["solve", "f", "--help"],
+        &["solve", "f", "-ä"],
+        &["solve", "f", "--steps"],
+        &["solve", "f", "--budg", "1"],
+        &["solve", "f", "--=1"],
+        &["solve", "f", "--budget"],
+        &["solve", "f", "--budget", "--"],
+        &["solve", "--budget", "--", "1", "f"],
+        &["solve", "f", "--budget", "-1"],
+        &["solve", "f", "--budget", "-"],
+        &["solve", "f", "--budget="],
+        &["solve", "f", "--budget", ""],
+        &["solve", "f", "--budget=0"],
+        &["solve", "f", "--budget=+1"],
+        &["solve", "f", "--budget=1_0"],
+        &["solve", "f", "--budget=00000000001"],
+        &["solve", "f", "--budget=1000000001"],
+        &["solve", "f", "--budget", "1", "--budget", "1"],
+        &["elim", "--budget=1", "f", "--budget=1"],
+    ];
+    for words in rows {
+        check(&rt, rt.alloc(), &[(words, "no job")])?;
+    }
+    Ok(())
+}
