@@ -1,4 +1,5 @@
 // `->` binds tighter than `<->`, and a chain of `<->` is grouped to the right.
+// Answer: VALID.
 \problem {
     7 >= 7 -> 3 != 4 <-> (5 > 9 | 10 <= 10) <-> true
 }

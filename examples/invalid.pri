@@ -1,2 +1,3 @@
 /* A comparison that fails. */
+// Answer: INVALID.
 \problem { 2 = 3 }
