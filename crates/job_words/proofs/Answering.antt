@@ -1,5 +1,6 @@
 -- What a command finds in its line names its job.
 use Rattle.std.proofs.Common.{◌≡◌, ◌≢◌, ◌≤◌, ◌∙◌, ℕ, true, List, [], ◌∷◌, map, Some, None, Result, Ok, Err, length, refl, sym, ap, subst, codes, unwrap_or, arith}
+use Rattle.std.specs.List.{slice_index_or}
 use Rattle.std.specs.Prelude.{IfErr, IsErrAnd}
 use Rattle.clap.specs.Matches.{first_value}
 use Rattle.clap.specs.Simple.{App}
@@ -7,7 +8,7 @@ use Rattle.clap.specs.declared.parser.matches.Found.{Found}
 use Rattle.job_words.specs.declared.jobs.WordsFault.{WordsFault}
 use Rattle.job_words.specs.declared.jobs.WordsFault.TheVariants.{Words}
 use Rattle.job_words.specs.Uses.{Text, Use, Options, Spells, operands, takes_value, values_of, listed}
-use Rattle.job_words.specs.Jobs.{IsBudget, NamesFile, budget_option}
+use Rattle.job_words.specs.Jobs.{IsBudget, IsNumber, NamesDrill, NamesFile, budget_option}
 use Rattle.job_words.specs.Shapes.{command_app}
 use Rattle.job_words.proofs.Accepted.{IsCommand}
 use Rattle.job_words.proofs.Finds.{Finds, OnceEach, same_uses}
@@ -57,13 +58,16 @@ no_budget app name ids options is takes line f found none us spells n budget =
     let same : us ≡ found.us = same_uses app name ids options is line us found.us spells found.spells in
     none n (subst (λ values. IsBudget values n) (ap (values_of (codes "budget")) same ∙ found.values_are (codes "budget") takes) budget)
 
--- ---- the commands
+-- ---- the commands, and what each finds in its line
 
 pub solve_is : IsCommand (command_app (codes "solve") (codes "FILE" ∷ []) budget_option) (codes "solve") (codes "FILE" ∷ []) budget_option
 solve_is = record { is_built = refl; whole = refl; places = (refl, refl); strange = (refl, tt); distinct_rules = refl; distinct_ids = refl; distinct_names = refl; named = refl }
 
 pub elim_is : IsCommand (command_app (codes "elim") (codes "FILE" ∷ []) budget_option) (codes "elim") (codes "FILE" ∷ []) budget_option
 elim_is = record { is_built = refl; whole = refl; places = (refl, refl); strange = (refl, tt); distinct_rules = refl; distinct_ids = refl; distinct_names = refl; named = refl }
+
+pub drill_is : IsCommand (command_app (codes "drill") (codes "COUNT" ∷ []) budget_option) (codes "drill") (codes "COUNT" ∷ []) budget_option
+drill_is = record { is_built = refl; whole = refl; places = (refl, refl); strange = (refl, tt); distinct_rules = refl; distinct_ids = refl; distinct_names = refl; named = refl }
 
 pub file_once : (line : List Text) (file : Text) (n : ℕ) (names : NamesFile line file n) → OnceEach budget_option names.us
 file_once line file n names = (budget_once (values_of (codes "budget") names.us) n names.budget_is, tt)
@@ -76,3 +80,25 @@ file_named line f file n found is budget = record {
   file_is = operand_is (codes "FILE") file budget_option line f found is;
   budget_is = budget_is (codes "FILE" ∷ []) budget_option line f n refl found budget;
 }
+
+pub drill_once : (line : List Text) (n m : ℕ) (names : NamesDrill line n m) → OnceEach budget_option names.us
+drill_once line n m names = (budget_once (values_of (codes "budget") names.us) m names.budget_is, tt)
+
+pub drill_named : (line : List Text) (f : Found) (n m : ℕ) → Finds (codes "COUNT" ∷ []) budget_option line f → (text : Text) × (Some text ≡ first_value f (codes "COUNT")) × IsNumber 1000 text n
+    → IsBudget (listed (first_value f (codes "budget"))) m → NamesDrill line n m
+drill_named line f n m found count budget = record {
+  us = found.us;
+  spells = found.spells;
+  text = count.0;
+  text_is = operand_is (codes "COUNT") count.0 budget_option line f found count.1;
+  count_is = count.2;
+  budget_is = budget_is (codes "COUNT" ∷ []) budget_option line f m refl found budget;
+}
+
+-- where the operand that is found is no size, the line names none
+pub no_count : (line : List Text) (f : Found) → Finds (codes "COUNT" ∷ []) budget_option line f → ((text : Text) → Some text ≡ first_value f (codes "COUNT") → (n : ℕ) → IsNumber 1000 text n → ⊥)
+    → (n m : ℕ) → NamesDrill line n m → ⊥
+no_count line f found none n m names =
+    let us : names.us ≡ found.us = same_uses _ _ _ _ drill_is line names.us found.us names.spells found.spells in
+    let first : map Some (names.text ∷ []) ≡ first_value f (codes "COUNT") ∷ [] = ap (map Some) (sym names.text_is ∙ ap operands us) ∙ found.operands_are in
+    none names.text (ap (λ os. slice_index_or os 0 None) first) n names.count_is

@@ -5,20 +5,24 @@ use Rattle.job_words.specs.declared.jobs.Job.{Job}
 use Rattle.job_words.specs.declared.jobs.Job.TheVariants as job
 use Rattle.job_words.specs.Uses.{Text, Use, Options, Spells, operands, values_of}
 
--- a job by the bytes of its words: to solve the problem in a file, or to give its constraint, within a budget
+-- a job by the bytes of its words: to solve the problem in a file, or to give its constraint, or to solve the problem of a
+-- size that the program makes, within a budget
 pub data Task : Type 0 where
   solve : (file : Text) → (budget : ℕ) → Task
   eliminate : (file : Text) → (budget : ℕ) → Task
+  drill : (count budget : ℕ) → Task
 
 -- a job as its words
 abbrev pub task_of : Job → Task
 task_of (job.Solve file budget) = solve (string_bytes file) budget
 task_of (job.Elim file budget) = eliminate (string_bytes file) budget
+task_of (job.Drill count budget) = drill count budget
 
 -- the files that a job reads, in their order
 abbrev pub files_of : Task → List Text
 files_of (solve file budget) = file ∷ []
 files_of (eliminate file budget) = file ∷ []
+files_of (drill count budget) = []
 
 -- a text of 1 to 10 decimal digits writes the number, which lies from 1 to 'most'
 pub record IsNumber (most : ℕ) (text : Text) (n : ℕ) : Type 0 where
@@ -45,8 +49,18 @@ pub record NamesFile (line : List Text) (file : Text) (budget : ℕ) : Type 0 wh
   pub file_is : operands us ≡ file ∷ []
   pub budget_is : IsBudget (values_of (codes "budget") us) budget
 
+-- the words behind `drill` name a size from 1 to 1,000 and a budget
+pub record NamesDrill (line : List Text) (count budget : ℕ) : Type 0 where
+  pub us : List Use
+  pub spells : Spells budget_option line us
+  pub text : Text
+  pub text_is : operands us ≡ text ∷ []
+  pub count_is : IsNumber 1000 text count
+  pub budget_is : IsBudget (values_of (codes "budget") us) budget
+
 -- the words name the job
 abbrev pub NamesJob : List Text → Task → Type 0
 NamesJob [] task = ⊥
 NamesJob (command ∷ line) (solve file budget) = (command ≡ codes "solve") × NamesFile line file budget
 NamesJob (command ∷ line) (eliminate file budget) = (command ≡ codes "elim") × NamesFile line file budget
+NamesJob (command ∷ line) (drill count budget) = (command ≡ codes "drill") × NamesDrill line count budget

@@ -38,6 +38,20 @@ pub(crate) fn elim_command<'a>(alloc: Global) -> Result<Command<'a>, AllocError>
         .arg(budget)
 }
 
+// `drill COUNT [--budget N]`
+pub(crate) fn drill_command<'a>(alloc: Global) -> Result<Command<'a>, AllocError>
+    ensures { IfOk result (λ c. app_of c ≡ command_app (codes "drill") (codes "COUNT" ∷ []) budget_option) }
+{
+    let count = Arg::new(alloc, "COUNT").required(true);
+    let budget = Arg::new(alloc, "budget").long("budget");
+    Command::new(alloc, "drill")
+        .no_binary_name(true)
+        .disable_help_flag(true)
+        .disable_version_flag(true)
+        .arg(count)?
+        .arg(budget)
+}
+
 // What the command finds in the words, or that it refuses them.
 pub(crate) fn read<'a>(
     command: Command<'a>,

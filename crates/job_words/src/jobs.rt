@@ -11,6 +11,8 @@ pub enum Job {
     Solve { file: String, budget: u64 },
     /// To give the constraint of the problem in this file, within a budget.
     Elim { file: String, budget: u64 },
+    /// To solve the problem of this size that the program makes itself, within a budget.
+    Drill { count: u32, budget: u64 },
 }
 
 /// Why words give no job.

@@ -1,15 +1,18 @@
 // The words of the command line, and the job that they name.
 
 ghost use Rattle.clap.specs.Words.{first_value, found_of};
-ghost use Rattle.job_words.specs.Jobs.{IsBudget, NamesJob, Task, task_of};
+ghost use Rattle.job_words.specs.Jobs.{IsBudget, IsNumber, NamesJob, Task, task_of};
 ghost use Rattle.job_words.specs.Uses.{listed, Text};
 ghost use Rattle.std.specs.Prelude.{◌≡◌, ◌∷◌, ℕ, List, map, codes, string_bytes, None, Some, IfOk, IfErr, MatchResult};
 
-use crate::commands::{elim_command, read, solve_command};
+use crate::commands::{drill_command, elim_command, read, solve_command};
 use crate::jobs::{Job, WordsFault};
 use crate::numbers::number;
 use clap::ArgMatches;
 use std::alloc::Global;
+
+// The greatest size of a problem that the program makes.
+const MOST_COUNT: u64 = 1_000;
 
 // The greatest budget.
 const MOST: u64 = 1_000_000_000;
@@ -28,6 +31,7 @@ pub fn job(alloc: Global, words: &[String]) -> Result<Job, WordsFault>
     match command.as_str() {
         "solve" => solve_job(alloc, line),
         "elim" => elim_job(alloc, line),
+        "drill" => drill_job(alloc, line),
         _ => Err(WordsFault::Words),
     }
 }
@@ -60,6 +64,17 @@ fn elim_job(alloc: Global, line: &[String]) -> Result<Job, WordsFault>
     Ok(Job::Elim { file, budget })
 }
 
+// `drill COUNT [--budget N]`
+fn drill_job(alloc: Global, line: &[String]) -> Result<Job, WordsFault>
+    ensures named { IfOk result (λ job. NamesJob (codes "drill" ∷ map string_bytes line.now) (task_of job)) }
+    ensures refused { IfErr result (λ e. e ≡ WordsFault.Words → (task : Task) → NamesJob (codes "drill" ∷ map string_bytes line.now) task → ⊥) }
+{
+    let matches = read(drill_command(alloc)?, line)?;
+    let count = count_in(&matches)?;
+    let budget = budget_in(&matches)?;
+    Ok(Job::Drill { count, budget })
+}
+
 // The word that an operand has.
 fn text_in(alloc: Global, matches: &ArgMatches<'_>, id: &str) -> Result<String, WordsFault>
     ensures found { IfOk result (λ text. Some (string_bytes text) ≡ first_value (found_of matches.now) id.now) }
@@ -67,6 +82,20 @@ fn text_in(alloc: Global, matches: &ArgMatches<'_>, id: &str) -> Result<String, 
 {
     match matches.get_str(id) {
         Some(text) => Ok(String::from_str(alloc, text)?),
+        None => Err(WordsFault::Words),
+    }
+}
+
+// The number that the operand of `drill` writes.
+fn count_in(matches: &ArgMatches<'_>) -> Result<u32, WordsFault>
+    ensures found { IfOk result (λ n. (text : Text) × (Some text ≡ first_value (found_of matches.now) (codes "COUNT")) × IsNumber 1000 text n) }
+    ensures missing { IfErr result (λ e. (text : Text) → Some text ≡ first_value (found_of matches.now) (codes "COUNT") → (n : ℕ) → IsNumber 1000 text n → ⊥) }
+{
+    let Some(text) = matches.get_str("COUNT") else {
+        return Err(WordsFault::Words);
+    };
+    match number(text, MOST_COUNT) {
+        Some(n) => Ok(n as u32),
         None => Err(WordsFault::Words),
     }
 }

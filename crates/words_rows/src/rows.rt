@@ -14,6 +14,7 @@ fn named(alloc: Global, words: &[&str]) -> Result<String, Fail> {
     match job(alloc, given.as_slice()) {
         Ok(Job::Solve { file, budget }) => Ok(format!(in alloc; "solve {file} {budget}")?),
         Ok(Job::Elim { file, budget }) => Ok(format!(in alloc; "elim {file} {budget}")?),
+        Ok(Job::Drill { count, budget }) => Ok(format!(in alloc; "drill {count} {budget}")?),
         Err(WordsFault::Words) => Ok(String::from_str(alloc, "no job")?),
         Err(WordsFault::Memory) => Ok(String::from_str(alloc, "no memory")?),
     }
@@ -29,7 +30,7 @@ fn check(rt: &impl Abort, alloc: Global, rows: &[(&[&str], &str)]) -> Result<(),
 
 #[test]
 fn words_name_jobs(rt: HostRuntime) -> Result<(), Fail> {
-    let rows: [(&[&str], &str); 16] = [
+    let rows: [(&[&str], &str); 18] = [
         (&["solve", "f"], "solve f 50000000"),
         (&["elim", "f"], "elim f 50000000"),
         (&["solve", "f", "--budget", "1"], "solve f 1"),
@@ -51,6 +52,8 @@ fn words_name_jobs(rt: HostRuntime) -> Result<(), Fail> {
             "elim --budget=6 5",
         ),
         (&["solve", "f=g", "--budget=5"], "solve f=g 5"),
+        (&["drill", "1"], "drill 1 50000000"),
+        (&["drill", "--budget", "7", "0000001000"], "drill 1000 7"),
         (&["solve", "ä", "--budget=5"], "solve ä 5"),
     ];
     check(&rt, rt.alloc(), &rows)
@@ -58,7 +61,7 @@ fn words_name_jobs(rt: HostRuntime) -> Result<(), Fail> {
 
 #[test]
 fn words_name_none(rt: HostRuntime) -> Result<(), Fail> {
-    let rows: [&[&str]; 33] = [
+    let rows: [&[&str]; 40] = [
         &[],
         &["f"],
         &["f", "solve"],
@@ -92,6 +95,13 @@ fn words_name_none(rt: HostRuntime) -> Result<(), Fail> {
         &["solve", "f", "--budget=1000000001"],
         &["solve", "f", "--budget", "1", "--budget", "1"],
         &["elim", "--budget=1", "f", "--budget=1"],
+        &["drill"],
+        &["drill", "0"],
+        &["drill", "1001"],
+        &["drill", "+1"],
+        &["drill", "00000000001"],
+        &["drill", "-1"],
+        &["drill", "1", "2"],
     ];
     for words in rows {
         check(&rt, rt.alloc(), &[(words, "no job")])?;
