@@ -1,6 +1,7 @@
 // A caller, as the search will be one.
-ghost use Rattle.std.specs.Prelude.{◌≡◌};
+ghost use Rattle.std.specs.Prelude.{◌≡◌, Some};
 ghost use Rattle.backlist.specs.History.{IsIn};
+ghost use Rattle.backlist.specs.declared.boxes.Pos.{Pos};
 ghost use Rattle.list_rows.specs.Walked.{any_is};
 
 use backlist::{BackList, Pos};
@@ -31,4 +32,17 @@ pub fn holds(list: &BackList<u32>, x: u32) -> bool
         }
     }
     found
+}
+
+/// The place of item number n, if there are so many, counted from 0.
+pub fn place_of(list: &BackList<u32>, n: usize) -> Option<Pos>
+    ensures { (p : Pos) → result ≡ Some p → IsIn p list.now.present }
+{
+    let mut at = list.first();
+    for _ in 0..n {
+        if let Some(p) = at {
+            at = list.next(p);
+        }
+    }
+    at
 }

@@ -3,7 +3,7 @@
 
 mod caller;
 
-pub use caller::{holds, there_and_back};
+pub use caller::{holds, place_of, there_and_back};
 
 #[cfg(test)]
 mod tests;
