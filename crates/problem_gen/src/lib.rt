@@ -3,16 +3,18 @@
 
 ghost use Rattle.problem_gen.specs.Drills.{conjunct_text, drill_text};
 ghost use Rattle.std.specs.Fmt.{decimal};
-ghost use Rattle.std.specs.Prelude.{◌≡◌, ◌++◌, ◌≤◌, IfOk, OnOk};
+ghost use Rattle.std.specs.Prelude.{◌≡◌, ◌++◌, ◌<◌, ◌≤◌, ◌^◌, length, IfOk, OnOk};
 
 use linear_term::Memory;
 use std::alloc::Global;
 
 /// The text of a problem of n conjuncts, n at least 1 and at most 1,000, each of which says that a predicate that goes on
 /// from x to x + 2 comes from i to i + 4. It is valid.
+#[tactic(auto, using(crate::proofs::Sizes::drill_size))]
 pub fn drill(alloc: Global, n: u32) -> Result<Vec<u8>, Memory>
     requires { n ≤ 1000 }
-    ensures { IfOk result (λ text. text.items ≡ drill_text n) }
+    ensures text { IfOk result (λ text. text.items ≡ drill_text n) }
+    ensures short { IfOk result (λ text. length text.items < 2 ^ 32) }
 {
     let mut text = Vec::from_slice(alloc, b"\\predicates { p(int); }\n\\problem {\n")?;
     for i in 0..n {

@@ -10,20 +10,22 @@ use Rattle.answers.specs.declared.output.Output.{Output}
 use Rattle.answers.specs.Outside.{Gives, Meets}
 use Rattle.answers.specs.Files.{AnswersBytes, AnswersSource, too_long, within}
 use Rattle.answers.proofs.Meeting.{long_answered, meets_more}
-use Rattle.job_words.specs.Jobs.{Task, solve, eliminate, IsBudget, NamesJob}
+use Rattle.job_words.specs.Jobs.{Task, solve, eliminate, drill, IsBudget, NamesJob}
+use Rattle.problem_gen.specs.Drills.{drill_text}
 use Rattle.solve_job.specs.Solved.{IsSolved}
 use Rattle.solve_job.specs.Headline.{Headline}
 use Rattle.solve_job.proofs.Causing as solve_causing
 use Rattle.solve_job.proofs.Grounded.{ground_enough}
 use Rattle.solve_job.proofs.Exactly.{solved_status}
 use Rattle.solve_job.proofs.Meaning.{headline, no_table}
+use Rattle.drill_job.specs.Drilled.{IsDrilled}
 use Rattle.elim_job.specs.Eliminated.{IsEliminated}
 use Rattle.elim_job.specs.Meaning.{ElimMeans}
 use Rattle.elim_job.proofs.Causing as elim_causing
 use Rattle.elim_job.proofs.Exactly.{eliminated_status}
 use Rattle.elim_job.proofs.Meaning.{means}
 use Rattle.prover_job.specs.declared.tasks.Stop.{Stop}
-use Rattle.prover_job.specs.Runs.{AnswersTask, budget_of, SaysConstraint, SaysValid, SaysRefuted, IsSolveCaused, IsElimCaused}
+use Rattle.prover_job.specs.Runs.{AnswersTask, IsWithin, SaysConstraint, SaysValid, SaysRefuted, IsSolveCaused, IsElimCaused, IsDrillCaused}
 
 -- ---- files
 
@@ -51,6 +53,7 @@ bytes_status P known bytes a (within l is) = known bytes a is
 pub task_status : (bytes_of : List ℕ → Option (List ℕ)) (task : Task) (a : Answer) → AnswersTask bytes_of task a → IsAnswerStatus a.status
 task_status bytes_of (solve file budget) a h = bytes_status (IsSolved budget) (solved_status budget) h.bytes a h.is
 task_status bytes_of (eliminate file budget) a h = bytes_status (IsEliminated budget) (eliminated_status budget) h.bytes a h.is
+task_status bytes_of (drill count budget) a h = subst (λ b. IsAnswerStatus b.status) (sym h.drilled) (solved_status budget (drill_text count) h.solved h.solves)
 
 -- what ends with such a status or with 7 ends neither with 6 nor with 8
 pub no_fault : (status ends : ℕ) → IsAnswerStatus status → (ends ≡ status) ⊎ (ends ≡ 7) → (ends ≡ 6) ⊎ (ends ≡ 8) → ⊥
@@ -120,15 +123,25 @@ says_constraint w budget told ends before after met z =
     }
 
 -- the answer comes exactly where its row says
+solve_so : (budget : ℕ) (bytes : List ℕ) (a : Answer) → IsSolved budget bytes a → IsSolveCaused budget bytes a
+solve_so budget bytes a is = record { causes = solve_causing.causes budget bytes a is; decides = solve_causing.decides budget bytes a is; enough = ground_enough budget bytes }
+
 pub solve_caused : (budget : ℕ) (told : Option (List ℕ)) (ends : ℕ) (before after : Option (List ℕ)) → Meets (AnswersSource (IsSolved budget) told) ends before after
     → Meets (AnswersSource (IsSolveCaused budget) told) ends before after
-solve_caused budget told ends before after met = meets_more _ _ ends before after (source_more (IsSolved budget) (IsSolveCaused budget)
-    (λ bytes a is. record { causes = solve_causing.causes budget bytes a is; decides = solve_causing.decides budget bytes a is; enough = ground_enough budget bytes }) told) met
+solve_caused budget told ends before after met = meets_more _ _ ends before after (source_more (IsSolved budget) (IsSolveCaused budget) (solve_so budget) told) met
 
 pub elim_caused : (budget : ℕ) (told : Option (List ℕ)) (ends : ℕ) (before after : Option (List ℕ)) → Meets (AnswersSource (IsEliminated budget) told) ends before after
     → Meets (AnswersSource (IsElimCaused budget) told) ends before after
 elim_caused budget told ends before after met = meets_more _ _ ends before after (source_more (IsEliminated budget) (IsElimCaused budget)
     (λ bytes a is. record { causes = elim_causing.causes budget bytes a is; decides = elim_causing.decides budget bytes a is }) told) met
+
+pub drill_caused : (w : Meaning) (budget count ends : ℕ) (before after : Option (List ℕ)) → Meets (IsDrilled budget count) ends before after → Meets (IsDrillCaused w budget count) ends before after
+drill_caused w budget count ends before after met = meets_more (IsDrilled budget count) (IsDrillCaused w budget count) ends before after (λ a is. record {
+  solved = is.solved;
+  drilled = is.drilled;
+  means = headline w budget (drill_text count) is.solved is.solves;
+  caused = solve_so budget (drill_text count) is.solved is.solves;
+}) met
 
 -- ---- the job that words name
 
@@ -137,11 +150,12 @@ budget_small [] n h = omega (arith, h)
 budget_small (text ∷ []) n h = omega (arith, h.within)
 budget_small (text ∷ more ∷ rest) n h = absurd h
 
--- a job that words name has a budget below 2^32
-pub named_budget : (words : List (List ℕ)) (task : Task) → NamesJob words task → budget_of task < 2 ^ 32
-named_budget [] task h = absurd h
-named_budget (command ∷ line) (solve file budget) h = budget_small _ budget h.1.budget_is
-named_budget (command ∷ line) (eliminate file budget) h = budget_small _ budget h.1.budget_is
+-- the numbers of a job that words name are small enough
+pub named_within : (words : List (List ℕ)) (task : Task) → NamesJob words task → IsWithin task
+named_within [] task h = absurd h
+named_within (command ∷ line) (solve file budget) h = budget_small _ budget h.1.budget_is
+named_within (command ∷ line) (eliminate file budget) h = budget_small _ budget h.1.budget_is
+named_within (command ∷ line) (drill count budget) h = (h.1.count_is.within, budget_small _ budget h.1.budget_is)
 
 -- an answer of the one job that words name is one of each
 pub met_as : (bytes_of : List ℕ → Option (List ℕ)) (words : List (List ℕ)) (job task : Task) (ends : ℕ) (before after : Option (List ℕ))

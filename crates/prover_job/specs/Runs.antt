@@ -1,15 +1,17 @@
 -- What a run answers to its words over a source of named bytes, and what its end means.
-use Rattle.std.specs.Prelude.{◌≡◌, ℕ, Bool, List, Option, Some, Contains}
+use Rattle.std.specs.Prelude.{◌≡◌, ◌≤◌, ◌<◌, ◌^◌, ℕ, Bool, List, [], Option, Some, Contains}
 use Rattle.typed_formula.specs.Truth.{Meaning}
 use Rattle.prover_io.specs.Outside.{Broke, IsWhole}
 use Rattle.answers.specs.Answer.{Answer}
 use Rattle.answers.specs.Files.{AnswersSource}
 use Rattle.answers.specs.Outside.{PutsAll}
-use Rattle.job_words.specs.Jobs.{Task, solve, eliminate, files_of, NamesJob}
+use Rattle.job_words.specs.Jobs.{Task, solve, eliminate, drill, files_of, NamesJob}
 use Rattle.solve_job.specs.Solved.{IsSolved}
 use Rattle.solve_job.specs.Causes as solve_causes
-use Rattle.solve_job.specs.Headline.{Validates, Refutes}
+use Rattle.problem_gen.specs.Drills.{drill_text}
+use Rattle.solve_job.specs.Headline.{Headline, Validates, Refutes}
 use Rattle.solve_job.specs.Ground.{IsEnough}
+use Rattle.drill_job.specs.Drilled.{IsDrilled, drill_answer}
 use Rattle.elim_job.specs.Eliminated.{IsEliminated}
 use Rattle.elim_job.specs.Causes as elim_causes
 use Rattle.elim_job.specs.Meaning.{Constrained}
@@ -18,15 +20,21 @@ use Rattle.elim_job.specs.Meaning.{Constrained}
 abbrev pub NameNoJob : List (List ℕ) → Type 0
 NameNoJob words = (task : Task) → NamesJob words task → ⊥
 
--- the budget of a job
-abbrev pub budget_of : Task → ℕ
-budget_of (solve file budget) = budget
-budget_of (eliminate file budget) = budget
+-- the words name no job that reads a file
+abbrev pub NameNoFile : List (List ℕ) → Type 0
+NameNoFile words = (task : Task) → NamesJob words task → files_of task ≡ []
+
+-- the numbers of a job are small enough for its work
+abbrev pub IsWithin : Task → Type 0
+IsWithin (solve file budget) = budget < 2 ^ 32
+IsWithin (eliminate file budget) = budget < 2 ^ 32
+IsWithin (drill count budget) = (count ≤ 1000) × (budget < 2 ^ 32)
 
 -- the answer of each job
 abbrev pub AnswersTask : (List ℕ → Option (List ℕ)) → Task → Answer → Type 0
 AnswersTask bytes_of (solve file budget) = AnswersSource (IsSolved budget) (bytes_of file)
 AnswersTask bytes_of (eliminate file budget) = AnswersSource (IsEliminated budget) (bytes_of file)
+AnswersTask bytes_of (drill count budget) = IsDrilled budget count
 
 -- the name is that of a file of the job
 abbrev pub IsJobFile : Task → Option (List ℕ) → Type 0
@@ -69,3 +77,10 @@ pub record IsSolveCaused (budget : ℕ) (bytes : List ℕ) (answer : Answer) : T
 pub record IsElimCaused (budget : ℕ) (bytes : List ℕ) (answer : Answer) : Type 0 where
   pub causes : elim_causes.Causes budget bytes answer
   pub decides : elim_causes.Decides budget bytes answer
+
+-- an answer of `drill`: that of `solve` to the problem that the program makes, with its meaning and its causes
+pub record IsDrillCaused (w : Meaning) (budget count : ℕ) (answer : Answer) : Type 0 where
+  pub solved : Answer
+  pub drilled : answer ≡ drill_answer count solved
+  pub means : Headline w (drill_text count) solved
+  pub caused : IsSolveCaused budget (drill_text count) solved

@@ -3,10 +3,10 @@
 ghost use Rattle.answers.specs.Answer.{IsStatus, words_answer};
 ghost use Rattle.answers.specs.Files.{AnswersSource};
 ghost use Rattle.answers.specs.Outside.{Meets};
-ghost use Rattle.job_words.specs.Jobs.{NamesJob, Task, eliminate, solve, task_of};
+ghost use Rattle.job_words.specs.Jobs.{NamesJob, Task, drill, eliminate, files_of, solve, task_of};
 ghost use Rattle.prover_io.specs.Outside.{Rose};
-ghost use Rattle.prover_job.specs.Runs.{AnswersTask, BrokeAt, IsElimCaused, IsJobFile, IsSolveCaused, NameNoJob, SaysConstraint, SaysRefuted, SaysValid, budget_of};
-ghost use Rattle.std.specs.Prelude.{◌≡◌, ◌≢◌, ◌<◌, ◌^◌, ◌⊎◌, ℕ, List, map, string_bytes};
+ghost use Rattle.prover_job.specs.Runs.{AnswersTask, BrokeAt, IsDrillCaused, IsElimCaused, IsJobFile, IsSolveCaused, IsWithin, NameNoFile, NameNoJob, SaysConstraint, SaysRefuted, SaysValid};
+ghost use Rattle.std.specs.Prelude.{◌≡◌, ◌≢◌, ◌⊎◌, ℕ, List, [], map, string_bytes};
 
 use crate::tasks::{Stop, job_output};
 use answers::put_answer;
@@ -18,7 +18,8 @@ use typed_formula::World;
 
 /// Does the job that the words name, and answers the exit status: 0 valid, or the constraint is made, 1 invalid, 2 unknown,
 /// 3 the file is refused, 5 the words name no job, 6 the source failed, 7 the sink failed, 8 no memory, 9 the file is too
-/// long. The interpretation has no call, so what is promised in it is promised in every one.
+/// long. `drill` answers as `solve` does to the problem that it makes. The interpretation has no call, so what is promised in
+/// it is promised in every one.
 pub fn run<S: Source, K: Sink, W: World>(
     alloc: Global,
     words: &[String],
@@ -39,8 +40,10 @@ pub fn run<S: Source, K: Sink, W: World>(
         → Meets (AnswersSource (IsSolveCaused budget) (S.bytes_of source.old file)) result (K.taken sink.old) (K.taken sink.new) }
     ensures elim_causes { (file : List ℕ) (budget : ℕ) → NamesJob (map string_bytes words.now) (eliminate file budget)
         → Meets (AnswersSource (IsElimCaused budget) (S.bytes_of source.old file)) result (K.taken sink.old) (K.taken sink.new) }
-    ensures unread { NameNoJob (map string_bytes words.now) → source.new ≡ source.old }
-    ensures begun { (task : Task) → NamesJob (map string_bytes words.now) task → result ≢ 8 → IsJobFile task (S.at source.new) }
+    ensures drilled { (count budget : ℕ) → NamesJob (map string_bytes words.now) (drill count budget)
+        → Meets (IsDrillCaused (record { truth = W.truth world.now; value = W.value world.now }) budget count) result (K.taken sink.old) (K.taken sink.new) }
+    ensures unread { NameNoFile (map string_bytes words.now) → source.new ≡ source.old }
+    ensures begun { (task : Task) → NamesJob (map string_bytes words.now) task → files_of task ≢ [] → result ≢ 8 → IsJobFile task (S.at source.new) }
     ensures source_failed { result ≡ 6 → Rose (S.faults source.old) (S.faults source.new) }
     ensures named { result ≡ 6 → (task : Task) × NamesJob (map string_bytes words.now) task × BrokeAt task (S.at source.new) (S.broken source.new) }
     ensures sink_failed { result ≡ 7 → Rose (K.faults sink.old) (K.faults sink.new) }
@@ -57,9 +60,10 @@ pub fn run<S: Source, K: Sink, W: World>(
 
 // Does a job, and answers the exit status.
 fn do_job<S: Source, K: Sink>(alloc: Global, source: &mut S, sink: &mut K, job: &Job) -> u8
-    requires { budget_of (task_of job.now) < 2 ^ 32 }
+    requires { IsWithin (task_of job.now) }
     ensures answered { Meets (AnswersTask (S.bytes_of source.old) (task_of job.now)) result (K.taken sink.old) (K.taken sink.new) }
-    ensures begun { result ≢ 8 → IsJobFile (task_of job.now) (S.at source.new) }
+    ensures begun { files_of (task_of job.now) ≢ [] → result ≢ 8 → IsJobFile (task_of job.now) (S.at source.new) }
+    ensures unread { files_of (task_of job.now) ≡ [] → source.new ≡ source.old }
     ensures source_failed { result ≡ 6 → Rose (S.faults source.old) (S.faults source.new) }
     ensures named { result ≡ 6 → BrokeAt (task_of job.now) (S.at source.new) (S.broken source.new) }
     ensures sink_failed { result ≡ 7 → Rose (K.faults sink.old) (K.faults sink.new) }

@@ -3,13 +3,13 @@
 ghost use Rattle.answers.specs.Answer.{answer_of, long_answer};
 ghost use Rattle.answers.specs.Files.{AnswersSource};
 ghost use Rattle.elim_job.specs.Eliminated.{IsEliminated};
-ghost use Rattle.job_words.specs.Jobs.{task_of};
+ghost use Rattle.job_words.specs.Jobs.{files_of, task_of};
 ghost use Rattle.prover_io.specs.Outside.{Broke, Rose};
 ghost use Rattle.prover_io.specs.declared.whole.ReadFault.{ReadFault};
-ghost use Rattle.prover_job.specs.Runs.{AnswersTask, BrokeAt, IsJobFile, budget_of};
+ghost use Rattle.prover_job.specs.Runs.{AnswersTask, BrokeAt, IsJobFile, IsWithin};
 ghost use Rattle.prover_job.specs.declared.tasks.Stop.{Stop};
 ghost use Rattle.solve_job.specs.Solved.{IsSolved};
-ghost use Rattle.std.specs.Prelude.{◌≡◌, ◌≢◌, ◌<◌, ◌^◌, IfOk, IsErrOf, Some};
+ghost use Rattle.std.specs.Prelude.{◌≡◌, ◌≢◌, ◌<◌, ◌^◌, IfOk, IsErrOf, Some, []};
 
 use answers::status::FILE_TOO_LONG;
 use answers::{Output, say};
@@ -45,15 +45,17 @@ pub(crate) fn job_output<S: Source>(
     source: &mut S,
     job: &Job,
 ) -> Result<Output, Stop>
-    requires { budget_of (task_of job.now) < 2 ^ 32 }
+    requires { IsWithin (task_of job.now) }
     ensures answered { IfOk result (λ output. AnswersTask (S.bytes_of source.old) (task_of job.now) (answer_of output)) }
     ensures rose { IsErrOf result Stop.Source → Rose (S.faults source.old) (S.faults source.new) }
     ensures broke { IsErrOf result Stop.Source → BrokeAt (task_of job.now) (S.at source.new) (S.broken source.new) }
-    ensures begun { ¬ (IsErrOf result Stop.Memory) → IsJobFile (task_of job.now) (S.at source.new) }
+    ensures begun { files_of (task_of job.now) ≢ [] → ¬ (IsErrOf result Stop.Memory) → IsJobFile (task_of job.now) (S.at source.new) }
+    ensures unread { files_of (task_of job.now) ≡ [] → source.new ≡ source.old }
 {
     match job {
         Job::Solve { file, budget } => solve_output(alloc, source, file.as_str(), *budget),
         Job::Elim { file, budget } => elim_output(alloc, source, file.as_str(), *budget),
+        Job::Drill { count, budget } => Ok(drill_job::answer(alloc, *count, *budget)?),
     }
 }
 

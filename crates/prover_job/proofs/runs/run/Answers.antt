@@ -1,10 +1,10 @@
 -- What is answered of the job that was read is answered of each job that the words name.
-use Rattle.job_words.specs.Jobs.{eliminate, solve, task_of}
-use Rattle.prover_job.proofs.Telling.{named_budget, met_as, says_valid, says_refuted, says_constraint, solve_caused, elim_caused}
+use Rattle.job_words.specs.Jobs.{drill, eliminate, solve, task_of}
+use Rattle.prover_job.proofs.Telling.{named_within, met_as, says_valid, says_refuted, says_constraint, solve_caused, elim_caused, drill_caused}
 use Rattle.prover_job.proofs.runs.run.Goals as goal
 
 pub do_job-requires : goal.do_job-requires
-do_job-requires g c = named_budget _ _ c.in-Ok.ensures.named
+do_job-requires g c = named_within _ _ c.in-Ok.ensures.named
 
 pub returns-in-Ok-clause-valid : goal.returns-in-Ok-clause-valid
 returns-in-Ok-clause-valid g c = λ file budget names zero. says_valid _ budget (g.S.Source.bytes_of c.args.source.now file) _ _ _
@@ -25,3 +25,7 @@ returns-in-Ok-clause-solve_causes g c = λ file budget names. solve_caused budge
 pub returns-in-Ok-clause-elim_causes : goal.returns-in-Ok-clause-elim_causes
 returns-in-Ok-clause-elim_causes g c = λ file budget names. elim_caused budget (g.S.Source.bytes_of c.args.source.now file) _ _ _
     (met_as (g.S.Source.bytes_of c.args.source.now) _ (task_of c.in-Ok.job) (eliminate file budget) _ _ _ c.words_law.ensures c.in-Ok.ensures.named names c.do_job.ensures.answered)
+
+pub returns-in-Ok-clause-drilled : goal.returns-in-Ok-clause-drilled
+returns-in-Ok-clause-drilled g c = λ count budget names. drill_caused _ budget count _ _ _
+    (met_as (g.S.Source.bytes_of c.args.source.now) _ (task_of c.in-Ok.job) (drill count budget) _ _ _ c.words_law.ensures c.in-Ok.ensures.named names c.do_job.ensures.answered)
