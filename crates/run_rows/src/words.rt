@@ -9,7 +9,7 @@ const TRUE: &[u8] = b"\\problem { true }";
 fn words_name_a_job_or_are_refused(rt: HostRuntime) -> Result<(), Fail> {
     let refused = (5, "refused words\n");
     let valid = (0, "VALID\n");
-    let rows: [(&[&str], (u8, &str)); 16] = [
+    let rows: [(&[&str], (u8, &str)); 21] = [
         (&["solve", "f"], valid),
         (&["solve", "-"], valid),
         (&["solve", "g"], (6, "")),
@@ -26,6 +26,14 @@ fn words_name_a_job_or_are_refused(rt: HostRuntime) -> Result<(), Fail> {
         (&["solve", "f", "--budget", "9", "--budget=9"], refused),
         (&["f", "solve"], refused),
         (&[], refused),
+        (&["drill", "1"], (0, "drill 1: VALID\n")),
+        (&["drill", "200"], (0, "drill 200: VALID\n")),
+        (
+            &["drill", "2", "--budget=1"],
+            (2, "drill 2: UNKNOWN: steps\n"),
+        ),
+        (&["drill", "0"], refused),
+        (&["drill", "1001"], refused),
     ];
     for (words, (status, text)) in rows {
         let (ended, taken) = ends(rt.alloc(), words, TRUE, &[], &[])?;
