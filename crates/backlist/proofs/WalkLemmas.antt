@@ -1,9 +1,9 @@
 -- A walk over a list by `first` and `next`.
-use Rattle.std.proofs.Common.{◌≡◌, ℕ, ◌+◌, ◌==◌, true, false, cond, ◌||◌, List, [], ◌∷◌, ◌++◌, length, Option, Some, None, refl, sym, ap, ◌∙◌, arith, length-append, append_assoc}
+use Rattle.std.proofs.Common.{◌≡◌, ℕ, ◌+◌, List, [], ◌∷◌, ◌++◌, length, Option, Some, None, refl, sym, ap, ◌∙◌, arith, length-append, append_assoc}
 use Rattle.backlist.specs.declared.boxes.Pos.{Pos}
 use Rattle.backlist.specs.History.{IsIn, AtItem}
 use Rattle.backlist.specs.Links.{first_place}
-use Rattle.list_rows.specs.Walked.{any_is, IsWalk}
+use Rattle.backlist.specs.Walk.{IsWalk}
 
 some_pos : (p q : Pos) → Some p ≡ Some q → p ≡ q
 some_pos p q e = cc
@@ -45,7 +45,3 @@ module _ {T : Type 0} where
 
   pub walk_none : (is : List (Pos × T)) (n : ℕ) (at : Option Pos) (w : IsWalk is n at) → at ≡ None → length is ≡ n
   walk_none is n at w e = let none = no_rest w.rest (sym w.next ∙ e) in omega (arith, ap length w.whole, length-append w.passed w.rest, ap length none, w.count)
-
-pub any_is-push : (x : ℕ) (xs : List (Pos × ℕ)) (p : Pos) (v : ℕ) → any_is x (xs ++ (p, v) ∷ []) ≡ (any_is x xs || (v == x))
-any_is-push x [] p v = elim (v == x) as (λ y. cond y true false ≡ y) [ true ↦ refl | false ↦ refl ]
-any_is-push x (i ∷ xs) p v = elim (i.1 == x) as (λ y. cond y true (any_is x (xs ++ (p, v) ∷ [])) ≡ (cond y true (any_is x xs) || (v == x))) [ true ↦ refl | false ↦ any_is-push x xs p v ]
