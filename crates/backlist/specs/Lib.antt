@@ -4,3 +4,4 @@ pub mod Lends
 pub mod History
 pub mod Links
 pub mod Trail
+pub mod Walk

@@ -147,6 +147,7 @@ impl<T> BackList<T> {
     pub fn unlink(&mut self, p: Pos)
         requires { IsIn p self.old.present }
         ensures unlinked { self.new ≡ after (unlink_of p) self.old }
+        ensures others { AtItem p self.old.present (λ xs v ys. self.new.present ≡ xs ++ ys) }
     {
         let n = self.nodes.get(p);
         let prev = n.prev;

@@ -1,1 +1,2 @@
-pub mod WalkLemmas
+pub mod Any
+pub mod Steps

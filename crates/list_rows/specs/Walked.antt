@@ -1,17 +1,8 @@
--- A walk over a list, as a caller sees it.
-use Rattle.std.specs.Prelude.{◌≡◌, ℕ, Bool, false, true, cond, ◌==◌, List, [], ◌∷◌, ◌++◌, length, Option}
+-- What a walk over a list asks.
+use Rattle.std.specs.Prelude.{ℕ, Bool, false, true, cond, ◌==◌, List, [], ◌∷◌}
 use Rattle.backlist.specs.declared.boxes.Pos.{Pos}
-use Rattle.backlist.specs.Links.{first_place}
 
 -- some item is x
 abbrev pub any_is : ℕ → List (Pos × ℕ) → Bool
 any_is x [] = false
 any_is x (i ∷ is) = cond (i.1 == x) true (any_is x is)
-
--- n items were passed, and `at` is the place of the next one
-pub record IsWalk {T : Type 0} (is : List (Pos × T)) (n : ℕ) (at : Option Pos) : Type 0 where
-  pub passed : List (Pos × T)
-  pub rest : List (Pos × T)
-  pub whole : is ≡ passed ++ rest
-  pub count : length passed ≡ n
-  pub next : at ≡ first_place rest

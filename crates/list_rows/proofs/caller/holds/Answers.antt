@@ -1,5 +1,6 @@
 use Rattle.std.proofs.Common.{◌∙◌, sym, refl, arith, ◌||◌, ◌==◌}
-use Rattle.list_rows.proofs.WalkLemmas.{walk_first, walk_in, walk_next, walk_none, any_is-push, walk_whole}
+use Rattle.backlist.proofs.WalkLemmas.{walk_first, walk_in, walk_next, walk_none, walk_whole}
+use Rattle.list_rows.proofs.Any.{any_is-push}
 use Rattle.list_rows.proofs.caller.holds.Goals.{in-Some, in_default}
 use Rattle.list_rows.proofs.caller.holds.Goals as goal
 

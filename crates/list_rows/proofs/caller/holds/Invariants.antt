@@ -1,5 +1,6 @@
 use Rattle.std.proofs.Common.{◌≡◌}
-use Rattle.list_rows.specs.Walked.{IsWalk, any_is}
+use Rattle.backlist.specs.Walk.{IsWalk}
+use Rattle.list_rows.specs.Walked.{any_is}
 use Rattle.list_rows.proofs.caller.holds.Given as goal
 
 abbrev pub invariant-loop-i : goal.invariant-loop-i

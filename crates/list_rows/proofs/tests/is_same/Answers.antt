@@ -1,4 +1,4 @@
-use Rattle.list_rows.proofs.WalkLemmas.{first_in, next_is_in}
+use Rattle.list_rows.proofs.Steps.{first_in, next_is_in}
 use Rattle.list_rows.proofs.tests.is_same.Goals.{in-Some, in_default}
 use Rattle.list_rows.proofs.tests.is_same.Goals as goal
 

@@ -1,7 +1,8 @@
-use Rattle.std.proofs.Common.{◌∙◌, sym, ap, subst, Some, true}
+use Rattle.std.proofs.Common.{◌∙◌, sym, ap, subst, List, Some, true}
 use Rattle.backlist.specs.Cells.{update}
+use Rattle.backlist.specs.History.{History, Change, replay, without}
 use Rattle.backlist.specs.Trail.{IsEnd, prev_cells}
-use Rattle.backlist.proofs.Calls.{found_in, end_before, end_behind, end_next_cells, end_prev_cells, unlink_done, unlink_len, marks}
+use Rattle.backlist.proofs.Calls.{found_in, unlink_others, end_before, end_behind, end_next_cells, end_prev_cells, unlink_done, unlink_len, marks}
 use Rattle.backlist.proofs.list.BackList.unlink.Goals as goal
 
 pub get-n-requires : goal.get-n-requires
@@ -24,3 +25,8 @@ invariant_of-self g c = (
       c.set_next.ensures.first c.set_prev.ensures.last (λ i. Some c.args.p),
   unlink_len c.self.inside.log.changes (record { cells = c.self.inside.nodes.cells; first = c.self.inside.first; last = c.self.inside.last; top = c.self.inside.top }) c.args.self.now c.self.view_is c.self.invariant.0 c.args.p c.requires c.get-n.result.now c.get-n.ensures c.unlinked.new.self.changes c.self.inside.len c.unlinked.ensures c.self.invariant.1,
 )
+
+pub returns-clause-others : goal.returns-clause-others
+returns-clause-others g c = λ xs v ys e.
+    ap (λ (ds : List (Change _)). (replay ds).present) c.unlinked.ensures ∙ ap (λ (h : History _). without c.args.p h.present) c.self.view_is
+    ∙ unlink_others c.self.inside.log.changes (record { cells = c.self.inside.nodes.cells; first = c.self.inside.first; last = c.self.inside.last; top = c.self.inside.top }) c.args.self.now c.self.view_is c.self.invariant.0 c.args.p c.requires c.get-n.result.now c.get-n.ensures xs v ys e

@@ -1,9 +1,9 @@
 -- A walk over a list by `first` and `next`.
-use Rattle.std.proofs.Common.{◌≡◌, ℕ, ◌+◌, ◌==◌, true, false, cond, ◌||◌, List, [], ◌∷◌, ◌++◌, length, Option, Some, None, refl, sym, ap, ◌∙◌, arith, length-append, append_assoc}
+use Rattle.std.proofs.Common.{◌≡◌, ℕ, ◌+◌, List, [], ◌∷◌, ◌++◌, length, Option, Some, None, refl, sym, ap, ◌∙◌, arith, length-append, append_assoc}
 use Rattle.backlist.specs.declared.boxes.Pos.{Pos}
 use Rattle.backlist.specs.History.{IsIn, AtItem}
 use Rattle.backlist.specs.Links.{first_place}
-use Rattle.list_rows.specs.Walked.{any_is, IsWalk}
+use Rattle.backlist.specs.Walk.{IsWalk}
 
 some_pos : (p q : Pos) → Some p ≡ Some q → p ≡ q
 some_pos p q e = cc
@@ -45,16 +45,3 @@ module _ {T : Type 0} where
 
   pub walk_none : (is : List (Pos × T)) (n : ℕ) (at : Option Pos) (w : IsWalk is n at) → at ≡ None → length is ≡ n
   walk_none is n at w e = let none = no_rest w.rest (sym w.next ∙ e) in omega (arith, ap length w.whole, length-append w.passed w.rest, ap length none, w.count)
-
-pub any_is-push : (x : ℕ) (xs : List (Pos × ℕ)) (p : Pos) (v : ℕ) → any_is x (xs ++ (p, v) ∷ []) ≡ (any_is x xs || (v == x))
-any_is-push x [] p v = elim (v == x) as (λ y. cond y true false ≡ y) [ true ↦ refl | false ↦ refl ]
-any_is-push x (i ∷ xs) p v = elim (i.1 == x) as (λ y. cond y true (any_is x (xs ++ (p, v) ∷ [])) ≡ (cond y true (any_is x xs) || (v == x))) [ true ↦ refl | false ↦ any_is-push x xs p v ]
-
-module _ {T : Type 0} where
-  pub first_in : (is : List (Pos × T)) (at : Option Pos) → at ≡ first_place is → (p : Pos) → at ≡ Some p → IsIn p is
-  first_in is at e = walk_in is 0 at (walk_first is at e)
-
-  pub next_is_in : (is : List (Pos × T)) (p : Pos) (to : Option Pos) → IsIn p is → AtItem p is (λ xs v ys. to ≡ first_place ys) → (q : Pos) → to ≡ Some q → IsIn q is
-  next_is_in is p to here h q e =
-      let r = next_in here.2 q (sym (h here.0 here.1 here.2 here.3) ∙ e) in
-      (here.0 ++ (p, here.1) ∷ [], r.0, r.1, here.3 ∙ ap (λ ys. here.0 ++ (p, here.1) ∷ ys) r.2 ∙ sym (append_assoc here.0 ((p, here.1) ∷ []) ((q, r.0) ∷ r.1)))

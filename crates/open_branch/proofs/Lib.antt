@@ -1,0 +1,4 @@
+pub mod Held
+pub mod Passing
+pub mod Picks
+pub mod Undoing
