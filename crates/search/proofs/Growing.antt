@@ -177,44 +177,54 @@ unfolding built
 built_at limit zero n s some = absurd (some refl)
 built_at limit (suc left) n s some = let e : left ≡ suc left - 1 = omega arith in ap (λ k. entered (built limit k) n s (picked limit s.members)) e
 
--- the work of a node after it was entered
-abbrev pub inside : ℕ → ℕ → ℕ → Sequent → Pick → Traced (Option Proof)
-inside limit left n s p = next (pay (fee s p)) (λ _. next (all_built (built limit left) (n + 1) (premises_of s p) []) (on_some (finished n s p)))
-
-entered_then : (limit left : ℕ) (s : Sequent) (p : Pick) (c : Course) {a b : Funds} {c1 d : Course} {r : Result (Option Proof) StepFault} → (left ≡ 0 → ⊥) → p ≡ picked limit s.members → c1 ≡ noted c (enter c.nodes)
-    → Followed noted (inside limit (left - 1) c.nodes s p) a c1 r b d → Followed noted (built limit left c.nodes s) a c r b d
-entered_then limit left s p c {a} {b} {c1} {d} {r} some first is rest =
+-- what an entered node did, the canonical tree does where the node's rule is the first that fits
+pub built_then : (limit left : ℕ) (s : Sequent) (p : Pick) (c : Course) {a b : Funds} {d : Course} {r : Result (Option Proof) StepFault} → (left ≡ 0 → ⊥) → p ≡ picked limit s.members
+    → Followed noted (entered (built limit (left - 1)) c.nodes s p) a c r b d → Followed noted (built limit left c.nodes s) a c r b d
+built_then limit left s p c {a} {b} {d} {r} some first rest =
     subst (λ (w : Traced (Option Proof)). Followed noted w a c r b d) (sym (built_at limit left c.nodes s some))
-    (subst (λ (q : Pick). Followed noted (entered (built limit (left - 1)) c.nodes s q) a c r b d) first (follow_note (enter c.nodes) _ is rest))
+    (subst (λ (q : Pick). Followed noted (entered (built limit (left - 1)) c.nodes s q) a c r b d) first rest)
 
-pub node_unpaid : (limit left : ℕ) (s : Sequent) (p : Pick) (c : Course) {a b : Funds} {c1 : Course} {e : StepFault} (r : Result (Option Built) StepFault) → (left ≡ 0 → ⊥) → p ≡ picked limit s.members → c1 ≡ noted c (enter c.nodes)
-    → IsErrAnd r (λ x. x ≡ e) → Charged (pay (fee s p)) a (Err e) b → Followed noted (built limit left c.nodes s) a c (built_as r) b c1
-node_unpaid limit left s p c {e = e} r some first is err paid =
-    entered_then limit left s p c some first is (follow_err (pay (fee s p)) _ (built_as r) (built_err _ r err) (follow_unnoted (Err e) paid))
+-- the work of a node after it was entered
+abbrev pub inside : (ℕ → Sequent → Traced (Option Proof)) → ℕ → Sequent → Pick → Traced (Option Proof)
+inside f n s p = next (pay (fee s p)) (λ _. next (all_built f (n + 1) (premises_of s p) []) (on_some (finished n s p)))
+
+entered_then : (f : ℕ → Sequent → Traced (Option Proof)) (s : Sequent) (p : Pick) (c : Course) {a b : Funds} {c1 d : Course} {r : Result (Option Proof) StepFault} → c1 ≡ noted c (enter c.nodes)
+    → Followed noted (inside f c.nodes s p) a c1 r b d → Followed noted (entered f c.nodes s p) a c r b d
+entered_then f s p c is rest = follow_note (enter c.nodes) _ is rest
+
+pub node_memory : (f : ℕ → Sequent → Traced (Option Proof)) (s : Sequent) (p : Pick) (c : Course) {a : Funds} {d : Course} (r : Result (Option Built) StepFault) → IsErrAnd r (λ x. x ≡ Memory)
+    → Followed noted (entered f c.nodes s p) a c (built_as r) a d
+node_memory f s p c r err = follow_memory (built_as r) (built_err Memory r err)
+
+pub node_unpaid : (f : ℕ → Sequent → Traced (Option Proof)) (s : Sequent) (p : Pick) (c : Course) {a b : Funds} {c1 : Course} {e : StepFault} (r : Result (Option Built) StepFault) → c1 ≡ noted c (enter c.nodes) → IsErrAnd r (λ x. x ≡ e)
+    → Charged (pay (fee s p)) a (Err e) b → Followed noted (entered f c.nodes s p) a c (built_as r) b c1
+node_unpaid f s p c {e = e} r is err paid = entered_then f s p c is (follow_err (pay (fee s p)) _ (built_as r) (built_err _ r err) (follow_unnoted (Err e) paid))
 
 -- the premises begin with the number after that of the node
-numbered_on : (limit left : ℕ) (s : Sequent) (p : Pick) (c : Course) {b g : Funds} {c1 d : Course} {r : Result (Option (List Proof)) StepFault} → c1 ≡ noted c (enter c.nodes) → Followed noted (all_built (built limit left) c1.nodes (premises_of s p) []) b c1 r g d
-    → Followed noted (all_built (built limit left) (c.nodes + 1) (premises_of s p) []) b c1 r g d
-numbered_on limit left s p c {b} {g} {c1} {d} {r} is h = subst (λ k. Followed noted (all_built (built limit left) k (premises_of s p) []) b c1 r g d) (ap (λ (z : Course). z.nodes) is) h
+numbered_on : (f : ℕ → Sequent → Traced (Option Proof)) (s : Sequent) (p : Pick) (c : Course) {b g : Funds} {c1 d : Course} {r : Result (Option (List Proof)) StepFault} → c1 ≡ noted c (enter c.nodes)
+    → Followed noted (all_built f c1.nodes (premises_of s p) []) b c1 r g d → Followed noted (all_built f (c.nodes + 1) (premises_of s p) []) b c1 r g d
+numbered_on f s p c {b} {g} {c1} {d} {r} is h = subst (λ k. Followed noted (all_built f k (premises_of s p) []) b c1 r g d) (ap (λ (z : Course). z.nodes) is) h
 
-pub node_cut : (limit left : ℕ) (s : Sequent) (p : Pick) (c : Course) {a b g : Funds} {c1 d : Course} {u : Unit {0}} {e : StepFault} (r : Result (Option Built) StepFault) → (left ≡ 0 → ⊥) → p ≡ picked limit s.members → c1 ≡ noted c (enter c.nodes)
-    → Charged (pay (fee s p)) a (Ok u) b → IsErrAnd r (λ x. x ≡ e) → Followed noted (all_built (built limit (left - 1)) c1.nodes (premises_of s p) []) b c1 (Err e) g d → Followed noted (built limit left c.nodes s) a c (built_as r) g d
-node_cut limit left s p c {u = u} r some first is paid err all =
-    entered_then limit left s p c some first is
-    (follow_ok (pay (fee s p)) _ (follow_unnoted (Ok u) paid) (follow_err (all_built (built limit (left - 1)) _ (premises_of s p) []) _ (built_as r) (built_err _ r err) (numbered_on limit (left - 1) s p c is all)))
+pub node_cut : (f : ℕ → Sequent → Traced (Option Proof)) (s : Sequent) (p : Pick) (c : Course) {a b g : Funds} {c1 d : Course} {u : Unit {0}} {e : StepFault} (r : Result (Option Built) StepFault) → c1 ≡ noted c (enter c.nodes)
+    → Charged (pay (fee s p)) a (Ok u) b → IsErrAnd r (λ x. x ≡ e) → Followed noted (all_built f c1.nodes (premises_of s p) []) b c1 (Err e) g d → Followed noted (entered f c.nodes s p) a c (built_as r) g d
+node_cut f s p c {u = u} r is paid err all =
+    entered_then f s p c is (follow_ok (pay (fee s p)) _ (follow_unnoted (Ok u) paid) (follow_err (all_built f _ (premises_of s p) []) _ (built_as r) (built_err _ r err) (numbered_on f s p c is all)))
 
-pub node_none : (limit left : ℕ) (s : Sequent) (p : Pick) (c : Course) {a b g : Funds} {c1 d : Course} {u : Unit {0}} → (left ≡ 0 → ⊥) → p ≡ picked limit s.members → c1 ≡ noted c (enter c.nodes)
-    → Charged (pay (fee s p)) a (Ok u) b → Followed noted (all_built (built limit (left - 1)) c1.nodes (premises_of s p) []) b c1 (Ok None) g d → Followed noted (built limit left c.nodes s) a c (Ok None) g d
-node_none limit left s p c {u = u} some first is paid all =
-    entered_then limit left s p c some first is
-    (follow_ok (pay (fee s p)) _ (follow_unnoted (Ok u) paid) (follow_ok (all_built (built limit (left - 1)) _ (premises_of s p) []) _ (numbered_on limit (left - 1) s p c is all) (follow_just None None refl)))
+pub node_none : (f : ℕ → Sequent → Traced (Option Proof)) (s : Sequent) (p : Pick) (c : Course) {a b g : Funds} {c1 d : Course} {u : Unit {0}} → c1 ≡ noted c (enter c.nodes) → Charged (pay (fee s p)) a (Ok u) b
+    → Followed noted (all_built f c1.nodes (premises_of s p) []) b c1 (Ok None) g d → Followed noted (entered f c.nodes s p) a c (Ok None) g d
+node_none f s p c {u = u} is paid all =
+    entered_then f s p c is (follow_ok (pay (fee s p)) _ (follow_unnoted (Ok u) paid) (follow_ok (all_built f _ (premises_of s p) []) _ (numbered_on f s p c is all) (follow_just None None refl)))
 
-pub node_built : (limit left : ℕ) (s : Sequent) (p : Pick) (c : Course) (xs : List Proof) {a b g k : Funds} {c1 d f : Course} {u : Unit {0}} {r : Result (Option Proof) StepFault} → (left ≡ 0 → ⊥) → p ≡ picked limit s.members → c1 ≡ noted c (enter c.nodes)
-    → Charged (pay (fee s p)) a (Ok u) b → Followed noted (all_built (built limit (left - 1)) c1.nodes (premises_of s p) []) b c1 (Ok (Some xs)) g d → Followed noted (finished c.nodes s p xs) g d r k f
-    → Followed noted (built limit left c.nodes s) a c r k f
-node_built limit left s p c xs {u = u} some first is paid all end =
-    entered_then limit left s p c some first is
-    (follow_ok (pay (fee s p)) _ (follow_unnoted (Ok u) paid) (follow_ok (all_built (built limit (left - 1)) _ (premises_of s p) []) _ (numbered_on limit (left - 1) s p c is all) end))
+pub node_built : (f : ℕ → Sequent → Traced (Option Proof)) (s : Sequent) (p : Pick) (c : Course) (xs : List Proof) {a b g k : Funds} {c1 d e : Course} {u : Unit {0}} {r : Result (Option Proof) StepFault} → c1 ≡ noted c (enter c.nodes)
+    → Charged (pay (fee s p)) a (Ok u) b → Followed noted (all_built f c1.nodes (premises_of s p) []) b c1 (Ok (Some xs)) g d → Followed noted (finished c.nodes s p xs) g d r k e → Followed noted (entered f c.nodes s p) a c r k e
+node_built f s p c xs {u = u} is paid all end =
+    entered_then f s p c is (follow_ok (pay (fee s p)) _ (follow_unnoted (Ok u) paid) (follow_ok (all_built f _ (premises_of s p) []) _ (numbered_on f s p c is all) end))
+
+-- a leaf that is closed has no premises
+pub node_closed : (f : ℕ → Sequent → Traced (Option Proof)) (s t : Sequent) (c : Course) {a b k : Funds} {c1 e : Course} {u : Unit {0}} {r : Result (Option Proof) StepFault} → t ≡ s → c1 ≡ noted c (enter c.nodes)
+    → Charged (pay (fee s pick.Close)) a (Ok u) b → Followed noted (finished c.nodes t pick.Close []) b c1 r k e → Followed noted (entered f c.nodes s pick.Close) a c r k e
+node_closed f s t c {b = b} {k = k} {c1 = c1} {e = e} {r = r} same is paid end =
+    node_built f s pick.Close c [] is paid (follow_just (Some []) (Some []) refl) (subst (λ (q : Sequent). Followed noted (finished c.nodes q pick.Close []) b c1 r k e) same end)
 
 -- a node that was entered has been charged
 one_fee : (s : Sequent) (p : Pick) → 1 ≤ capped (fee s p)
@@ -304,3 +314,13 @@ node_numbered s p c cs {g} {k} {c1} {d} {f} xs (Ok (Some b)) is n funds w tree c
     let all = n.nodes in
     let paid = n.paid in
     record { tree = tree; nodes = omega (arith, first, all, count, same); paid = omega (arith, paid, later, same) }
+
+-- and of a leaf that is closed
+pub closed_numbered : (s t : Sequent) (c : Course) {a b k : Funds} {c1 e : Course} {u : Unit {0}} (r : Result (Option Built) StepFault) → t ≡ s → c1 ≡ noted c (enter c.nodes) → a.spent ≤ a.budget → c.nodes ≤ a.spent
+    → Charged (pay (fee s pick.Close)) a (Ok u) b → Followed noted (finished c.nodes t pick.Close []) b c1 (built_as r) k e → IfBuilt r (λ x. IsGrown t x) → IfBuilt r (λ x. nodes_in (proof_of x.root) ≡ 1)
+    → IfBuilt r (λ x. e.nodes ≡ c1.nodes) → IfBuilt r (λ x. IsNumbered s c.nodes e.nodes k.spent x)
+closed_numbered s t c {b = b} {k = k} {c1 = c1} {e = e} r same is funds paid did w tree count unchanged =
+    let now = node_paid s pick.Close c is funds paid did in
+    let cs : Children = record { nodes = []; constraints = []; has_open = false } in
+    let none : AreNumbered [] c1.nodes c1.nodes b.spent cs = record { trees = record { constraints = refl; has_open = refl }; nodes = omega arith; paid = now.0 } in
+    node_numbered s pick.Close c cs [] r is none now.1 (subst (λ (q : Sequent). Followed noted (finished c.nodes q pick.Close []) b c1 (built_as r) k e) same w) (subst (λ (q : Sequent). IfBuilt r (λ x. IsGrown q x)) same tree) count unchanged

@@ -5,6 +5,7 @@ ghost use Rattle.clause_set.specs.declared.literal.Literal.{Literal};
 ghost use Rattle.elim_rules.specs.Elimination.{exists_name, for_all_name};
 ghost use Rattle.elim_rules.specs.Whole.{eliminating};
 ghost use Rattle.formula.specs.Sizes.{depth};
+ghost use Rattle.open_branch.specs.Standing.{rule_at, standing};
 ghost use Rattle.pred_unify.specs.Pairs.{closing_of};
 ghost use Rattle.proof_tree.specs.Rules.{conjoined, first_given};
 ghost use Rattle.purse.specs.Followed.{Followed};
@@ -14,15 +15,17 @@ ghost use Rattle.search.specs.Building.{canonical_constraint};
 ghost use Rattle.search.specs.Course.{noted};
 ghost use Rattle.search.specs.Walking.{making, unlogged, without_log};
 ghost use Rattle.sequent.specs.Views.{HasRoom, sequent_of};
+ghost use Rattle.sequent.specs.declared.member.Pick.TheVariants as pick;
 ghost use Rattle.std.specs.Prelude.{◌≡◌, ◌+◌, ◌<◌, ◌≤◌, ◌^◌, [], IfOk, List};
 
 use super::course::Course;
 use clause_set::{Dnf, and};
 use linear_term::{Memory, TermFault};
+use open_branch::{Branch, Principal};
 use pred_unify::closing;
 use purse::{ElimFault, ElimLog, Purse, StepFault};
 use quant_elim::{eliminate, forall_last};
-use sequent::{Pick, Sequent};
+use sequent::{Sequent, Shape};
 use sqlite_items::{Items, at};
 use std::alloc::Global;
 
@@ -109,79 +112,96 @@ fn beta(alloc: Global, ds: &[Dnf], purse: &mut Purse) -> Result<(Dnf, ElimLog), 
     unlogged(alloc, all)
 }
 
-/// The constraint of delta: that of the premise, for every value of the new constant.
+/// The constraint of delta: that of the premise, for every value of the new constant, which comes after so many.
 fn delta(
     alloc: Global,
-    s: &Sequent,
+    count: u32,
     ds: &[Dnf],
     purse: &mut Purse,
 ) -> Result<(Dnf, ElimLog), ElimFault>
-    requires room { HasRoom s.now }
+    requires room { count + 1 < 2 ^ 32 }
     requires budget { purse.old.budget < 2 ^ 32 }
-    ensures { Logged (for_all_name s.now.count (first_given ds.now)) purse.old result purse.new }
+    ensures { Logged (for_all_name count (first_given ds.now)) purse.old result purse.new }
 {
     match first(alloc, ds) {
-        Ok(d) => forall_last(alloc, &d, s.count + 1, purse),
+        Ok(d) => forall_last(alloc, &d, count + 1, purse),
         Err(_) => Err(ElimFault::Memory),
     }
 }
 
-/// The constraint of gamma: that of the premise, for some value of the new constant.
+/// The constraint of gamma: that of the premise, for some value of the new constant, which comes after so many.
 fn gamma(
     alloc: Global,
-    s: &Sequent,
+    count: u32,
     ds: &[Dnf],
     purse: &mut Purse,
 ) -> Result<(Dnf, ElimLog), ElimFault>
     requires budget { purse.old.budget < 2 ^ 32 }
-    ensures { Logged (exists_name s.now.count (first_given ds.now)) purse.old result purse.new }
+    ensures { Logged (exists_name count (first_given ds.now)) purse.old result purse.new }
 {
     match first(alloc, ds) {
-        Ok(d) => quant_elim::exists_name(alloc, &d, s.count, purse),
+        Ok(d) => quant_elim::exists_name(alloc, &d, count, purse),
         Err(_) => Err(ElimFault::Memory),
     }
 }
 
-/// The constraint of a rule, made of those of its premises.
+/// The constraint of the rule with this principal, made of those of its premises.
 fn constraint(
     alloc: Global,
-    s: &Sequent,
-    rule: Pick,
+    branch: &Branch,
+    principal: &Principal,
     ds: &[Dnf],
     purse: &mut Purse,
 ) -> Result<(Dnf, ElimLog), ElimFault>
-    requires room { HasRoom s.now }
-    requires depth { s.now.count + depth (closing_of (sequent_of s.now)).value ≤ 2 ^ 32 }
+    requires room { (standing branch.now).count + 1 < 2 ^ 32 }
     requires budget { purse.old.budget < 2 ^ 32 }
-    ensures { Logged (canonical_constraint (sequent_of s.now) rule ds.now) purse.old result purse.new }
+    ensures { Logged (canonical_constraint (standing branch.now) (rule_at principal.now.shape principal.now.index) ds.now) purse.old result purse.new }
 {
-    match rule {
-        Pick::Trivial(_) => copied(alloc, Dnf::top(alloc)),
-        Pick::Alpha(_) => copied(alloc, first(alloc, ds)),
-        Pick::Delta(_) => delta(alloc, s, ds, purse),
-        Pick::Beta(_) => beta(alloc, ds, purse),
-        Pick::Gamma(_) => gamma(alloc, s, ds, purse),
-        Pick::Close => close(alloc, s, purse),
+    match principal.shape {
+        Shape::Trivial => copied(alloc, Dnf::top(alloc)),
+        Shape::Alpha => copied(alloc, first(alloc, ds)),
+        Shape::Delta => delta(alloc, branch.count(), ds, purse),
+        Shape::Beta => beta(alloc, ds, purse),
+        Shape::Gamma => gamma(alloc, branch.count(), ds, purse),
     }
 }
 
-/// The constraint of a rule, in a run: made in a log of its own.
+/// The constraint of the rule with this principal, in a run: made in a log of its own.
 pub fn made(
     alloc: Global,
-    s: &Sequent,
-    rule: Pick,
+    branch: &Branch,
+    principal: &Principal,
     ds: &[Dnf],
+    course: &mut Course,
+    purse: &mut Purse,
+) -> Result<(Dnf, ElimLog), StepFault>
+    requires room { (standing branch.now).count + 1 < 2 ^ 32 }
+    requires budget { purse.old.budget < 2 ^ 32 }
+    ensures work { Followed noted (making (standing branch.now) (rule_at principal.now.shape principal.now.index) ds.now) purse.old course.old result purse.new course.new }
+    ensures nodes { IfOk result (λ r. course.new.nodes ≡ course.old.nodes) }
+{
+    course.begin_log(alloc);
+    match constraint(alloc, branch, principal, ds, purse) {
+        Ok(outcome) => Ok(outcome),
+        Err(fault) => Err(course.cut(fault)),
+    }
+}
+
+/// The constraint of a leaf that is closed, in a run: made in a log of its own.
+pub fn made_at_leaf(
+    alloc: Global,
+    s: &Sequent,
     course: &mut Course,
     purse: &mut Purse,
 ) -> Result<(Dnf, ElimLog), StepFault>
     requires room { HasRoom s.now }
     requires depth { s.now.count + depth (closing_of (sequent_of s.now)).value ≤ 2 ^ 32 }
     requires budget { purse.old.budget < 2 ^ 32 }
-    ensures work { Followed noted (making (sequent_of s.now) rule ds.now) purse.old course.old result purse.new course.new }
+    ensures work { Followed noted (making (sequent_of s.now) pick.Close []) purse.old course.old result purse.new course.new }
     ensures nodes { IfOk result (λ r. course.new.nodes ≡ course.old.nodes) }
 {
     course.begin_log(alloc);
-    match constraint(alloc, s, rule, ds, purse) {
+    match close(alloc, s, purse) {
         Ok(outcome) => Ok(outcome),
         Err(fault) => Err(course.cut(fault)),
     }

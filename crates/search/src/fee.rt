@@ -2,18 +2,20 @@
 // members.
 
 ghost use Rattle.formula.specs.Tree.{form};
+ghost use Rattle.open_branch.specs.Standing.{IsPrincipal, rule_at, standing};
 ghost use Rattle.pred_unify.specs.Pairs as pair;
 ghost use Rattle.proof_tree.specs.Walk as walk;
 ghost use Rattle.purse.specs.Trace.{capped};
 ghost use Rattle.search.specs.Pairing as pairing;
 ghost use Rattle.search.specs.Pairing.{sum_of};
 ghost use Rattle.sequent.specs.Views.{member_of, members_of, sequent_of};
-ghost use Rattle.std.specs.List.{slice_get};
+ghost use Rattle.sequent.specs.declared.member.Pick.TheVariants as pick;
 ghost use Rattle.std.specs.Prelude.{◌≡◌, ◌+◌};
 
 use formula::{Core, is_pure, size};
 use linear_term::Term;
-use sequent::{Member, Pick, Sequent};
+use open_branch::{Branch, Principal};
+use sequent::{Member, Sequent};
 
 fn alike(p: u32, ss: &[Term], q: u32, ts: &[Term]) -> bool
     ensures { result ≡ pair.alike p ss.now q ts.now }
@@ -180,26 +182,17 @@ fn closing_size(s: &Sequent) -> u64
     pure_sizes(members).saturating_add(pairs).saturating_add(1)
 }
 
-/// The charge of a rule with a principal member: 1 and its size.
-fn principal_fee(s: &Sequent, at: u32) -> u64
-    ensures { result ≡ capped (1 + walk.size_at (slice_get (members_of s.now.members) at)) }
+/// The charge of a node whose rule has this principal: 1 and its size.
+pub fn principal_fee(branch: &Branch, principal: &Principal) -> u64
+    requires { IsPrincipal branch.now principal.now }
+    ensures { result ≡ capped (walk.fee (standing branch.now) (rule_at principal.now.shape principal.now.index)) }
 {
-    match s.members.get(at as usize) {
-        None => 1,
-        Some(m) => size(&m.formula).saturating_add(1),
-    }
+    size(&branch.get(principal).formula).saturating_add(1)
 }
 
-/// The charge of a node: 1 and the size of its principal, or of the closing formula.
-pub fn fee(s: &Sequent, rule: Pick) -> u64
-    ensures { result ≡ capped (walk.fee (sequent_of s.now) rule) }
+/// The charge of a leaf that is closed: 1 and the size of its closing formula.
+pub fn closing_fee(s: &Sequent) -> u64
+    ensures { result ≡ capped (walk.fee (sequent_of s.now) pick.Close) }
 {
-    match rule {
-        Pick::Trivial(i) => principal_fee(s, i),
-        Pick::Alpha(i) => principal_fee(s, i),
-        Pick::Delta(i) => principal_fee(s, i),
-        Pick::Beta(i) => principal_fee(s, i),
-        Pick::Gamma(i) => principal_fee(s, i),
-        Pick::Close => closing_size(s).saturating_add(1),
-    }
+    closing_size(s).saturating_add(1)
 }

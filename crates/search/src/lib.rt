@@ -6,6 +6,7 @@
 mod constraint;
 mod course;
 mod fee;
+mod finishing;
 mod judge;
 mod laws;
 mod run;

@@ -16,6 +16,7 @@ use super::judge::{Found, Outcome, conclude, ended, solution, stopped};
 use super::walk::build;
 use formula::Core;
 use linear_term::Memory;
+use open_branch::Branch;
 use proof_tree::{Run, know_reduced};
 use purse::{Purse, StepFault};
 use sequent::start;
@@ -42,7 +43,8 @@ fn one_round(
     let before = purse.spent();
     let s = start(alloc, root, constants)?;
     know_reduced(&s);
-    match build(alloc, &s, limit, 2000, course, purse)? {
+    let mut branch = Branch::at(alloc, s)?;
+    match build(alloc, &mut branch, limit, 2000, course, purse)? {
         Some(tree) => {
             let charged = purse.spent() - before;
             let solved = solution(alloc, &tree.constraint, constants, course, purse)?;

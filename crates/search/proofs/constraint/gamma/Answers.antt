@@ -4,4 +4,4 @@ use Rattle.search.proofs.Closing.{no_leaf}
 use Rattle.search.proofs.constraint.gamma.Goals as goal
 
 pub returns-in-Err : goal.returns-in-Err
-returns-in-Err c = no_leaf (exists_name c.args.s.now.count (first_given c.args.ds.now)) c.args.purse.now
+returns-in-Err c = no_leaf (exists_name c.args.count (first_given c.args.ds.now)) c.args.purse.now
