@@ -1,5 +1,5 @@
 -- What a constraint over the existential constants prints as, and what its formula says.
-use Rattle.std.proofs.Common.{◌≡◌, ◌↔◌, ℕ, ◌≤◌, ℤ, Bool, true, false, cond, nat_eq, List, [], ◌∷◌, ◌++◌, length, map, refl, sym, ◌∙◌, ap, subst, length-append, arith}
+use Rattle.std.proofs.Common.{◌≡◌, ◌↔◌, ℕ, ◌≤◌, ◌+◌, ℤ, Bool, true, false, cond, nat_eq, List, [], ◌∷◌, ◌++◌, length, map, refl, sym, ◌∙◌, ap, subst, length-append, arith}
 use Rattle.std.proofs.Math.Nat.{lt_of_not-le}
 use Rattle.std.proofs.lemmas.Bool.Decides.{nat_tests}
 use Rattle.linear_term.specs.Linear.{has_name, mentions}
@@ -57,6 +57,11 @@ names_below n (c ∷ cs) h = (clause_below n c (λ y le. (h y le).0), names_belo
 pub constants_below : (p : Problem) (d : List (List Literal)) → AreOver (length p.existentials) d → DnfNames (IsBelow (length (constants_of p))) d
 constants_below p d h =
     names_below (length (constants_of p)) d (λ y le. h y (let m = length-append p.existentials p.universals in omega arith))
+
+-- and one over all constants is over these
+pub all_below : (p : Problem) (d : List (List Literal)) → AreOver (length p.existentials + length p.universals) d → DnfNames (IsBelow (length (constants_of p))) d
+all_below p d h =
+    names_below (length (constants_of p)) d (λ y le. h y (let m = length-append p.existentials p.universals in omega (arith, le, m)))
 
 -- ---- what the formula says
 

@@ -1,4 +1,4 @@
--- The line that prints a constraint of a problem.
+-- The lines that print normal forms over the constants of a problem.
 use Rattle.std.specs.Prelude.{◌≡◌, ℕ, List, ◌++◌, codes}
 use Rattle.answers.specs.Answer.{line}
 use Rattle.clause_set.specs.declared.literal.Literal.{Literal}
@@ -17,8 +17,12 @@ pub record IsTextOf (p : Problem) (d : List (List Literal)) (x : List ℕ) : Typ
 abbrev pub constraint_line : List ℕ → List ℕ
 constraint_line x = line (codes "constraint: " ++ x)
 
--- the text is the line of the constraint d
-pub record IsLineOf (p : Problem) (d : List (List Literal)) (text : List ℕ) : Type 0 where
+-- the line with the text of an interpolant
+abbrev pub interpolant_line : List ℕ → List ℕ
+interpolant_line x = line (codes "interpolant: " ++ x)
+
+-- the text is the line of d, made so of the text of d
+pub record IsLineOf (made : List ℕ → List ℕ) (p : Problem) (d : List (List Literal)) (text : List ℕ) : Type 0 where
   pub x : List ℕ
   pub printed : IsTextOf p d x
-  pub line : text ≡ constraint_line x
+  pub line : text ≡ made x

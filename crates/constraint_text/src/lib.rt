@@ -1,8 +1,8 @@
-// The line in which an answer prints the constraint of a problem.
+// The lines in which answers print the constraint and the interpolants of a problem.
 #![tactic(auto)]
 
 mod laws;
 mod printing;
 
 pub use laws::constraint_text_law;
-pub use printing::constraint_line;
+pub use printing::{constraint_line, interpolant_line};

@@ -1,5 +1,5 @@
 -- What holds of the answers to files, whatever is answered of the problems: each job has this of its own answers.
-use Rattle.std.proofs.Common.{◌≡◌, ℕ, List, Option, Some, None, Result, Ok, Err, IfOk, refl, sym, ◌∙◌, ap, subst, ◌⊎◌, inl, inr, codes}
+use Rattle.std.proofs.Common.{◌≡◌, ℕ, List, Option, Some, None, Result, Ok, Err, IfOk, refl, sym, ◌∙◌, ap, subst, ◌⊎◌, inl, inr, codes, flat_map, is_some}
 use Rattle.linear_term.specs.declared.range.Memory.{Memory}
 use Rattle.answers.specs.Answer.{Answer, answer_of, placed, refused_answer}
 use Rattle.answers.specs.declared.output.Output.{Output}
@@ -7,19 +7,22 @@ use Rattle.pri_reader.specs.declared.tree.ReadRefusal.TheVariants as reading
 use Rattle.pri_typing.specs.declared.problem.Problem.{Problem}
 use Rattle.pri_typing.specs.declared.problem.TypeRefusal.{TypeRefusal}
 use Rattle.pri_typing.specs.declared.problem.TypeRefusal.TheVariants as typing
+use Rattle.pri_typing.specs.Typing.{first_of}
 use Rattle.problem_file.specs.declared.fault.FileFault.{FileFault}
 use Rattle.problem_file.specs.declared.fault.FileFault.TheVariants as fault
 use Rattle.problem_file.specs.Reads.{Reads, Refusal, FirstRefusal, AreSame, unread, untyped}
 use Rattle.problem_file.specs.Refusals.{refusal_name}
-use Rattle.problem_file.specs.Special.{first_unsupported}
+use Rattle.problem_file.specs.Special.{first_unsupported, unsupported_in}
 use Rattle.problem_file.specs.Answers.{Poses, PosesUnsupported, AnswersFile, refused, unsupported, posed}
 use Rattle.problem_file.specs.Faults.{RefusesFile, IsTold}
 use Rattle.problem_file.proofs.Bytes.{same_file, one_problem, one_refusal, read_or_refused, some_same}
 use Rattle.problem_file.proofs.Existing.{either}
 
 -- two readings of the same bytes have the same first unsupported place
-one_place : (bytes : List ℕ) (p q : Problem) (m n : Option ℕ) (h : Reads bytes p) (k : Reads bytes q) → first_unsupported h.file ≡ m → first_unsupported k.file ≡ n → m ≡ n
-one_place bytes p q m n h k e f = sym e ∙ ap first_unsupported (same_file bytes h.file k.file h.read k.read) ∙ f
+one_place : (bytes : List ℕ) (p q : Problem) (m n : Option ℕ) (h : Reads bytes p) (k : Reads bytes q) → first_unsupported p h.file ≡ m → first_unsupported q k.file ≡ n → m ≡ n
+one_place bytes p q m n h k e f =
+    sym e ∙ ap (first_unsupported p) (same_file bytes h.file k.file h.read k.read)
+    ∙ ap (λ at. first_of (flat_map (unsupported_in (is_some at)) k.file.blocks)) (one_problem bytes p q h k).first_application ∙ f
 
 -- there is one at most
 pub one_unsupported : (bytes : List ℕ) (m n : ℕ) → PosesUnsupported bytes m → PosesUnsupported bytes n → m ≡ n
@@ -31,9 +34,9 @@ posed_or_unsupported bytes p at h k = let bad : None ≡ Some at = one_place byt
 
 -- a problem that is read is answered, or there is such a place
 pub supported_or_not : (bytes : List ℕ) (p : Problem) → Reads bytes p → Poses bytes p ⊎ ((at : ℕ) × PosesUnsupported bytes at)
-supported_or_not bytes p h = by (first_unsupported h.file) refl
+supported_or_not bytes p h = by (first_unsupported p h.file) refl
   where
-    by : (place : Option ℕ) → first_unsupported h.file ≡ place → Poses bytes p ⊎ ((at : ℕ) × PosesUnsupported bytes at)
+    by : (place : Option ℕ) → first_unsupported p h.file ≡ place → Poses bytes p ⊎ ((at : ℕ) × PosesUnsupported bytes at)
     by (Some at) first = inr (at, record { problem = p; reads = h; first = first })
     by None supported = inl (record { reads = h; supported = supported })
 

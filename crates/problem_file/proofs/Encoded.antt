@@ -106,7 +106,7 @@ leaves_behind (raw qs ∷ before) after ps h = by (all_stay qs) (raw_stay (befor
 leaves_behind (mark m ∷ before) after ps h = leaves_behind before after ps h
 
 -- what is refused as out of the range has a number that leaves it
-left_stays : (work : Traced Form) (place : Place) → Made form work (Err (term_fault.Overflow place)) → raw_stay work.events ≡ false
+pub left_stays : (work : Traced Form) (place : Place) → Made form work (Err (term_fault.Overflow place)) → raw_stay work.events ≡ false
 left_stays work place m =
     let out = ((m.works).each start).overflow place refl in
     let stop = (left_where_leaves work.events start start out.numbers (omega arith)).0 out.end in

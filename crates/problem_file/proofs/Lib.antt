@@ -3,3 +3,4 @@ pub mod Bytes
 pub mod Encoded
 mod Existing
 pub mod Reduced
+pub mod Supported

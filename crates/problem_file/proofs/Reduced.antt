@@ -13,9 +13,10 @@ use Rattle.purse.specs.Trace.{Traced, just, step, next, combining}
 use Rattle.formula.specs.Form.{Form, Forms, holds, fails, differs, universal, disjunction, no_form, forms}
 use Rattle.formula.specs.Reduced.{HasReducedTerms, HaveReducedTerms}
 use Rattle.pri_typing.specs.declared.problem.Problem.{Problem}
+use Rattle.pri_typing.specs.Problems.{assumed_by}
 use Rattle.pri_typing.specs.WellFormed.{is_numeric}
 use Rattle.encoding.specs.Encoding.{named, multiple, related, signed_relation, product_of, junction, quantified, cases, encoded, all_encoded, with_value, with_values, with_sum, with_more}
-use Rattle.encoding.specs.Problems.{body, problem_root, constants}
+use Rattle.encoding.specs.Problems.{body, parts_root, problem_root, constants}
 use Rattle.encoding.specs.Root.{for_last, names_from}
 
 number_reduced : (v : ℤ) → IsReduced (linear.number v)
@@ -151,3 +152,7 @@ body_reduced p = encoded_reduced (formula p.formula) (names_from 0 (constants p)
 pub problem_reduced : (p : Problem) → HasReducedTerms (problem_root p).value
 unfolding next just
 problem_reduced p = last_reduced (length p.universals) (body p).value (body_reduced p)
+
+-- and those of what parts assume
+pub parts_reduced : (p : Problem) (set : List ℕ) → HasReducedTerms (parts_root p set).value
+parts_reduced p set = encoded_reduced (assumed_by p set) (names_from 0 (constants p)) (constants p) true

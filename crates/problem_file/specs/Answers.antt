@@ -9,13 +9,13 @@ use Rattle.problem_file.specs.Special.{first_unsupported}
 -- the bytes pose the problem, and nothing in them is unsupported
 pub record Poses (bytes : List ℕ) (p : Problem) : Type 0 where
   pub reads : Reads bytes p
-  pub supported : first_unsupported reads.file ≡ None
+  pub supported : first_unsupported p reads.file ≡ None
 
 -- the bytes pose a problem with something unsupported, and first there
 pub record PosesUnsupported (bytes : List ℕ) (at : ℕ) : Type 0 where
   pub problem : Problem
   pub reads : Reads bytes problem
-  pub first : first_unsupported reads.file ≡ Some at
+  pub first : first_unsupported problem reads.file ≡ Some at
 
 -- the bytes pose a problem that is so, and nothing in them is unsupported
 abbrev pub PosesOne : List ℕ → (Problem → Type 0) → Type 0

@@ -2,6 +2,7 @@
 
 ghost use Rattle.problem_file.specs.Answers.{Poses, PosesUnsupported};
 ghost use Rattle.problem_file.specs.Reads.{AreSame, FirstRefusal, Reads, Refusal};
+ghost use Rattle.problem_file.specs.Special.{HasPlainCuts};
 ghost use Rattle.encoding.specs.Problems.{problem_root};
 ghost use Rattle.formula.specs.Reduced.{HasReducedTerms};
 ghost use Rattle.pri_typing.specs.Problems.{IsPure};
@@ -26,11 +27,13 @@ pub fn problem_law()
     ensures pure { (bytes : List ℕ) (p : Problem) → Reads bytes p → (p.first_application ≡ None) ↔ IsPure p }
 {}
 
-/// A problem that bytes pose is answered, or there is a first place of something that is not, and not both.
+/// A problem that bytes pose is answered, or there is a first place of something that is not, and not both. The cuts of one that
+/// is answered have two sets each.
 pub fn unsupported_law()
     ensures either { (bytes : List ℕ) (p : Problem) (at : ℕ) → Poses bytes p → PosesUnsupported bytes at → ⊥ }
     ensures place { (bytes : List ℕ) (m n : ℕ) → PosesUnsupported bytes m → PosesUnsupported bytes n → m ≡ n }
     ensures some { (bytes : List ℕ) (p : Problem) → Reads bytes p → Poses bytes p ⊎ ((at : ℕ) × PosesUnsupported bytes at) }
+    ensures cuts { (bytes : List ℕ) (p : Problem) → Poses bytes p → HasPlainCuts p }
 {}
 
 /// The terms of an encoded problem are reduced.

@@ -4,6 +4,8 @@
 #[cfg(test)]
 mod decided;
 #[cfg(test)]
+mod interpolants;
+#[cfg(test)]
 mod limits;
 #[cfg(test)]
 mod refused;

@@ -93,10 +93,6 @@ fn refused_files_name_the_place(rt: HostRuntime) -> Result<(), Fail> {
                 "\\problem { \\part[a] true | (true <-> \\part[b] true) } \\interpolant { a; b }",
                 (3, "refused: Parts at 28\n"),
             ),
-            (
-                "\\problem { \\part[a] true | \\part[b] true } \\interpolant { a; b }",
-                (3, "refused: Unsupported at 43\n"),
-            ),
         ],
     )
 }

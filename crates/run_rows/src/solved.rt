@@ -147,7 +147,7 @@ fn constraints_are_made(rt: HostRuntime) -> Result<(), Fail> {
         ),
         (
             "\\problem { \\part[a] true | \\part[b] true } \\interpolant { a; b }",
-            (3, "refused: Unsupported at 43\n"),
+            (0, "constraint: true\n"),
         ),
         (
             "\\problem { 170141183460469231731687303715884105727 + 1 > 0 }",

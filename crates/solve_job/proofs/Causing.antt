@@ -1,5 +1,6 @@
 -- Where each answer of `solve` comes.
-use Rattle.std.proofs.Common.{◌≡◌, ◌⊎◌, inl, inr, ℕ, ℤ, Bool, true, false, List, [], ◌∷◌, refl, sym, ◌∙◌, ap, subst, codes, slice_index_or, arith}
+use Rattle.std.proofs.Common.{◌≡◌, ◌⊎◌, inl, inr, ℕ, ℤ, Bool, true, false, List, [], ◌∷◌, ◌++◌, refl, sym, ◌∙◌, ap, subst, codes, slice_index_or, arith}
+use Rattle.purse.specs.Trace.{Funds, At}
 use Rattle.formula.specs.Form.{is_pure}
 use Rattle.proof_tree.specs.Proof.{Proof}
 use Rattle.search.specs.Run as run
@@ -7,12 +8,14 @@ use Rattle.search.specs.Run.{Ending, ends_with, out_of_steps, overflows}
 use Rattle.encoding.specs.Problems.{problem_root}
 use Rattle.encoding.proofs.Problems.{pure_is}
 use Rattle.pri_typing.specs.declared.problem.Problem.{Problem}
-use Rattle.answers.specs.Answer.{Answer, placed, refused_answer, unknown_answer}
+use Rattle.answers.specs.Answer.{Answer, line, placed, refused_answer, unknown_answer}
 use Rattle.problem_file.specs.Refusals.{refusal_name}
 use Rattle.problem_file.specs.Answers.{Poses, PosesOne, refused, unsupported, posed}
 use Rattle.problem_file.specs.Encoded.{Fits, LeavesRange, large, leaves, runs}
+use Rattle.interpolant_lines.specs.Blocks.{AreBlockLines}
+use Rattle.interpolant_lines.proofs.Listing.{blocks_caused}
 use Rattle.solve_job.specs.Solved.{AnswersEnd, closed, valid, invalid, saturated, branch, steps, overflow, run_end, IsSolved}
-use Rattle.solve_job.specs.Causes.{Ends, IsValid, IsInvalid, IsSaturated, IsTooLong, IsOutOfSteps, IsOutOfRange, IsRefused, first, special, too_large, Causes, Decides}
+use Rattle.solve_job.specs.Causes.{Ends, IsValid, IsInvalid, IsSaturated, IsTooLong, IsOutOfSteps, IsOutOfRange, IsRefused, first, special, too_large, TellsBlocks, Causes, Decides}
 use Rattle.solve_job.proofs.Exactly.{by_end, end_answer, found_answer, one_answer, run_answered}
 use Rattle.solve_job.proofs.Meaning.{tells}
 
@@ -26,7 +29,7 @@ cause a = slice_index_or a.text 10 0
 -- ---- from an answer to its cause
 
 valid_end : (p : Problem) (end : Ending run.Answer) (a : Answer) → AnswersEnd p end a → a.status ≡ 0 → IsValid end
-valid_end p end a (closed vs x stands is none e) z = (vs, x, stands, is)
+valid_end p end a (closed vs x stands text is none told e) z = (vs, x, stands, is)
 valid_end p end a (valid vs x stands text is some printed e) z = (vs, x, stands, is)
 valid_end p end a (invalid log x stands is e) z = let bad = sym z ∙ ap status_of e in absurd cc
 valid_end p end a (saturated log x stands is e) z = let bad = sym z ∙ ap status_of e in absurd cc
@@ -35,7 +38,7 @@ valid_end p end a (steps stands is e) z = let bad = sym z ∙ ap status_of e in 
 valid_end p end a (overflow numbers stands is e) z = let bad = sym z ∙ ap status_of e in absurd cc
 
 invalid_end : (p : Problem) (end : Ending run.Answer) (a : Answer) → AnswersEnd p end a → a.status ≡ 1 → IsInvalid end
-invalid_end p end a (closed vs x stands is none e) z = let bad = sym z ∙ ap status_of e in absurd cc
+invalid_end p end a (closed vs x stands text is none told e) z = let bad = sym z ∙ ap status_of e in absurd cc
 invalid_end p end a (valid vs x stands text is some printed e) z = let bad = sym z ∙ ap status_of e in absurd cc
 invalid_end p end a (invalid log x stands is e) z = (log, x, stands, is)
 invalid_end p end a (saturated log x stands is e) z = let bad = sym z ∙ ap status_of e in absurd cc
@@ -44,7 +47,7 @@ invalid_end p end a (steps stands is e) z = let bad = sym z ∙ ap status_of e i
 invalid_end p end a (overflow numbers stands is e) z = let bad = sym z ∙ ap status_of e in absurd cc
 
 steps_end : (p : Problem) (end : Ending run.Answer) (a : Answer) → AnswersEnd p end a → a ≡ unknown_answer (codes "steps") → IsOutOfSteps end
-steps_end p end a (closed vs x stands is none e) z = let bad = ap status_of (sym z ∙ e) in absurd cc
+steps_end p end a (closed vs x stands text is none told e) z = let bad = ap status_of (sym z ∙ e) in absurd cc
 steps_end p end a (valid vs x stands text is some printed e) z = let bad = ap status_of (sym z ∙ e) in absurd cc
 steps_end p end a (invalid log x stands is e) z = let bad = ap status_of (sym z ∙ e) in absurd cc
 steps_end p end a (saturated log x stands is e) z = absurd (omega (arith, ap cause (sym z ∙ e)))
@@ -53,7 +56,7 @@ steps_end p end a (steps stands is e) z = (stands, is)
 steps_end p end a (overflow numbers stands is e) z = absurd (omega (arith, ap cause (sym z ∙ e)))
 
 overflow_end : (p : Problem) (end : Ending run.Answer) (a : Answer) → AnswersEnd p end a → a ≡ unknown_answer (codes "overflow") → IsOutOfRange end
-overflow_end p end a (closed vs x stands is none e) z = let bad = ap status_of (sym z ∙ e) in absurd cc
+overflow_end p end a (closed vs x stands text is none told e) z = let bad = ap status_of (sym z ∙ e) in absurd cc
 overflow_end p end a (valid vs x stands text is some printed e) z = let bad = ap status_of (sym z ∙ e) in absurd cc
 overflow_end p end a (invalid log x stands is e) z = let bad = ap status_of (sym z ∙ e) in absurd cc
 overflow_end p end a (saturated log x stands is e) z = absurd (omega (arith, ap cause (sym z ∙ e)))
@@ -62,7 +65,7 @@ overflow_end p end a (steps stands is e) z = absurd (omega (arith, ap cause (sym
 overflow_end p end a (overflow numbers stands is e) z = (numbers, stands, is)
 
 branch_end : (p : Problem) (end : Ending run.Answer) (a : Answer) → AnswersEnd p end a → a ≡ unknown_answer (codes "branch") → IsTooLong end
-branch_end p end a (closed vs x stands is none e) z = let bad = ap status_of (sym z ∙ e) in absurd cc
+branch_end p end a (closed vs x stands text is none told e) z = let bad = ap status_of (sym z ∙ e) in absurd cc
 branch_end p end a (valid vs x stands text is some printed e) z = let bad = ap status_of (sym z ∙ e) in absurd cc
 branch_end p end a (invalid log x stands is e) z = let bad = ap status_of (sym z ∙ e) in absurd cc
 branch_end p end a (saturated log x stands is e) z = absurd (omega (arith, ap cause (sym z ∙ e)))
@@ -71,7 +74,7 @@ branch_end p end a (steps stands is e) z = absurd (omega (arith, ap cause (sym z
 branch_end p end a (overflow numbers stands is e) z = absurd (omega (arith, ap cause (sym z ∙ e)))
 
 saturated_end : (p : Problem) (end : Ending run.Answer) (a : Answer) → AnswersEnd p end a → a ≡ unknown_answer (codes "saturated") → IsSaturated end
-saturated_end p end a (closed vs x stands is none e) z = let bad = ap status_of (sym z ∙ e) in absurd cc
+saturated_end p end a (closed vs x stands text is none told e) z = let bad = ap status_of (sym z ∙ e) in absurd cc
 saturated_end p end a (valid vs x stands text is some printed e) z = let bad = ap status_of (sym z ∙ e) in absurd cc
 saturated_end p end a (invalid log x stands is e) z = let bad = ap status_of (sym z ∙ e) in absurd cc
 saturated_end p end a (saturated log x stands is e) z = (log, x, stands, is)
@@ -80,7 +83,7 @@ saturated_end p end a (steps stands is e) z = absurd (omega (arith, ap cause (sy
 saturated_end p end a (overflow numbers stands is e) z = absurd (omega (arith, ap cause (sym z ∙ e)))
 
 not_refused : (p : Problem) (end : Ending run.Answer) (a : Answer) → AnswersEnd p end a → a.status ≡ 3 → ⊥
-not_refused p end a (closed vs x stands is none e) z = let bad = sym z ∙ ap status_of e in absurd cc
+not_refused p end a (closed vs x stands text is none told e) z = let bad = sym z ∙ ap status_of e in absurd cc
 not_refused p end a (valid vs x stands text is some printed e) z = let bad = sym z ∙ ap status_of e in absurd cc
 not_refused p end a (invalid log x stands is e) z = let bad = sym z ∙ ap status_of e in absurd cc
 not_refused p end a (saturated log x stands is e) z = let bad = sym z ∙ ap status_of e in absurd cc
@@ -119,12 +122,12 @@ refused_by budget bytes a (posed p h (runs f k)) z = absurd (not_refused p (run_
 ended : (budget : ℕ) (bytes : List ℕ) (a : Answer) (p : Problem) (end : Ending run.Answer) → IsSolved budget bytes a → Poses bytes p → Fits p → run_end budget p ≡ end → a ≡ end_answer p end
 ended budget bytes a p end solved poses fits is = by_end p (run_end budget p) a (run_answered budget bytes a p solved poses fits) ∙ ap (end_answer p) is
 
-found_status : (p : Problem) (names : List (List ℕ)) (x : Proof) (vs : List ℤ) → (found_answer p names x vs).status ≡ 0
-found_status p [] x vs = refl
-found_status p (name ∷ names) x vs = refl
+found_status : (p : Problem) (names : List (List ℕ)) (x : Proof) (vs : List ℤ) (left : Funds) → (found_answer p names x vs left).status ≡ 0
+found_status p [] x vs left = refl
+found_status p (name ∷ names) x vs left = refl
 
 valid_status : (budget : ℕ) (bytes : List ℕ) (a : Answer) (p : Problem) → IsSolved budget bytes a → Poses bytes p → Fits p → IsValid (run_end budget p) → a.status ≡ 0
-valid_status budget bytes a p solved poses fits is = ap status_of (ended budget bytes a p _ solved poses fits is.3) ∙ found_status p p.existentials is.1 is.0
+valid_status budget bytes a p solved poses fits is = ap status_of (ended budget bytes a p _ solved poses fits is.3) ∙ found_status p p.existentials is.1 is.0 (is.2).funds
 
 refused_status : (budget : ℕ) (bytes : List ℕ) (a : Answer) → IsSolved budget bytes a → IsRefused bytes → a.status ≡ 3
 refused_status budget bytes a solved (first r h) = ap status_of (one_answer budget bytes a _ solved (refused r h refl))
@@ -134,6 +137,26 @@ refused_status budget bytes a solved (too_large h) = ap status_of (one_answer bu
 out_of_range : (budget : ℕ) (bytes : List ℕ) (a : Answer) → IsSolved budget bytes a → PosesOne bytes LeavesRange ⊎ Ends budget bytes IsOutOfRange → a ≡ unknown_answer (codes "overflow")
 out_of_range budget bytes a solved (inl h) = one_answer budget bytes a _ solved (posed h.0 h.1 (leaves h.2 refl))
 out_of_range budget bytes a solved (inr h) = ended budget bytes a h.0 _ solved h.1 h.2.0 h.2.1.2
+
+-- where the run of a problem without existential constants ends as valid, there are the lines of its blocks
+same_stand : (vs ws : List ℤ) (x y : Proof) (s t : At) → ends_with (run.valid vs x) s ≡ ends_with (run.valid ws y) t → s ≡ t
+same_stand vs ws x y s t h = cc
+
+blocks_told : (p : Problem) (end : Ending run.Answer) (a : Answer) → AnswersEnd p end a → (ws : List ℤ) (y : Proof) (left : At) → p.existentials ≡ [] → end ≡ ends_with (run.valid ws y) left
+    → TellsBlocks p left.funds a.text
+blocks_told p end a (closed vs x stands text is none told e) ws y left alone ends =
+    let same = same_stand vs ws x y stands left (sym is ∙ ends) in
+    record {
+      lines = told.lines;
+      whole = ap (λ b. b.text) e ∙ ap (λ t. line (codes "VALID") ++ t) told.whole;
+      caused = blocks_caused p left.funds told.lines (subst (λ s. AreBlockLines p p.cuts s.funds told.lines) same told.are);
+    }
+blocks_told p end a (valid vs x stands text is some printed e) ws y left alone ends = absurd (some alone)
+blocks_told p end a (invalid log x stands is e) ws y left alone ends = let bad = sym is ∙ ends in absurd cc
+blocks_told p end a (saturated log x stands is e) ws y left alone ends = let bad = sym is ∙ ends in absurd cc
+blocks_told p end a (branch stands is e) ws y left alone ends = let bad = sym is ∙ ends in absurd cc
+blocks_told p end a (steps stands is e) ws y left alone ends = let bad = sym is ∙ ends in absurd cc
+blocks_told p end a (overflow numbers stands is e) ws y left alone ends = let bad = sym is ∙ ends in absurd cc
 
 pub causes : (budget : ℕ) (bytes : List ℕ) (a : Answer) → IsSolved budget bytes a → Causes budget bytes a
 causes budget bytes a solved = record {
@@ -165,6 +188,7 @@ causes budget bytes a solved = record {
   refused = λ r h. one_answer budget bytes a _ solved (refused r h refl);
   unsupported = λ at h. one_answer budget bytes a _ solved (unsupported at h refl);
   large = λ h. one_answer budget bytes a _ solved (posed h.0 h.1 (large h.2 refl));
+  blocks = λ p vs x stands poses fits alone is. blocks_told p (run_end budget p) a (run_answered budget bytes a p solved poses fits) vs x stands alone is;
 }
 
 -- ---- problems without predicates and functions

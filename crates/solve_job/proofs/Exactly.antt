@@ -1,6 +1,7 @@
 -- A file has at most one answer of `solve`, and it has a status of answers.
 use Rattle.std.proofs.Common.{◌≡◌, ◌≢◌, ℕ, ℤ, List, [], ◌∷◌, ◌++◌, length, refl, sym, ◌∙◌, ap, subst, codes}
-use Rattle.purse.specs.Trace.{at}
+use Rattle.std.specs.List.{concat}
+use Rattle.purse.specs.Trace.{Funds, at}
 use Rattle.formula.specs.Form.{Form}
 use Rattle.proof_tree.specs.Proof.{Proof, given}
 use Rattle.search.specs.Run as run
@@ -17,33 +18,36 @@ use Rattle.problem_file.specs.Answers.{Poses, refused, unsupported, posed}
 use Rattle.problem_file.specs.Encoded.{AnswersEncoded, Fits, large, leaves, runs}
 use Rattle.problem_file.proofs.Answering.{one_of_file, posed_answered}
 use Rattle.problem_file.proofs.Encoded.{fitting_answered, one_of_encoded, root_same, same_encoded}
-use Rattle.solve_job.specs.Solved.{valid_answer, AnswersEnd, closed, valid, invalid, saturated, branch, steps, overflow, run_end, AnswersRun, IsSolved}
+use Rattle.interpolant_lines.proofs.Listing.{block_lines, lines_are, same_list}
+use Rattle.solve_job.specs.Solved.{closed_answer, valid_answer, AnswersEnd, closed, valid, invalid, saturated, branch, steps, overflow, run_end, AnswersRun, IsSolved}
 
 -- ---- one answer to each end
 
--- the answer where values were found, for these names of existential constants
-abbrev pub found_answer : Problem → List (List ℕ) → Proof → List ℤ → Answer
-found_answer p [] x vs = says_line 0 (codes "VALID")
-found_answer p (name ∷ names) x vs = valid_answer p (dnf_text p (given x)) vs
+-- the answer where values were found, for these names of existential constants, by a run that left the purse so
+abbrev pub found_answer : Problem → List (List ℕ) → Proof → List ℤ → Funds → Answer
+found_answer p [] x vs left = closed_answer (concat (block_lines p p.cuts left))
+found_answer p (name ∷ names) x vs left = valid_answer p (dnf_text p (given x)) vs
 
 -- the answer to each end
 abbrev pub end_answer : Problem → Ending run.Answer → Answer
-end_answer p (ends_with (run.valid vs x) stands) = found_answer p p.existentials x vs
+end_answer p (ends_with (run.valid vs x) stands) = found_answer p p.existentials x vs stands.funds
 end_answer p (ends_with (run.invalid log x) stands) = says_line 1 (codes "INVALID")
 end_answer p (ends_with (run.saturated log x) stands) = unknown_answer (codes "saturated")
 end_answer p (ends_with run.too_long stands) = unknown_answer (codes "branch")
 end_answer p (out_of_steps stands) = unknown_answer (codes "steps")
 end_answer p (overflows numbers stands) = unknown_answer (codes "overflow")
 
-found_some : (p : Problem) (x : Proof) (vs : List ℤ) (names : List (List ℕ)) → names ≢ [] → valid_answer p (dnf_text p (given x)) vs ≡ found_answer p names x vs
-found_some p x vs [] some = absurd (some refl)
-found_some p x vs (name ∷ names) some = refl
+found_some : (p : Problem) (x : Proof) (vs : List ℤ) (left : Funds) (names : List (List ℕ)) → names ≢ [] → valid_answer p (dnf_text p (given x)) vs ≡ found_answer p names x vs left
+found_some p x vs left [] some = absurd (some refl)
+found_some p x vs left (name ∷ names) some = refl
 
 -- an answer is that of the end
 pub by_end : (p : Problem) (end : Ending run.Answer) (a : Answer) → AnswersEnd p end a → a ≡ end_answer p end
-by_end p end a (closed vs x stands is none e) = e ∙ sym (ap (end_answer p) is ∙ ap (λ names. found_answer p names x vs) none)
+by_end p end a (closed vs x stands text is none told e) =
+    e ∙ ap closed_answer (told.whole ∙ ap concat (lines_are p p.cuts stands.funds told.lines told.are))
+    ∙ sym (ap (end_answer p) is ∙ ap (λ names. found_answer p names x vs stands.funds) none)
 by_end p end a (valid vs x stands text is some printed e) =
-    e ∙ ap (λ t. valid_answer p t vs) printed.text ∙ found_some p x vs p.existentials some ∙ sym (ap (end_answer p) is)
+    e ∙ ap (λ t. valid_answer p t vs) printed.text ∙ found_some p x vs stands.funds p.existentials some ∙ sym (ap (end_answer p) is)
 by_end p end a (invalid log x stands is e) = e ∙ sym (ap (end_answer p) is)
 by_end p end a (saturated log x stands is e) = e ∙ sym (ap (end_answer p) is)
 by_end p end a (branch stands is e) = e ∙ sym (ap (end_answer p) is)
@@ -60,7 +64,8 @@ valid_answer_same p q text vs same =
     ap (λ names. record { status = 0; text = line (codes "VALID") ++ (constraint_line text ++ line (codes "solution: " ++ listed_text (value_texts names vs))) }) same.existentials
 
 same_end : (p q : Problem) (end : Ending run.Answer) (a : Answer) → AreSame p q → AnswersEnd p end a → AnswersEnd q end a
-same_end p q end a same (closed vs x stands is none e) = closed vs x stands is (sym same.existentials ∙ none) e
+same_end p q end a same (closed vs x stands text is none told e) =
+    closed vs x stands text is (sym same.existentials ∙ none) (record { lines = told.lines; are = same_list p q same stands.funds told.lines told.are; whole = told.whole }) e
 same_end p q end a same (valid vs x stands text is some printed e) =
     valid vs x stands text is (λ none. some (same.existentials ∙ none)) (text_same p q (given x) text same printed) (e ∙ valid_answer_same p q text vs same)
 same_end p q end a same (invalid log x stands is e) = invalid log x stands is e
@@ -90,7 +95,7 @@ run_answered budget bytes a p solved poses =
 -- ---- its status
 
 end_status : (p : Problem) (end : Ending run.Answer) (a : Answer) → AnswersEnd p end a → IsAnswerStatus a.status
-end_status p end a (closed vs x stands is none e) = subst (λ b. IsAnswerStatus b.status) (sym e) refl
+end_status p end a (closed vs x stands text is none told e) = subst (λ b. IsAnswerStatus b.status) (sym e) refl
 end_status p end a (valid vs x stands text is some printed e) = subst (λ b. IsAnswerStatus b.status) (sym e) refl
 end_status p end a (invalid log x stands is e) = subst (λ b. IsAnswerStatus b.status) (sym e) refl
 end_status p end a (saturated log x stands is e) = subst (λ b. IsAnswerStatus b.status) (sym e) refl

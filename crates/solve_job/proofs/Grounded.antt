@@ -1,5 +1,5 @@
 -- The encoding of a formula of numbers is one.
-use Rattle.std.proofs.Common.{◌≡◌, ◌≤◌, ◌+◌, ◌*◌, ℕ, zero, suc, ℤ, pos, negsuc, Bool, true, false, not, cond, List, [], ◌∷◌, ◌++◌, length, subst, sym, ap, ◌∙◌, arith}
+use Rattle.std.proofs.Common.{◌≡◌, ℕ, zero, suc, pos, negsuc, Bool, true, false, not, List, [], length, subst, arith}
 use Rattle.std.specs.Bool.{beq}
 use Rattle.linear_term.specs.Linear as linear
 use Rattle.linear_term.specs.Linear.{Linear}
@@ -7,24 +7,19 @@ use Rattle.typed_formula.specs.declared.typed.Relation.{Relation}
 use Rattle.typed_formula.specs.declared.typed.Relation.TheVariants.{Eq, Neq, Lt, Leq, Gt, Geq}
 use Rattle.typed_formula.specs.Formula.{Formula, Formulas, Expression, Expressions, formula, constant, compares, applies, negation, every, some, implies, iff, for_all, for_some, part, no_formula, and_formula, number, name, call, minus, total, product, choice, absolute, lesser, greater, no_expression, and_expression}
 use Rattle.purse.specs.Trace.{Traced, just, step, next, combining, at}
-use Rattle.formula.specs.Form.{Form, Forms, IsFormOver, forms, no_form}
-use Rattle.formula.specs.Sizes.{size}
+use Rattle.formula.specs.Form.{Form, Forms, IsFormOver, no_form}
 use Rattle.pri_typing.specs.declared.problem.Problem.{Problem}
 use Rattle.pri_typing.specs.Everywhere.{Property, Everywhere, AllEverywhere, TermEverywhere, TermsEverywhere}
 use Rattle.pri_typing.specs.Problems.{IsNoCall}
 use Rattle.pri_typing.specs.WellFormed.{is_numeric}
-use Rattle.encoding.specs.Encoding.{named, multiple, related, signed_relation, product_of, junction, cases, encoded, all_encoded, with_value, with_values, with_sum, with_more}
+use Rattle.encoding.specs.Encoding.{named, multiple, related, signed_relation, product_of, junction, cases, encoded, all_encoded, with_value, with_sum, with_more}
 use Rattle.encoding.specs.Problems.{constants, problem_root}
-use Rattle.encoding.specs.Root.{names_from, for_last, root}
+use Rattle.encoding.specs.Root.{names_from, for_last}
 use Rattle.encoding.proofs.Problems.{root_over}
-use Rattle.problem_file.specs.Answers.{Poses}
-use Rattle.problem_file.specs.Encoded.{Fits}
 use Rattle.search.specs.Closed.{IsClosed, AreClosed}
 use Rattle.search.specs.Run.{canonical_run, ending, out_of_steps}
 use Rattle.search.proofs.Closed.{closed_enough}
-use Rattle.solve_job.specs.Causes.{IsOutOfSteps}
 use Rattle.solve_job.specs.Ground.{IsGround, IsEnough, IsPlain}
-use Rattle.solve_job.specs.Solved.{run_end}
 
 plain : Property
 plain = record { of_formula = IsPlain; of_term = IsNoCall }

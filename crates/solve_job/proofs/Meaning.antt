@@ -1,5 +1,5 @@
 -- What the answers of `solve` mean.
-use Rattle.std.proofs.Common.{◌≡◌, ◌≢◌, ℕ, zero, suc, ◌+◌, ℤ, true, List, [], ◌∷◌, ◌++◌, length, refl, sym, ◌∙◌, ap, subst, append_assoc, append-nil, length-append, arith}
+use Rattle.std.proofs.Common.{◌≡◌, ◌≢◌, ℕ, zero, suc, ◌+◌, ℤ, true, List, [], ◌∷◌, ◌++◌, length, refl, sym, ◌∙◌, ap, subst, append_assoc, append-nil, length-append, codes, arith}
 use Rattle.typed_formula.specs.Formula.{formula}
 use Rattle.typed_formula.specs.Truth.{Meaning}
 use Rattle.typed_formula.specs.declared.world.Table.{Table}
@@ -20,13 +20,16 @@ use Rattle.pri_typing.specs.declared.problem.Problem.{Problem}
 use Rattle.pri_typing.specs.Problems.{Holds, IsRefuted, meaning_of}
 use Rattle.pri_typing.specs.WellFormed.{IsWellFormed}
 use Rattle.pri_printer.specs.Printed.{dnf_formula}
-use Rattle.answers.specs.Answer.{Answer}
+use Rattle.answers.specs.Answer.{Answer, line}
 use Rattle.constraint_text.specs.Constraint.{IsTextOf}
 use Rattle.constraint_text.proofs.Printed.{speaks, true_where}
-use Rattle.problem_file.specs.Reads.{Reads}
-use Rattle.problem_file.specs.Answers.{refused, unsupported, posed}
+use Rattle.problem_file.specs.Answers.{Poses, refused, unsupported, posed}
+use Rattle.problem_file.specs.Special.{HasPlainCuts}
 use Rattle.problem_file.specs.Encoded.{large, leaves, runs}
 use Rattle.problem_file.proofs.Bytes.{reads_formed}
+use Rattle.problem_file.proofs.Supported.{poses_plain}
+use Rattle.interpolant_lines.proofs.Meaning.{blocks_mean}
+use Rattle.pri_typing.specs.declared.problem.Cut.{Cut}
 use Rattle.problem_file.proofs.Reduced.{problem_reduced, body_reduced}
 use Rattle.solve_job.specs.Solved.{AnswersEnd, closed, valid, invalid, saturated, branch, steps, overflow, run_end, IsSolved}
 use Rattle.solve_job.specs.Headline as headline_words
@@ -109,31 +112,47 @@ lost_refuted p formed lost = λ e many.
 silent : (w : Meaning) (bytes : List ℕ) (a : Answer) (s : ℕ) → a.status ≡ s → s ≢ 0 → s ≢ 1 → Headline w bytes a
 silent w bytes a s e not_zero not_one = record { valid = λ z. absurd (not_zero (sym e ∙ z)); invalid = λ z. absurd (not_one (sym e ∙ z)) }
 
-end_means : (w : Meaning) (budget : ℕ) (bytes : List ℕ) (p : Problem) (a : Answer) → Reads bytes p → AnswersEnd p (run_end budget p) a → Headline w bytes a
-end_means w budget bytes p a reads (closed vs x stands is none e) = record {
-  valid = λ z. record { problem = p; reads = reads; valid = headline_words.closed none (ap (λ b. b.text) e) (found_closed w p x vs (reads_formed bytes p reads) (tells budget p _ stands is) none) };
-  invalid = λ z. let bad = sym z ∙ ap (λ b. b.status) e in absurd cc;
-}
-end_means w budget bytes p a reads (valid vs x stands text is some printed e) = record {
+-- a problem with existential constants has no blocks
+no_blocks : (p : Problem) → HasPlainCuts p → p.existentials ≢ [] → p.cuts ≡ []
+no_blocks p plain some = by p.cuts refl
+  where
+    by : (cuts : List Cut) → p.cuts ≡ cuts → p.cuts ≡ []
+    by [] is = is
+    by (b ∷ bs) is = absurd (some (plain.alone (let many = ap length is in omega (arith, many))))
+
+end_means : (w : Meaning) (budget : ℕ) (bytes : List ℕ) (p : Problem) (a : Answer) → Poses bytes p → AnswersEnd p (run_end budget p) a → Headline w bytes a
+end_means w budget bytes p a poses (closed vs x stands text is none told e) =
+    let formed = reads_formed bytes p poses.reads in
+    let holds = found_closed w p x vs formed (tells budget p _ stands is) none in
+    record {
+      valid = λ z. record {
+        problem = p;
+        reads = poses.reads;
+        valid = headline_words.closed told.lines none (ap (λ b. b.text) e ∙ ap (λ t. line (codes "VALID") ++ t) told.whole) holds
+            (blocks_mean w p stands.funds told.lines formed (poses_plain bytes p poses) holds told.are);
+      };
+      invalid = λ z. let bad = sym z ∙ ap (λ b. b.status) e in absurd cc;
+    }
+end_means w budget bytes p a poses (valid vs x stands text is some printed e) = record {
   valid = λ z. record {
     problem = p;
-    reads = reads;
-    valid = headline_words.constrained text vs some (ap (λ b. b.text) e) (found_constrains w p x vs text (reads_formed bytes p reads) (tells budget p _ stands is) printed);
+    reads = poses.reads;
+    valid = headline_words.constrained text vs some (no_blocks p (poses_plain bytes p poses) some) (ap (λ b. b.text) e) (found_constrains w p x vs text (reads_formed bytes p poses.reads) (tells budget p _ stands is) printed);
   };
   invalid = λ z. let bad = sym z ∙ ap (λ b. b.status) e in absurd cc;
 }
-end_means w budget bytes p a reads (invalid log x stands is e) = record {
+end_means w budget bytes p a poses (invalid log x stands is e) = record {
   valid = λ z. let bad = sym z ∙ ap (λ b. b.status) e in absurd cc;
-  invalid = λ z. record { problem = p; reads = reads; refuted = lost_refuted p (reads_formed bytes p reads) (tells budget p _ stands is) };
+  invalid = λ z. record { problem = p; reads = poses.reads; refuted = lost_refuted p (reads_formed bytes p poses.reads) (tells budget p _ stands is) };
 }
-end_means w budget bytes p a reads (saturated log x stands is e) = silent w bytes a 2 (ap (λ b. b.status) e) (λ z. cc) (λ z. cc)
-end_means w budget bytes p a reads (branch stands is e) = silent w bytes a 2 (ap (λ b. b.status) e) (λ z. cc) (λ z. cc)
-end_means w budget bytes p a reads (steps stands is e) = silent w bytes a 2 (ap (λ b. b.status) e) (λ z. cc) (λ z. cc)
-end_means w budget bytes p a reads (overflow numbers stands is e) = silent w bytes a 2 (ap (λ b. b.status) e) (λ z. cc) (λ z. cc)
+end_means w budget bytes p a poses (saturated log x stands is e) = silent w bytes a 2 (ap (λ b. b.status) e) (λ z. cc) (λ z. cc)
+end_means w budget bytes p a poses (branch stands is e) = silent w bytes a 2 (ap (λ b. b.status) e) (λ z. cc) (λ z. cc)
+end_means w budget bytes p a poses (steps stands is e) = silent w bytes a 2 (ap (λ b. b.status) e) (λ z. cc) (λ z. cc)
+end_means w budget bytes p a poses (overflow numbers stands is e) = silent w bytes a 2 (ap (λ b. b.status) e) (λ z. cc) (λ z. cc)
 
 pub headline : (w : Meaning) (budget : ℕ) (bytes : List ℕ) (a : Answer) → IsSolved budget bytes a → Headline w bytes a
 headline w budget bytes a (refused r h e) = silent w bytes a 3 (ap (λ b. b.status) e) (λ z. cc) (λ z. cc)
 headline w budget bytes a (unsupported at h e) = silent w bytes a 3 (ap (λ b. b.status) e) (λ z. cc) (λ z. cc)
 headline w budget bytes a (posed p h (large l e)) = silent w bytes a 3 (ap (λ b. b.status) e) (λ z. cc) (λ z. cc)
 headline w budget bytes a (posed p h (leaves l e)) = silent w bytes a 2 (ap (λ b. b.status) e) (λ z. cc) (λ z. cc)
-headline w budget bytes a (posed p h (runs f k)) = end_means w budget bytes p a h.reads k
+headline w budget bytes a (posed p h (runs f k)) = end_means w budget bytes p a h k

@@ -1,8 +1,8 @@
 -- What the outcome of a search is for the problem, and what is told of it.
-use Rattle.std.proofs.Common.{◌≡◌, ℕ, ◌≤◌, [], Bool, true, false, ◌||◌, nat_lt, length, Result, Ok, Err, IfOk, refl, sym, ◌∙◌, ap, subst, arith}
+use Rattle.std.proofs.Common.{◌≡◌, ℕ, ◌≤◌, ◌<◌, [], Bool, true, false, ◌||◌, nat_lt, length, Result, Ok, Err, IfOk, refl, sym, ◌∙◌, ap, subst, arith}
 use Rattle.std.proofs.lemmas.Grind.{common_steps}
 use Rattle.linear_term.specs.declared.range.Memory.{Memory}
-use Rattle.purse.specs.Trace.{Funds, at}
+use Rattle.purse.specs.Trace.{Funds, At, at, End, done, refused, out_of_range, cut, stand}
 use Rattle.formula.specs.Form.{Form}
 use Rattle.formula.specs.Sizes.{size, depth}
 use Rattle.formula.specs.Tree.{form}
@@ -12,7 +12,7 @@ use Rattle.search.specs.declared.judge.Outcome.{Outcome}
 use Rattle.search.specs.declared.judge.Outcome.TheVariants.{Valid, Invalid, Unknown}
 use Rattle.search.specs.Outcomes.{EndsAs}
 use Rattle.search.specs.Run as run
-use Rattle.search.specs.Run.{Ending, ending, canonical_run}
+use Rattle.search.specs.Run.{Ending, ended, ending, ends_with, out_of_steps, overflows, canonical_run}
 use Rattle.encoding.specs.Problems.{is_large, problem_root}
 use Rattle.function_encoding.specs.declared.answer.Encoded.{Encoded}
 use Rattle.pri_typing.specs.declared.problem.Problem.{Problem}
@@ -20,6 +20,7 @@ use Rattle.answers.specs.Answer.{Answer, answer_of}
 use Rattle.answers.specs.declared.output.Output.{Output}
 use Rattle.constraint_text.specs.Constraint.{IsTextOf}
 use Rattle.problem_file.specs.Encoded.{IsEncoded}
+use Rattle.interpolant_lines.proofs.Budgets.{cut_budget}
 use Rattle.solve_job.specs.Solved.{closed, valid, invalid, saturated, branch, steps, overflow, run_end, AnswersRun}
 use Rattle.solve_job.specs.Told.{IsFitting, alone, lines, TellsOutcome}
 use Rattle.solve_job.proofs.Meaning.{tells}
@@ -56,9 +57,9 @@ fitting budget p e h (Valid d vs t) new k =
 fitting budget p e h (Invalid d t) new k = tt
 fitting budget p e h (Unknown y r) new k = tt
 
-told : (budget : ℕ) (p : Problem) (e : Encoded) → IsEncoded p e → (o : Outcome) (new : Funds) (a : Answer) → EndsAs (form e.root) e.constants (start budget) (Ok o) new → TellsOutcome p o a
+told : (budget : ℕ) (p : Problem) (e : Encoded) → IsEncoded p e → (o : Outcome) (new : Funds) (a : Answer) → EndsAs (form e.root) e.constants (start budget) (Ok o) new → TellsOutcome p new o a
     → AnswersRun budget p a
-told budget p e h (Valid d vs t) new a k (alone none is) = closed vs k.1 (at new k.0) (sym (run_is budget p e h) ∙ k.2) none is
+told budget p e h (Valid d vs t) new a k (alone none ls) = closed vs k.1 (at new k.0) ls.0 (sym (run_is budget p e h) ∙ k.2) none ls.1 ls.2
 told budget p e h (Valid d vs t) new a k (lines text some ls is) =
     valid vs k.1 (at new k.0) ls.0 (sym (run_is budget p e h) ∙ k.2) some (subst (λ d. IsTextOf p d ls.0) k.3 ls.1) (is ∙ ap (λ x. record { status = 0; text = x }) ls.2)
 told budget p e h (Invalid d t) new a k is = invalid (k.1).entries k.2 (at new k.0) (sym (run_is budget p e h) ∙ k.3) is
@@ -69,6 +70,34 @@ told budget p e h (Unknown (why.Overflow place) r) new a k is = overflow k.1 (at
 
 -- what is told of the outcome is the answer to the problem
 pub told_so : (budget : ℕ) (p : Problem) (e : Encoded) → IsEncoded p e → (o : Outcome) (new : Funds) → EndsAs (form e.root) e.constants (start budget) (Ok o) new → (r : Result Output Memory)
-    → IfOk r (λ out. TellsOutcome p o (answer_of out)) → IfOk r (λ out. AnswersRun budget p (answer_of out))
+    → IfOk r (λ out. TellsOutcome p new o (answer_of out)) → IfOk r (λ out. AnswersRun budget p (answer_of out))
 told_so budget p e h o new k (Ok out) is = told budget p e h o new (answer_of out) k is
 told_so budget p e h o new k (Err m) is = tt
+
+-- ---- the budget behind a run
+
+-- where a run stands at its end
+abbrev last : Ending run.Answer → At
+last (ends_with a s) = s
+last (out_of_steps s) = s
+last (overflows numbers s) = s
+
+last_is : (a : run.Answer) (e : End) → last (ended a e) ≡ stand e
+last_is a (done s) = refl
+last_is a (refused s) = refl
+last_is a (out_of_range numbers s) = refl
+
+end_below : (f : Form) (k budget n : ℕ) (e : Ending run.Answer) → ending (canonical_run f k budget) (at (start budget) []) ≡ e → budget < n → (last e).funds.budget < n
+end_below f k budget n e is lt =
+    let work = canonical_run f k budget in
+    let same : (last e).funds.budget ≡ budget =
+    ap (λ x. (last x).funds.budget) (sym is) ∙ ap (λ (s : At). s.funds.budget) (last_is work.value (cut work.events (at (start budget) []))) ∙ cut_budget work.events (at (start budget) []) in
+    subst (λ m. m < n) (sym same) lt
+
+pub run_below : (f : Form) (k budget n : ℕ) (o : Outcome) (new : Funds) → EndsAs f k (start budget) (Ok o) new → budget < n → new.budget < n
+run_below f k budget n (Valid d vs t) new h lt = end_below f k budget n _ h.2 lt
+run_below f k budget n (Invalid d t) new h lt = end_below f k budget n _ h.3 lt
+run_below f k budget n (Unknown why.Saturated r) new h lt = end_below f k budget n _ h.3 lt
+run_below f k budget n (Unknown why.Branch r) new h lt = end_below f k budget n _ h.1 lt
+run_below f k budget n (Unknown why.Steps r) new h lt = end_below f k budget n _ h.1 lt
+run_below f k budget n (Unknown (why.Overflow place) r) new h lt = end_below f k budget n _ h.2 lt

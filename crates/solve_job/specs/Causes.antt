@@ -1,18 +1,20 @@
 -- Where each answer of `solve` comes.
-use Rattle.std.specs.Prelude.{◌≡◌, ◌↔◌, ◌⊎◌, ℕ, ℤ, List, codes}
+use Rattle.std.specs.Prelude.{◌≡◌, ◌↔◌, ◌⊎◌, ℕ, ℤ, List, [], ◌++◌, codes}
+use Rattle.std.specs.List.{concat}
 use Rattle.linear_term.specs.declared.range.Place.{Place}
 use Rattle.purse.specs.declared.log.Entry.{Entry}
-use Rattle.purse.specs.Trace.{At}
+use Rattle.purse.specs.Trace.{Funds, At}
 use Rattle.proof_tree.specs.Proof.{Proof}
 use Rattle.search.specs.Run as run
 use Rattle.search.specs.Run.{Ending, ends_with, out_of_steps, overflows}
 use Rattle.pri_typing.specs.declared.problem.Problem.{Problem}
 use Rattle.pri_typing.specs.Problems.{IsPure}
-use Rattle.answers.specs.Answer.{Answer, placed, refused_answer, unknown_answer}
+use Rattle.answers.specs.Answer.{Answer, line, placed, refused_answer, unknown_answer}
 use Rattle.problem_file.specs.Reads.{Refusal, FirstRefusal}
 use Rattle.problem_file.specs.Refusals.{refusal_name}
 use Rattle.problem_file.specs.Answers.{Poses, PosesOne, PosesUnsupported}
 use Rattle.problem_file.specs.Encoded.{Fits, IsLarge, LeavesRange}
+use Rattle.interpolant_lines.specs.Causes.{AreBlocksCaused}
 use Rattle.solve_job.specs.Solved.{run_end}
 
 -- the ends of a run
@@ -44,7 +46,14 @@ pub data IsRefused (bytes : List ℕ) : Type 0 where
   special : (at : ℕ) → PosesUnsupported bytes at → IsRefused bytes
   too_large : PosesOne bytes IsLarge → IsRefused bytes
 
--- each answer comes exactly where its row says, and a refusal with the name and the place
+-- the text is that of a valid problem with a line for each of its blocks, each exactly where its row says
+pub record TellsBlocks (p : Problem) (left : Funds) (text : List ℕ) : Type 0 where
+  pub lines : List (List ℕ)
+  pub whole : text ≡ line (codes "VALID") ++ concat lines
+  pub caused : AreBlocksCaused p left lines
+
+-- each answer comes exactly where its row says, and a refusal with the name and the place; and so does each line of a block, on
+-- the purse as the run and the blocks before left it
 pub record Causes (budget : ℕ) (bytes : List ℕ) (answer : Answer) : Type 0 where
   pub valid : (answer.status ≡ 0) ↔ Ends budget bytes IsValid
   pub invalid : (answer.status ≡ 1) ↔ Ends budget bytes IsInvalid
@@ -56,6 +65,8 @@ pub record Causes (budget : ℕ) (bytes : List ℕ) (answer : Answer) : Type 0 w
   pub refused : (r : Refusal) → FirstRefusal bytes r → answer ≡ refused_answer (refusal_name r)
   pub unsupported : (at : ℕ) → PosesUnsupported bytes at → answer ≡ refused_answer (placed (codes "Unsupported") at)
   pub large : PosesOne bytes IsLarge → answer ≡ refused_answer (codes "Large")
+  pub blocks : (p : Problem) (vs : List ℤ) (x : Proof) (stands : At) → Poses bytes p → Fits p → p.existentials ≡ [] → run_end budget p ≡ ends_with (run.valid vs x) stands
+      → TellsBlocks p stands.funds answer.text
 
 -- a problem without predicates and functions whose encoding fits is decided, unless the budget ends or a number leaves the range
 abbrev pub Decides : ℕ → List ℕ → Answer → Type 0

@@ -1,11 +1,13 @@
 -- What the answers of `solve` mean.
-use Rattle.std.specs.Prelude.{◌≡◌, ◌≢◌, ℕ, ℤ, List, [], codes}
+use Rattle.std.specs.Prelude.{◌≡◌, ◌≢◌, ℕ, ℤ, List, [], ◌++◌, codes}
+use Rattle.std.specs.List.{concat}
 use Rattle.typed_formula.specs.Formula.{Formula}
 use Rattle.typed_formula.specs.Truth.{Meaning}
 use Rattle.pri_typing.specs.declared.problem.Problem.{Problem}
 use Rattle.pri_typing.specs.Problems.{Holds, IsPure, IsRefuted, IsTrueAt, Says, SpeaksOfExistentials}
 use Rattle.answers.specs.Answer.{Answer, line}
 use Rattle.problem_file.specs.Reads.{Reads}
+use Rattle.interpolant_lines.specs.Meaning.{AreInterpolantLines}
 use Rattle.solve_job.specs.Solved.{valid_answer}
 
 -- the printed constraint x and values vs of a problem: at each value of the existential constants satisfying the constraint the
@@ -18,10 +20,11 @@ pub record Constrains (w : Meaning) (p : Problem) (x : List ℕ) (vs : List ℤ)
   pub solved : IsTrueAt w p constraint vs
   pub exact : IsPure p → (e : List ℤ) → Holds w p e → IsTrueAt w p constraint e
 
--- the text says that the problem is valid: without existential constants it holds, and else a constraint and values are printed
+-- the text says that the problem is valid: without existential constants it holds, and there is a line for each `\interpolant`
+-- block; else a constraint and values are printed, and there is no block
 pub data IsValidText (w : Meaning) (p : Problem) (text : List ℕ) : Type 0 where
-  closed : p.existentials ≡ [] → text ≡ line (codes "VALID") → Holds w p [] → IsValidText w p text
-  constrained : (x : List ℕ) (vs : List ℤ) → p.existentials ≢ [] → text ≡ (valid_answer p x vs).text → Constrains w p x vs → IsValidText w p text
+  closed : (lines : List (List ℕ)) → p.existentials ≡ [] → text ≡ line (codes "VALID") ++ concat lines → Holds w p [] → AreInterpolantLines w p p.cuts lines → IsValidText w p text
+  constrained : (x : List ℕ) (vs : List ℤ) → p.existentials ≢ [] → p.cuts ≡ [] → text ≡ (valid_answer p x vs).text → Constrains w p x vs → IsValidText w p text
 
 -- the bytes read as a problem of which the text says that it is valid
 pub record Validates (w : Meaning) (bytes : List ℕ) (text : List ℕ) : Type 0 where

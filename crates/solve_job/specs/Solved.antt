@@ -11,6 +11,7 @@ use Rattle.pri_printer.specs.Printed.{solution_text}
 use Rattle.encoding.specs.Problems.{problem_root}
 use Rattle.answers.specs.Answer.{Answer, line, says_line, unknown_answer}
 use Rattle.constraint_text.specs.Constraint.{IsTextOf, constraint_line}
+use Rattle.interpolant_lines.specs.Blocks.{IsBlocksText}
 use Rattle.problem_file.specs.Answers.{AnswersFile}
 use Rattle.problem_file.specs.Encoded.{AnswersEncoded}
 
@@ -22,9 +23,14 @@ solution_line p vs = line (codes "solution: " ++ solution_text p vs)
 abbrev pub valid_answer : Problem → List ℕ → List ℤ → Answer
 valid_answer p x vs = record { status = 0; text = line (codes "VALID") ++ (constraint_line x ++ solution_line p vs) }
 
--- the answer to a problem whose run ends so
+-- the answer that a problem without existential constants is valid, with the lines of its `\interpolant` blocks
+abbrev pub closed_answer : List ℕ → Answer
+closed_answer lines = record { status = 0; text = line (codes "VALID") ++ lines }
+
+-- the answer to a problem whose run ends so; the blocks have the purse as the run left it
 pub data AnswersEnd (p : Problem) (end : Ending run.Answer) (answer : Answer) : Type 0 where
-  closed : (vs : List ℤ) (x : Proof) (stands : At) → end ≡ ends_with (run.valid vs x) stands → p.existentials ≡ [] → answer ≡ says_line 0 (codes "VALID") → AnswersEnd p end answer
+  closed : (vs : List ℤ) (x : Proof) (stands : At) (lines : List ℕ) → end ≡ ends_with (run.valid vs x) stands → p.existentials ≡ [] → IsBlocksText p stands.funds lines
+      → answer ≡ closed_answer lines → AnswersEnd p end answer
   valid : (vs : List ℤ) (x : Proof) (stands : At) (text : List ℕ) → end ≡ ends_with (run.valid vs x) stands → p.existentials ≢ [] → IsTextOf p (given x) text
       → answer ≡ valid_answer p text vs → AnswersEnd p end answer
   invalid : (log : List Entry) (x : Proof) (stands : At) → end ≡ ends_with (run.invalid log x) stands → answer ≡ says_line 1 (codes "INVALID") → AnswersEnd p end answer

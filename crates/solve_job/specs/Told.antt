@@ -9,7 +9,9 @@ use Rattle.search.specs.declared.judge.Outcome.TheVariants.{Valid, Invalid, Unkn
 use Rattle.pri_typing.specs.declared.problem.Problem.{Problem}
 use Rattle.answers.specs.Answer.{Answer, says_line, unknown_answer}
 use Rattle.constraint_text.specs.Constraint.{IsTextOf}
-use Rattle.solve_job.specs.Solved.{valid_answer}
+use Rattle.interpolant_lines.specs.Blocks.{IsBlocksText}
+use Rattle.purse.specs.Trace.{Funds}
+use Rattle.solve_job.specs.Solved.{closed_answer, valid_answer}
 
 -- a constraint that was found is over the existential constants, and there is a value for each of them
 abbrev pub IsFitting : Problem → Outcome → Type 0
@@ -17,14 +19,19 @@ IsFitting p (Valid d vs t) = AreOver (length p.existentials) d × (length vs ≡
 IsFitting p (Invalid d t) = Unit {0}
 IsFitting p (Unknown y r) = Unit {0}
 
+-- the answer says that a problem without existential constants is valid, with the lines of its blocks on a purse that the run left
+-- so
+abbrev pub AreClosedLines : Problem → Funds → Answer → Type 0
+AreClosedLines p left answer = (blocks : List ℕ) × IsBlocksText p left blocks × (answer ≡ closed_answer blocks)
+
 -- the lines that say that a problem with existential constants is valid, with the constraint d and the values vs
 abbrev pub AreValidLines : Problem → List (List Literal) → List ℤ → List ℕ → Type 0
 AreValidLines p d vs text = (x : List ℕ) × IsTextOf p d x × (text ≡ (valid_answer p x vs).text)
 
 -- the answer says that the problem is valid
-pub data IsValidTold (p : Problem) (d : List (List Literal)) (vs : List ℤ) (answer : Answer) : Type 0 where
-  alone : p.existentials ≡ [] → answer ≡ says_line 0 (codes "VALID") → IsValidTold p d vs answer
-  lines : (text : List ℕ) → p.existentials ≢ [] → AreValidLines p d vs text → answer ≡ record { status = 0; text = text } → IsValidTold p d vs answer
+pub data IsValidTold (p : Problem) (left : Funds) (d : List (List Literal)) (vs : List ℤ) (answer : Answer) : Type 0 where
+  alone : p.existentials ≡ [] → AreClosedLines p left answer → IsValidTold p left d vs answer
+  lines : (text : List ℕ) → p.existentials ≢ [] → AreValidLines p d vs text → answer ≡ record { status = 0; text = text } → IsValidTold p left d vs answer
 
 -- what a search without an answer has met
 abbrev pub cause_text : Why → List ℕ
@@ -33,8 +40,8 @@ cause_text (why.Overflow place) = codes "overflow"
 cause_text why.Branch = codes "branch"
 cause_text why.Saturated = codes "saturated"
 
--- the answer tells the outcome
-abbrev pub TellsOutcome : Problem → Outcome → Answer → Type 0
-TellsOutcome p (Valid d vs t) answer = IsValidTold p d vs answer
-TellsOutcome p (Invalid d t) answer = answer ≡ says_line 1 (codes "INVALID")
-TellsOutcome p (Unknown y r) answer = answer ≡ unknown_answer (cause_text y)
+-- the answer tells the outcome of a run that left the purse so
+abbrev pub TellsOutcome : Problem → Funds → Outcome → Answer → Type 0
+TellsOutcome p left (Valid d vs t) answer = IsValidTold p left d vs answer
+TellsOutcome p left (Invalid d t) answer = answer ≡ says_line 1 (codes "INVALID")
+TellsOutcome p left (Unknown y r) answer = answer ≡ unknown_answer (cause_text y)

@@ -3,6 +3,7 @@
 ghost use Rattle.answers.specs.Answer.{answer_of};
 ghost use Rattle.pri_typing.specs.WellFormed.{HasDistinctNames, HasIdentifiers, IsWellFormed};
 ghost use Rattle.problem_file.specs.Encoded.{AnswersEncoded, IsEncoded};
+ghost use Rattle.problem_file.specs.Special.{HasPlainCuts};
 ghost use Rattle.solve_job.specs.Solved.{AnswersRun, IsSolved};
 ghost use Rattle.std.specs.Prelude.{◌<◌, ◌^◌, length, IfOk};
 
@@ -33,6 +34,7 @@ fn problem_answer(alloc: Global, problem: &Problem, budget: u64) -> Result<Outpu
     requires well_formed { IsWellFormed problem.now }
     requires distinct { HasDistinctNames problem.now }
     requires identifiers { HasIdentifiers problem.now }
+    requires cuts { HasPlainCuts problem.now }
     requires budget { budget < 2 ^ 32 }
     ensures { IfOk result (λ output. AnswersEncoded (AnswersRun budget) problem.now (answer_of output)) }
 {
@@ -52,11 +54,12 @@ fn run_answer(
     requires well_formed { IsWellFormed problem.now }
     requires distinct { HasDistinctNames problem.now }
     requires identifiers { HasIdentifiers problem.now }
+    requires cuts { HasPlainCuts problem.now }
     requires encoded { IsEncoded problem.now encoded.now }
     requires budget { budget < 2 ^ 32 }
     ensures { IfOk result (λ output. AnswersRun budget problem.now (answer_of output)) }
 {
     let mut purse = Purse::new(budget);
     let outcome = prove(alloc, &encoded.root, encoded.constants, &mut purse)?;
-    tell(alloc, problem, &outcome)
+    tell(alloc, problem, &outcome, &mut purse)
 }

@@ -3,34 +3,46 @@
 ghost use Rattle.answers.specs.Answer.{answer_of};
 ghost use Rattle.elim_rules.specs.Whole.{AreOver};
 ghost use Rattle.pri_typing.specs.WellFormed.{HasDistinctNames, HasIdentifiers, IsWellFormed};
-ghost use Rattle.solve_job.specs.Told.{AreValidLines, IsFitting, IsValidTold, TellsOutcome, cause_text};
-ghost use Rattle.std.specs.Prelude.{◌≡◌, length, IfOk};
+ghost use Rattle.encoding.specs.Problems.{is_large, problem_root};
+ghost use Rattle.problem_file.specs.Special.{HasPlainCuts};
+ghost use Rattle.solve_job.specs.Told.{AreClosedLines, AreValidLines, IsFitting, IsValidTold, TellsOutcome, cause_text};
+ghost use Rattle.std.specs.Prelude.{◌≡◌, ◌<◌, ◌^◌, false, length, IfOk};
 
 use answers::status::{INVALID, VALID};
 use answers::{Output, say, unknown};
 use clause_set::Dnf;
 use constraint_text::constraint_line;
+use interpolant_lines::interpolant_lines;
 use linear_term::Memory;
 use pri_printer::print_solution;
 use pri_typing::Problem;
 use proof_tree::Why;
+use purse::Purse;
 use search::Outcome;
 use std::alloc::Global;
 
-/// The answer that tells an outcome.
-pub fn tell(alloc: Global, problem: &Problem, outcome: &Outcome) -> Result<Output, Memory>
+/// The answer that tells an outcome of a run which left the purse so; the lines of `\interpolant` blocks have the rest of it.
+pub fn tell(
+    alloc: Global,
+    problem: &Problem,
+    outcome: &Outcome,
+    purse: &mut Purse,
+) -> Result<Output, Memory>
     requires well_formed { IsWellFormed problem.now }
     requires distinct { HasDistinctNames problem.now }
     requires identifiers { HasIdentifiers problem.now }
+    requires cuts { HasPlainCuts problem.now }
+    requires small { is_large (problem_root problem.now).value ≡ false }
     requires fitting { IsFitting problem.now outcome.now }
-    ensures { IfOk result (λ output. TellsOutcome problem.now outcome.now (answer_of output)) }
+    requires budget { purse.old.budget < 2 ^ 32 }
+    ensures { IfOk result (λ output. TellsOutcome problem.now purse.old outcome.now (answer_of output)) }
 {
     match outcome {
         Outcome::Valid {
             constraint,
             solution,
             tree: _,
-        } => { valid(alloc, problem, constraint, solution.as_slice()) }
+        } => { valid(alloc, problem, constraint, solution.as_slice(), purse) }
         Outcome::Invalid {
             constraint: _,
             tree: _,
@@ -57,18 +69,41 @@ fn valid(
     problem: &Problem,
     constraint: &Dnf,
     solution: &[i128],
+    purse: &mut Purse,
 ) -> Result<Output, Memory>
     requires well_formed { IsWellFormed problem.now }
     requires distinct { HasDistinctNames problem.now }
     requires identifiers { HasIdentifiers problem.now }
+    requires cuts { HasPlainCuts problem.now }
+    requires small { is_large (problem_root problem.now).value ≡ false }
     requires over { AreOver (length problem.now.existentials) constraint.now }
     requires values { length solution.now ≡ length problem.now.existentials }
-    ensures { IfOk result (λ output. IsValidTold problem.now constraint.now solution.now (answer_of output)) }
+    requires budget { purse.old.budget < 2 ^ 32 }
+    ensures { IfOk result (λ output. IsValidTold problem.now purse.old constraint.now solution.now (answer_of output)) }
 {
     if problem.existentials.is_empty() {
-        return say(alloc, VALID, b"VALID");
+        return closed(alloc, problem, purse);
     }
     let text = valid_lines(alloc, problem, constraint, solution)?;
+    Ok(Output {
+        status: VALID,
+        text,
+    })
+}
+
+// The answer that a problem without existential constants is valid, with the lines of its `\interpolant` blocks.
+fn closed(alloc: Global, problem: &Problem, purse: &mut Purse) -> Result<Output, Memory>
+    requires well_formed { IsWellFormed problem.now }
+    requires distinct { HasDistinctNames problem.now }
+    requires identifiers { HasIdentifiers problem.now }
+    requires cuts { HasPlainCuts problem.now }
+    requires small { is_large (problem_root problem.now).value ≡ false }
+    requires budget { purse.old.budget < 2 ^ 32 }
+    ensures { IfOk result (λ output. AreClosedLines problem.now purse.old (answer_of output)) }
+{
+    let lines = interpolant_lines(alloc, problem, purse)?;
+    let mut text = Vec::from_slice(alloc, b"VALID\n")?;
+    text.extend_from_slice(lines.as_slice())?;
     Ok(Output {
         status: VALID,
         text,

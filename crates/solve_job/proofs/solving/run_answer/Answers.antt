@@ -1,8 +1,8 @@
-use Rattle.std.proofs.Common.{Ok, sym, subst, arith}
+use Rattle.std.proofs.Common.{◌^◌, Ok, sym, subst, arith}
 use Rattle.formula.specs.Form.{IsFormOver}
 use Rattle.formula.specs.Tree.{form}
 use Rattle.search.specs.Outcomes.{EndsAs}
-use Rattle.solve_job.proofs.Outcomes.{small_size, small_depth, fitting, told_so}
+use Rattle.solve_job.proofs.Outcomes.{small_size, small_depth, fitting, run_below, told_so}
 use Rattle.solve_job.proofs.solving.run_answer.Goals as goal
 
 pub prove-requires-clause-over : goal.prove-requires-clause-over
@@ -20,6 +20,14 @@ prove-requires-clause-constants c = let few = c.requires.well_formed.few in let 
 pub tell-requires-clause-fitting : goal.tell-requires-clause-fitting
 tell-requires-clause-fitting c =
     fitting c.args.budget c.args.problem.now c.args.encoded.now c.requires.encoded c.in_ok-outcome.outcome _ (subst (λ old. EndsAs (form c.args.encoded.now.root) c.args.encoded.now.constants old (Ok c.in_ok-outcome.outcome) c.prove.new.purse) c.new-purse.ensures c.in_ok-outcome.ensures)
+
+pub tell-requires-clause-small : goal.tell-requires-clause-small
+tell-requires-clause-small c = (c.requires.encoded.fits).0
+
+pub tell-requires-clause-budget : goal.tell-requires-clause-budget
+tell-requires-clause-budget c =
+    run_below (form c.args.encoded.now.root) c.args.encoded.now.constants c.args.budget (2 ^ 32) c.in_ok-outcome.outcome _
+    (subst (λ old. EndsAs (form c.args.encoded.now.root) c.args.encoded.now.constants old (Ok c.in_ok-outcome.outcome) c.prove.new.purse) c.new-purse.ensures c.in_ok-outcome.ensures) c.requires.budget
 
 pub returns : goal.returns
 returns c =

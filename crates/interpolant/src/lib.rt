@@ -1,0 +1,13 @@
+// Craig interpolants of parts of a problem without predicates and functions: what the first side assumes, without its
+// quantifiers and without the constants that do not occur in what the second side assumes.
+#![tactic(auto)]
+
+mod fault;
+mod laws;
+mod marks;
+mod parts;
+mod projection;
+
+pub use fault::{Interpolant, InterpolantFault};
+pub use laws::{apart_law, occurrence_law, size_law};
+pub use parts::{between, between_parts};

@@ -1,0 +1,4 @@
+mod Answering
+pub mod Budgets
+pub mod Listing
+pub mod Meaning
