@@ -1,1 +1,1 @@
-mod Drilling
+mod Telling

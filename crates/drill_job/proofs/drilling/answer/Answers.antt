@@ -1,6 +1,6 @@
 use Rattle.std.proofs.Common.{◌∙◌}
 use Rattle.answers.specs.Answer.{answer_of}
-use Rattle.drill_job.proofs.Drilling.{drilled_so}
+use Rattle.drill_job.proofs.Telling.{drilled_so}
 use Rattle.drill_job.proofs.drilling.answer.Goals as goal
 
 pub returns : goal.returns
