@@ -15,12 +15,13 @@ pub fn one_answer_law()
 
 /// At VALID the bytes read as a problem that holds, in whatever interpretation, at each value of the existential constants
 /// that satisfies the printed constraint, as the printed values do, and nowhere else where the problem has neither predicates
-/// nor functions; at INVALID they read as one that is refuted.
+/// nor functions; each printed interpolant stands between the two sides of its block. At INVALID they read as one that is
+/// refuted.
 pub fn headline_law()
     ensures { (w : Meaning) (budget : ℕ) (bytes : List ℕ) (a : Answer) → IsSolved budget bytes a → Headline w bytes a }
 {}
 
-/// Each answer comes exactly where its row of the table of answers says.
+/// Each answer comes exactly where its row of the table of answers says, and so does each line of an `\interpolant` block.
 pub fn causes_law()
     ensures { (budget : ℕ) (bytes : List ℕ) (a : Answer) → IsSolved budget bytes a → Causes budget bytes a }
 {}
