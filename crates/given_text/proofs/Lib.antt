@@ -1,0 +1,11 @@
+pub mod Running
+pub mod Line
+pub mod Said
+pub mod Runner
+pub mod Normals
+pub mod Texts
+pub mod Leads
+pub mod Finish
+pub mod Complete
+pub mod Gives
+pub mod Loop

@@ -1,0 +1,28 @@
+-- What the machine's registers hold where it stands.
+use Rattle.std.proofs.Common.{ℕ, ◌≡◌, ◌<◌, ◌≢◌, refl, arith}
+use Rattle.given_text.specs.declared.machine.Behind.{Behind}
+use Rattle.given_text.specs.declared.machine.Behind.TheVariants as b
+use Rattle.given_text.specs.declared.machine.Draft.{Draft}
+use Rattle.given_text.specs.declared.machine.State.{State}
+use Rattle.given_text.specs.declared.machine.State.TheVariants as s
+use Rattle.given_text.specs.Ranges.{IsOpen, IsInRange, IsStateInRange}
+use Rattle.given_text.proofs.Said.{IsDraft, IsFineBehind, IsFine}
+use Rattle.given_text.proofs.Normals.{over}
+
+open_draft : (g : Draft) → IsDraft g → IsOpen g
+open_draft g f x h = over g.sum g.least x f.least f.pairs h
+
+behind_in_range : (w : Behind) → IsFineBehind w → IsInRange w
+behind_in_range (b.Start g) f = open_draft g f.0
+behind_in_range (b.Sum g) f = open_draft g f.0
+behind_in_range (b.Sign g minus) f = open_draft g f.0
+behind_in_range (b.Number g minus n) f = (open_draft g f.0, f.1)
+behind_in_range (b.Relation d c sum bound) f = tt
+behind_in_range (b.Clause d c) f = tt
+behind_in_range b.False f = tt
+
+pub fine_in_range : (z : State) → IsFine z → IsStateInRange z
+fine_in_range (s.Behind w) f = behind_in_range w f
+fine_in_range (s.Blank w) f = behind_in_range w f.0
+fine_in_range (s.Minus g) f = open_draft g f.0
+fine_in_range (s.Times g minus n) f = (open_draft g f.0, f.1, λ e. let h = f.2 in absurd (omega arith))

@@ -1,0 +1,9 @@
+use Rattle.std.proofs.Common.{length}
+use Rattle.given_text.proofs.Gives.{Stands}
+use Rattle.given_text.proofs.reading.given.Given as goal
+
+abbrev pub invariant-tokens : goal.invariant-tokens
+invariant-tokens l = Stands l.state l.text l.rest
+
+abbrev pub decreases-tokens : goal.decreases-tokens
+decreases-tokens l = length l.rest

@@ -1,0 +1,3 @@
+pub mod Text
+pub mod Machine
+pub mod Ranges

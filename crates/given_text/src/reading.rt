@@ -1,0 +1,36 @@
+// The line `gives`, read.
+
+ghost use Rattle.given_text.specs.Text.{AreClauses, gives_text};
+ghost use Rattle.proof_text.specs.Reading.{Cuts, Refuses};
+ghost use Rattle.std.specs.Prelude.{IfErr, IfOk};
+
+use crate::machine::{Behind, Move, State, opened, step};
+use clause_set::Literal;
+use proof_text::{Refusal, gives_word, next};
+use sqlite_items::Items;
+use std::alloc::Global;
+
+/// The line `gives`: its clauses, and the text behind it.
+pub fn given(alloc: Global, text: &[u8]) -> Result<(Items<Items<Literal>>, &[u8]), Refusal>
+    ensures found { IfOk result (λ x. AreClauses x.0 × Cuts (gives_text x.0) text.now x.1.now) }
+    ensures first { IfErr result (Refuses AreClauses gives_text text.now) }
+{
+    let mut rest = gives_word(text)?;
+    let mut state = State::Behind(Behind::Start(opened(
+        alloc,
+        Items::new(alloc),
+        Items::new(alloc),
+        None,
+    )));
+    'tokens: loop {
+        let Some((token, more)) = next(rest) else {
+            return Err(Refusal::Syntax(0));
+        };
+        match step(alloc, state, token)? {
+            Move::Bad => return Err(Refusal::Syntax(rest.len())),
+            Move::On(then) => state = then,
+            Move::Done(clauses) => return Ok((clauses, more)),
+        }
+        rest = more;
+    }
+}

@@ -1,0 +1,16 @@
+pub mod Runs
+pub mod Numerals
+pub mod Spelled
+pub mod Cutting
+pub mod Refusals
+pub mod EntryLines
+pub mod NumberLines
+pub mod Apart
+pub mod Decimals
+pub mod Respelled
+pub mod Written
+pub mod Behind
+pub mod Spaced
+pub mod ItemLines
+pub mod Integers
+pub mod CountedLines

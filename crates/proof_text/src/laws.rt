@@ -1,0 +1,58 @@
+// What the definition of tokens means for bytes.
+
+ghost use Rattle.proof_text.specs.Lines.{AnyEntries, AreValues, charges_text, head_text, IsCharges, IsFormat, log_text, none_text, solution_text};
+ghost use Rattle.proof_text.specs.Reading.{Cuts, IsRefusedAt};
+ghost use Rattle.proof_text.specs.Spellings.{AreSpaced, IsEntry, IsGood, spelled};
+ghost use Rattle.proof_text.specs.declared.tokens.Token.{Token};
+ghost use Rattle.purse.specs.declared.log.Entry.{Entry};
+ghost use Rattle.std.specs.List.{AllByRecursion};
+ghost use Rattle.std.specs.Prelude.{◌≡◌, ◌<◌, ◌^◌, ◌++◌, List, ℕ, ℤ};
+
+/// Bytes that begin with tokens of texts begin with the spellings of these, one behind another. So a token has one
+/// spelling, and what is read is written in one way.
+pub fn spelling_law()
+    ensures { (xs : List Token) (bytes rest : List ℕ) → AllByRecursion IsGood xs → Cuts xs bytes rest → bytes ≡ spelled xs ++ rest }
+{}
+
+/// A line `log` that bytes begin with is the only one, and it is not refused.
+pub fn log_law()
+    ensures one { (es fs : List Entry) (bytes r s : List ℕ) → Cuts (log_text es) bytes r → Cuts (log_text fs) bytes s → (es ≡ fs) × (r ≡ s) }
+    ensures taken { (es : List Entry) (bytes rest : List ℕ) (left : ℕ) → Cuts (log_text es) bytes rest → IsRefusedAt AnyEntries log_text bytes left → ⊥ }
+{}
+
+/// A line `none` that bytes begin with is the only one, and it is not refused.
+pub fn none_law()
+    ensures one { (es fs : List Entry) (bytes r s : List ℕ) → Cuts (none_text es) bytes r → Cuts (none_text fs) bytes s → (es ≡ fs) × (r ≡ s) }
+    ensures taken { (es : List Entry) (bytes rest : List ℕ) (left : ℕ) → Cuts (none_text es) bytes rest → IsRefusedAt AnyEntries none_text bytes left → ⊥ }
+{}
+
+/// A line `charges` that bytes begin with is the only one, and it is not refused.
+pub fn charges_law()
+    ensures one { (n m : ℕ) (bytes r s : List ℕ) → IsCharges n → IsCharges m → Cuts (charges_text n) bytes r → Cuts (charges_text m) bytes s → (n ≡ m) × (r ≡ s) }
+    ensures taken { (n : ℕ) (bytes rest : List ℕ) (left : ℕ) → IsCharges n → Cuts (charges_text n) bytes rest → IsRefusedAt IsCharges charges_text bytes left → ⊥ }
+{}
+
+/// A first line that bytes begin with is not refused.
+pub fn head_law()
+    ensures taken { (n : ℕ) (bytes rest : List ℕ) (left : ℕ) → IsFormat n → Cuts (head_text n) bytes rest → IsRefusedAt IsFormat head_text bytes left → ⊥ }
+{}
+
+/// A line `solution` that bytes begin with is the only one, and it is not refused.
+pub fn solution_law()
+    ensures one { (us vs : List ℤ) (bytes r s : List ℕ) → AreValues us → AreValues vs → Cuts (solution_text us) bytes r → Cuts (solution_text vs) bytes s → (us ≡ vs) × (r ≡ s) }
+    ensures taken { (vs : List ℤ) (bytes rest : List ℕ) (left : ℕ) → AreValues vs → Cuts (solution_text vs) bytes rest → IsRefusedAt AreValues solution_text bytes left → ⊥ }
+{}
+
+/// Tokens as texts have them, written one behind another, are read as themselves, whatever stands behind them.
+pub fn cutting_law()
+    ensures { (xs : List Token) (rest : List ℕ) → AreSpaced xs → Cuts xs (spelled xs ++ rest) rest }
+{}
+
+/// What is written of a line is read as that line.
+pub fn written_law()
+    ensures head { (n : ℕ) (rest : List ℕ) → n < 2 ^ 127 → Cuts (head_text n) (spelled (head_text n) ++ rest) rest }
+    ensures charges { (n : ℕ) (rest : List ℕ) → n < 2 ^ 127 → Cuts (charges_text n) (spelled (charges_text n) ++ rest) rest }
+    ensures log { (es : List Entry) (rest : List ℕ) → AllByRecursion IsEntry es → Cuts (log_text es) (spelled (log_text es) ++ rest) rest }
+    ensures none { (es : List Entry) (rest : List ℕ) → AllByRecursion IsEntry es → Cuts (none_text es) (spelled (none_text es) ++ rest) rest }
+    ensures solution { (vs : List ℤ) (rest : List ℕ) → AreValues vs → Cuts (solution_text vs) (spelled (solution_text vs) ++ rest) rest }
+{}

@@ -1,0 +1,26 @@
+// The text of a proof: its tokens, and those of its lines that speak of no sequent.
+#![tactic(auto)]
+
+mod laws;
+mod lines;
+mod numbers;
+mod reading;
+mod scanner;
+mod single;
+mod tokens;
+mod words;
+mod writing;
+
+pub use laws::{
+    charges_law, cutting_law, head_law, log_law, none_law, solution_law, spelling_law, written_law,
+};
+pub use lines::{charges, entries, head, log, none};
+pub use numbers::{counted, position, solution, value, values};
+pub use reading::{Refusal, next};
+pub use scanner::{Piece, first_piece};
+pub use single::{
+    blank, charges_word, entry, gives_word, goes_on, line_feed, log_word, none_word,
+    number_between, proof_word, solution_word, value_start,
+};
+pub use tokens::Token;
+pub use writing::{put_number, write_charges, write_head, write_log, write_none};

@@ -1,0 +1,191 @@
+// Single tokens that have to come next, and the text behind them.
+
+ghost use Rattle.proof_text.specs.Lines.{IsNumberIn, IsSeparator, IsStep, IsValueStart, start_size, start_token};
+ghost use Rattle.proof_text.specs.Reading.{Cuts, Lacks};
+ghost use Rattle.proof_text.specs.declared.tokens.Token.TheVariants as t;
+ghost use Rattle.std.specs.Prelude.{◌≡◌, ◌≤◌, ◌<◌, ◌^◌, ◌∷◌, [], cond, length, IfErr, IfOk};
+
+use crate::reading::{Refusal, next};
+use crate::tokens::Token;
+use purse::Entry;
+
+/// The text behind a blank.
+pub fn blank(text: &[u8]) -> Result<&[u8], Refusal>
+    ensures found { IfOk result (λ rest. Cuts (t.Blank ∷ []) text.now rest.now) }
+    ensures lacks { IfErr result (Lacks (λ x. x ≡ t.Blank) text.now) }
+{
+    let Some((token, rest)) = next(text) else {
+        return Err(Refusal::Syntax(0));
+    };
+    match token {
+        Token::Blank => Ok(rest),
+        _ => Err(Refusal::Syntax(text.len())),
+    }
+}
+
+/// The text behind the end of a line.
+pub fn line_feed(text: &[u8]) -> Result<&[u8], Refusal>
+    ensures found { IfOk result (λ rest. Cuts (t.LineFeed ∷ []) text.now rest.now) }
+    ensures lacks { IfErr result (Lacks (λ x. x ≡ t.LineFeed) text.now) }
+{
+    let Some((token, rest)) = next(text) else {
+        return Err(Refusal::Syntax(0));
+    };
+    match token {
+        Token::LineFeed => Ok(rest),
+        _ => Err(Refusal::Syntax(text.len())),
+    }
+}
+
+/// The text behind the word `princess-proof`.
+pub fn proof_word(text: &[u8]) -> Result<&[u8], Refusal>
+    ensures found { IfOk result (λ rest. Cuts (t.PrincessProof ∷ []) text.now rest.now) }
+    ensures lacks { IfErr result (Lacks (λ x. x ≡ t.PrincessProof) text.now) }
+{
+    let Some((token, rest)) = next(text) else {
+        return Err(Refusal::Syntax(0));
+    };
+    match token {
+        Token::PrincessProof => Ok(rest),
+        _ => Err(Refusal::Syntax(text.len())),
+    }
+}
+
+/// The text behind the word `charges`.
+pub fn charges_word(text: &[u8]) -> Result<&[u8], Refusal>
+    ensures found { IfOk result (λ rest. Cuts (t.Charges ∷ []) text.now rest.now) }
+    ensures lacks { IfErr result (Lacks (λ x. x ≡ t.Charges) text.now) }
+{
+    let Some((token, rest)) = next(text) else {
+        return Err(Refusal::Syntax(0));
+    };
+    match token {
+        Token::Charges => Ok(rest),
+        _ => Err(Refusal::Syntax(text.len())),
+    }
+}
+
+/// The text behind the word `log`.
+pub fn log_word(text: &[u8]) -> Result<&[u8], Refusal>
+    ensures found { IfOk result (λ rest. Cuts (t.Log ∷ []) text.now rest.now) }
+    ensures lacks { IfErr result (Lacks (λ x. x ≡ t.Log) text.now) }
+{
+    let Some((token, rest)) = next(text) else {
+        return Err(Refusal::Syntax(0));
+    };
+    match token {
+        Token::Log => Ok(rest),
+        _ => Err(Refusal::Syntax(text.len())),
+    }
+}
+
+/// The text behind the word `none`.
+pub fn none_word(text: &[u8]) -> Result<&[u8], Refusal>
+    ensures found { IfOk result (λ rest. Cuts (t.Nothing ∷ []) text.now rest.now) }
+    ensures lacks { IfErr result (Lacks (λ x. x ≡ t.Nothing) text.now) }
+{
+    let Some((token, rest)) = next(text) else {
+        return Err(Refusal::Syntax(0));
+    };
+    match token {
+        Token::Nothing => Ok(rest),
+        _ => Err(Refusal::Syntax(text.len())),
+    }
+}
+
+/// The text behind the word `gives`.
+pub fn gives_word(text: &[u8]) -> Result<&[u8], Refusal>
+    ensures found { IfOk result (λ rest. Cuts (t.Gives ∷ []) text.now rest.now) }
+    ensures lacks { IfErr result (Lacks (λ x. x ≡ t.Gives) text.now) }
+{
+    let Some((token, rest)) = next(text) else {
+        return Err(Refusal::Syntax(0));
+    };
+    match token {
+        Token::Gives => Ok(rest),
+        _ => Err(Refusal::Syntax(text.len())),
+    }
+}
+
+/// The text behind the word `solution`.
+pub fn solution_word(text: &[u8]) -> Result<&[u8], Refusal>
+    ensures found { IfOk result (λ rest. Cuts (t.Solution ∷ []) text.now rest.now) }
+    ensures lacks { IfErr result (Lacks (λ x. x ≡ t.Solution) text.now) }
+{
+    let Some((token, rest)) = next(text) else {
+        return Err(Refusal::Syntax(0));
+    };
+    match token {
+        Token::Solution => Ok(rest),
+        _ => Err(Refusal::Syntax(text.len())),
+    }
+}
+
+/// A number from `least` to `most`, and the text behind it.
+pub fn number_between(text: &[u8], least: u128, most: u128) -> Result<(u128, &[u8]), Refusal>
+    ensures found { IfOk result (λ x. (least ≤ x.0) × (x.0 ≤ most) × Cuts (t.Number x.0 ∷ []) text.now x.1.now) }
+    ensures shorter { IfOk result (λ x. length x.1.now < length text.now) }
+    ensures lacks { IfErr result (Lacks (IsNumberIn least most) text.now) }
+{
+    let Some((token, rest)) = next(text) else {
+        return Err(Refusal::Syntax(0));
+    };
+    let Token::Number(n) = token else {
+        return Err(Refusal::Syntax(text.len()));
+    };
+    if n < least {
+        return Err(Refusal::Syntax(text.len()));
+    }
+    if n > most {
+        return Err(Refusal::Syntax(text.len()));
+    }
+    Ok((n, rest))
+}
+
+/// An entry of a log, and the text behind it.
+pub fn entry(text: &[u8]) -> Result<(Entry, &[u8]), Refusal>
+    ensures found { IfOk result (λ x. Cuts (t.Step x.0 ∷ []) text.now x.1.now) }
+    ensures shorter { IfOk result (λ x. length x.1.now < length text.now) }
+    ensures lacks { IfErr result (Lacks IsStep text.now) }
+{
+    let Some((token, rest)) = next(text) else {
+        return Err(Refusal::Syntax(0));
+    };
+    let Token::Step(step) = token else {
+        return Err(Refusal::Syntax(text.len()));
+    };
+    Ok((step, rest))
+}
+
+/// Whether a blank comes, with the text behind it; else the end of the line comes.
+pub fn goes_on(text: &[u8]) -> Result<(bool, &[u8]), Refusal>
+    ensures found { IfOk result (λ x. Cuts (cond x.0 t.Blank t.LineFeed ∷ []) text.now x.1.now) }
+    ensures shorter { IfOk result (λ x. length x.1.now < length text.now) }
+    ensures lacks { IfErr result (Lacks IsSeparator text.now) }
+{
+    let Some((token, rest)) = next(text) else {
+        return Err(Refusal::Syntax(0));
+    };
+    match token {
+        Token::Blank => Ok((true, rest)),
+        Token::LineFeed => Ok((false, rest)),
+        _ => Err(Refusal::Syntax(text.len())),
+    }
+}
+
+/// The number that comes next, or none where a `-` does, and the text behind it.
+pub fn value_start(text: &[u8]) -> Result<(Option<u128>, &[u8]), Refusal>
+    ensures found { IfOk result (λ x. Cuts (start_token x.0 ∷ []) text.now x.1.now) }
+    ensures small { IfOk result (λ x. start_size x.0 < 2 ^ 127) }
+    ensures shorter { IfOk result (λ x. length x.1.now < length text.now) }
+    ensures lacks { IfErr result (Lacks IsValueStart text.now) }
+{
+    let Some((token, rest)) = next(text) else {
+        return Err(Refusal::Syntax(0));
+    };
+    match token {
+        Token::Number(n) => Ok((Some(n), rest)),
+        Token::Minus => Ok((None, rest)),
+        _ => Err(Refusal::Syntax(text.len())),
+    }
+}

@@ -1,0 +1,4 @@
+pub mod RowLines
+pub mod LineKinds
+pub mod LinesApart
+pub mod Failing

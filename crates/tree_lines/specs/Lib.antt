@@ -1,0 +1,5 @@
+pub mod Lines
+pub mod Owed
+pub mod Rows
+pub mod Conclusions
+pub mod Faults

@@ -1,0 +1,74 @@
+-- What a text of lines still owes: which lines have to come.
+use Rattle.std.specs.Prelude.{ℕ, zero, suc, ◌≡◌, ◌≤◌, ◌+◌, cond, List, [], ◌∷◌, ◌++◌}
+use Rattle.std.specs.List.{AllByRecursion}
+use Rattle.sequent.specs.declared.member.Pick.{Pick}
+use Rattle.sequent.specs.declared.member.Pick.TheVariants as pick
+use Rattle.proof_tree.specs.declared.node.Conclusion.{Conclusion}
+use Rattle.proof_tree.specs.declared.node.Conclusion.TheVariants.{Solution, Nothing}
+use Rattle.proof_tree.specs.Walk.{eliminates}
+use Rattle.proof_text.specs.Lines.{IsFormat, IsCharges, IsPosition, IsCount, AreValues}
+use Rattle.given_text.specs.Text.{AreClauses}
+use Rattle.tree_lines.specs.declared.lines.TextLine.{TextLine}
+use Rattle.tree_lines.specs.declared.lines.TextLine.TheVariants as w
+use Rattle.tree_lines.specs.declared.lines.Owed.{Owed}
+use Rattle.tree_lines.specs.declared.lines.Owed.TheVariants as o
+
+-- how many premises a rule has in a text
+abbrev pub HasWidth : Pick → ℕ → Type 0
+HasWidth (pick.Trivial i) k = IsPosition i × (k ≡ 0)
+HasWidth (pick.Alpha i) k = IsPosition i × (k ≡ 1)
+HasWidth (pick.Delta i) k = IsPosition i × (k ≡ 1)
+HasWidth (pick.Beta i) k = IsPosition i × IsCount k
+HasWidth (pick.Gamma i) k = IsPosition i × (k ≡ 1)
+HasWidth pick.Close k = k ≡ 0
+
+-- a conclusion that a text can say
+abbrev pub IsConclusion : Conclusion → Type 0
+IsConclusion (Solution vs) = AreValues vs
+IsConclusion (Nothing log) = Unit {0}
+
+-- which line pays for what is owed, where nodes may stand on these levels
+abbrev pub Pays : (ℕ → Type 0) → Owed → TextLine → Type 0
+Pays Level o.Head (w.Head n) = IsFormat n
+Pays Level o.Charges (w.Charges n) = IsCharges n
+Pays Level (o.Node j) (w.Row p k) = Level j × HasWidth p k
+Pays Level o.Log (w.Log log) = Unit {0}
+Pays Level o.Gives (w.Gives d) = AreClauses d
+Pays Level o.End (w.End c) = IsConclusion c
+Pays Level _ _ = ⊥
+
+-- so many nodes on this level
+abbrev pub nodes_owed : ℕ → ℕ → List Owed
+nodes_owed zero j = []
+nodes_owed (suc k) j = o.Node j ∷ nodes_owed k j
+
+-- what a rule owes behind its premises
+abbrev pub last_owed : Pick → List Owed
+last_owed p = cond (eliminates p) (o.Log ∷ o.Gives ∷ []) (o.Gives ∷ [])
+
+-- what is owed besides, behind a line
+abbrev pub owes : Owed → TextLine → List Owed
+owes (o.Node j) (w.Row p k) = nodes_owed k (j + 1) ++ last_owed p
+owes _ _ = []
+
+-- the lines lead from what is owed to what is still owed
+abbrev pub Leads : (ℕ → Type 0) → List Owed → List TextLine → List Owed → Type 0
+Leads Level os [] ws = os ≡ ws
+Leads Level [] (l ∷ ls) ws = ⊥
+Leads Level (o ∷ os) (l ∷ ls) ws = Pays Level o l × Leads Level (owes o l ++ os) ls ws
+
+-- nothing is owed behind the lines
+abbrev pub IsWhole : (ℕ → Type 0) → List Owed → List TextLine → Type 0
+IsWhole Level os ls = Leads Level os ls []
+
+-- what the text of a proof owes at its start
+abbrev pub start : List Owed
+start = o.Head ∷ o.Charges ∷ o.Node 1 ∷ o.End ∷ []
+
+-- any level
+abbrev pub Any : ℕ → Type 0
+Any j = Unit {0}
+
+-- a level that a text may have
+abbrev pub Shallow : ℕ → Type 0
+Shallow j = j ≤ 2000

@@ -1,0 +1,8 @@
+use Rattle.tree_text.proofs.Inner.{inner_line, not_opening}
+use Rattle.tree_text.proofs.walk.Walk.pay.Goals as goal
+
+pub returns-in-Head-clause-ok : goal.returns-in-Head-clause-ok
+returns-in-Head-clause-ok c = λ os e. absurd (not_opening c.args.line.now c.in-Head.is (inner_line c.args.self.now c.args.owed os c.args.line.now e c.requires))
+
+pub returns-in-Head-2-clause-ok : goal.returns-in-Head-2-clause-ok
+returns-in-Head-2-clause-ok c = λ os e. absurd (not_opening c.args.line.now c.in-Head.is (inner_line c.args.self.now c.args.owed os c.args.line.now e c.requires))

@@ -1,0 +1,31 @@
+-- Proofs that a text can hold, and the bytes that hold one.
+use Rattle.std.specs.Prelude.{ℕ, ◌+◌, ◌≡◌, false, List, []}
+use Rattle.purse.specs.declared.log.Entry.{Entry}
+use Rattle.proof_tree.specs.declared.node.Conclusion.{Conclusion}
+use Rattle.proof_tree.specs.Proof.{Proof, Proofs, node, no_proof, and_proof}
+use Rattle.proof_tree.specs.Walk.{width, eliminates}
+use Rattle.proof_text.specs.Lines.{IsCharges}
+use Rattle.proof_text.specs.Reading.{Cuts}
+use Rattle.given_text.specs.Text.{AreClauses}
+use Rattle.tree_lines.specs.Lines.{proof_text}
+use Rattle.tree_lines.specs.Owed.{HasWidth, IsConclusion, Shallow}
+
+-- a node on level j: each rule has its premises, those that eliminate nothing have no entries, and divisors are from 2 on
+abbrev mutual
+  pub IsShapedNode : (ℕ → Type 0) → ℕ → Proof → Type 0
+  IsShapedNode Level j (node p ns es d) = Level j × HasWidth p (width ns) × (eliminates p ≡ false → es ≡ []) × AreClauses d × AreShapedNodes Level (j + 1) ns
+
+  pub AreShapedNodes : (ℕ → Type 0) → ℕ → Proofs → Type 0
+  AreShapedNodes Level j no_proof = Unit {0}
+  AreShapedNodes Level j (and_proof n ns) = IsShapedNode Level j n × AreShapedNodes Level j ns
+
+-- a proof that a text can hold: at most 1,000,000,000 charges and 2,000 levels
+pub record IsShaped (n : ℕ) (x : Proof) (c : Conclusion) : Type 0 where
+  pub charges : IsCharges n
+  pub root : IsShapedNode Shallow 1 x
+  pub conclusion : IsConclusion c
+
+-- the bytes are the text of a proof that a text can hold
+pub record Holds (bytes : List ℕ) (n : ℕ) (x : Proof) (c : Conclusion) : Type 0 where
+  pub shaped : IsShaped n x c
+  pub cut : Cuts (proof_text n x c) bytes []

@@ -1,0 +1,50 @@
+-- What a walk through a text still owes.
+use Rattle.std.specs.Prelude.{ℕ, ◌≡◌, Bool, cond, List, [], ◌∷◌, ◌++◌}
+use Rattle.sequent.specs.declared.member.Pick.{Pick}
+use Rattle.tree_lines.specs.declared.lines.Owed.{Owed}
+use Rattle.tree_lines.specs.declared.lines.Owed.TheVariants as o
+use Rattle.tree_lines.specs.declared.lines.TextLine.{TextLine}
+use Rattle.tree_lines.specs.declared.lines.TextLine.TheVariants as w
+use Rattle.tree_text.specs.declared.walk.Open.{Open}
+use Rattle.tree_text.specs.declared.walk.Place.{Place}
+use Rattle.tree_text.specs.declared.walk.Place.TheVariants as at
+use Rattle.tree_text.specs.declared.walk.Walk.{Walk}
+use Rattle.proof_text.specs.Reading.{Cuts}
+use Rattle.tree_lines.specs.Lines.{line_text}
+use Rattle.tree_lines.specs.Owed.{nodes_owed, last_owed, owes, Pays, Shallow}
+
+-- what a rule owes behind its premises
+abbrev pub closing_owed : Pick → Bool → List Owed
+closing_owed p logged = cond logged (o.Gives ∷ []) (last_owed p)
+
+-- what an open rule owes
+abbrev pub open_owed : Open → List Owed
+open_owed f = nodes_owed f.left f.below ++ closing_owed f.rule f.logged
+
+-- what open rules owe, the last one first
+abbrev pub opens_owed : List Open → List Owed
+opens_owed [] = []
+opens_owed (f ∷ fs) = opens_owed fs ++ open_owed f
+
+abbrev pub owed_at : Place → List Open → List Owed
+owed_at at.Root fs = o.Node 1 ∷ (opens_owed fs ++ o.End ∷ [])
+owed_at (at.Inside f) fs = open_owed f ++ (opens_owed fs ++ o.End ∷ [])
+owed_at at.End fs = o.End ∷ []
+owed_at at.Done fs = []
+
+-- what a walk owes
+abbrev pub owed_of : Walk → List Owed
+owed_of walk = owed_at walk.place walk.outer
+
+-- a line behind the opening of a text
+abbrev pub IsInner : TextLine → Type 0
+IsInner (w.Head n) = ⊥
+IsInner (w.Charges n) = ⊥
+IsInner _ = Unit {0}
+
+-- a line that pays for what is owed is read, and the walk goes on behind it
+pub record Advanced (before after : Walk) (owed : Owed) (bytes behind : List ℕ) : Type 0 where
+  pub line : TextLine
+  pub pays : Pays Shallow owed line
+  pub cut : Cuts (line_text line) bytes behind
+  pub goes_on : (os : List Owed) → owed_of before ≡ owed ∷ os → owed_of after ≡ owes owed line ++ os
