@@ -1,5 +1,5 @@
-/* Two parts that speak of a constant, and the question what lies between them. The file is read and typed; interpolants are
-   not answered yet, so it is refused as `Unsupported` at its `\interpolant` block. */
+/* Two parts that speak of a constant, and the question what lies between them.
+   Answer: VALID, interpolant: -speed + 50 >= 0. */
 \universalConstants {
     int speed;
 }
