@@ -1,6 +1,5 @@
 pub mod Nearness
 pub mod Computed
-pub mod Valuing
 pub mod Rests
 pub mod OneName
 pub mod Parting

@@ -1,8 +1,7 @@
--- Literals whose term is a number, or another term.
+-- Literals whose term is a number.
 use Rattle.std.specs.Prelude.{ℤ, pos, Bool, not, unsigned_abs, int_le}
 use Rattle.std.specs.Ordering.{int_eq}
 use Rattle.integers.specs.Divides.{divides}
-use Rattle.linear_term.specs.Linear.{Linear}
 use Rattle.clause_set.specs.declared.literal.Literal.{Literal}
 use Rattle.clause_set.specs.declared.literal.Literal.TheVariants.{Eq, Geq, Div, NDiv}
 
@@ -12,10 +11,3 @@ is_true_of (Eq t) k = int_eq k (pos 0)
 is_true_of (Geq t) k = int_le (pos 0) k
 is_true_of (Div d t) k = divides (unsigned_abs d) k
 is_true_of (NDiv d t) k = not (divides (unsigned_abs d) k)
-
--- the literal with the term s
-abbrev pub with_term : Literal → Linear → Literal
-with_term (Eq t) s = Eq s
-with_term (Geq t) s = Geq s
-with_term (Div d t) s = Div d s
-with_term (NDiv d t) s = NDiv d s

@@ -25,9 +25,9 @@ use Rattle.proof_tree.specs.declared.run.Verdict.{Verdict}
 use Rattle.proof_tree.specs.declared.run.Verdict.TheVariants.{Invalid}
 use Rattle.proof_tree.specs.Walk.{in_new_log, is_same, nodes_in, on_some, walked}
 use Rattle.proof_tree.proofs.Walking.{gives_walked, some_then}
+use Rattle.node_steps.specs.Within.{branch_limit}
 use Rattle.search.specs.Building.{all_built, built, canonical_constraint}
 use Rattle.search.specs.Rounds.{solved_of, solving_of}
-use Rattle.search.specs.Run.{branch_limit}
 use Rattle.search.proofs.Pures.{pick_of, pure_pick}
 use Rattle.search.proofs.Retracing.{retraced, value-built}
 use Rattle.search.proofs.Totals.{total-in_new_log, total-next}
@@ -81,7 +81,7 @@ solution_free : (f : Form) (n : ℕ) (p : Pick) (vs : List ℤ) (d : List (List 
 solution_free f n p vs d = free_cond (nat_eq (length vs) n && list_all is_in_range vs) _ _ (free_next (values_put 0 vs d) _ (free_values 0 vs d) (λ r. free_just _)) (free_just None)
 
 -- ---- nothing that satisfies it
-by_both : {A : Type 0} (a b : Bool) (w u : Traced A) → a ≡ true → b ≡ true → cond (a && b) w u ≡ w
+pub by_both : {A : Type 0} (a b : Bool) (w u : Traced A) → a ≡ true → b ≡ true → cond (a && b) w u ≡ w
 by_both true true w u h k = refl
 by_both true false w u h k = absurd (cc)
 by_both false b w u h k = absurd (cc)

@@ -13,7 +13,8 @@ use Rattle.proof_tree.specs.Proof.{Proof}
 use Rattle.proof_tree.specs.Proves.{start}
 use Rattle.proof_tree.specs.Walk.{fee, fee_by}
 use Rattle.search.specs.Building.{built, entered}
-use Rattle.search.specs.Run.{Ending, out_of_steps, overflows, ended, ending, branch_limit, judged, one_round, or_further, rounds, canonical_run, OneEnd}
+use Rattle.search.specs.Run.{Ending, out_of_steps, overflows, ended, ending, judged, one_round, or_further, rounds, canonical_run, OneEnd}
+use Rattle.node_steps.specs.Within.{branch_limit}
 
 -- what has passed
 passed : (es : List Event) (a b : At) → a.funds.spent ≤ a.funds.budget → cut es a ≡ done b → RunsThrough es a b

@@ -31,7 +31,8 @@ use Rattle.search.specs.declared.walk.Built.{Built}
 use Rattle.search.specs.Building.{built}
 use Rattle.search.specs.Course.{noted}
 use Rattle.search.specs.Rounds.{HasTree, answer_in, found_by, maybe_in, round_as, solved_of, solving_of}
-use Rattle.search.specs.Run.{Answer, branch_limit, concluded, has_open_leaf, judged, one_round}
+use Rattle.search.specs.Run.{Answer, concluded, has_open_leaf, judged, one_round}
+use Rattle.node_steps.specs.Within.{branch_limit}
 use Rattle.search.specs.Walking.{IfBuilt, IsGrown}
 use Rattle.search.proofs.Charges.{invalid_charges, solving_charges, valid_charges}
 use Rattle.search.proofs.Given.{built-given}

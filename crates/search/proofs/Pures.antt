@@ -18,7 +18,8 @@ use Rattle.proof_tree.specs.Proves.{start}
 use Rattle.proof_tree.specs.Walk.{fee, in_new_log, on_some}
 use Rattle.search.specs.Building.{all_built, built, canonical_constraint, entered, finished}
 use Rattle.search.specs.Pure.{answer_of, at_root, leaf, pure_run, solved}
-use Rattle.search.specs.Run.{Answer, branch_limit, canonical_run, concluded, has_open_leaf, judged, or_further, rounds, saturated}
+use Rattle.search.specs.Run.{Answer, canonical_run, concluded, has_open_leaf, judged, or_further, rounds, saturated}
+use Rattle.node_steps.specs.Within.{branch_limit}
 
 -- ---- the rule that a pure formula takes has no premises
 -- the pick of a sequent whose one member fits so

@@ -15,7 +15,8 @@ use Rattle.proof_tree.specs.Proves.{is_root_rule, rule_of, start}
 use Rattle.proof_tree.proofs.Proving.{root_covers, root_exact}
 use Rattle.search.specs.Building.{all_built, built}
 use Rattle.search.specs.Meaning.{Tells}
-use Rattle.search.specs.Run.{Answer, ends_with, ended, ending, branch_limit, canonical_run, concluded, has_open_leaf, invalid, judged, one_round, or_further, rounds, saturated}
+use Rattle.search.specs.Run.{Answer, ends_with, ended, ending, canonical_run, concluded, has_open_leaf, invalid, judged, one_round, or_further, rounds, saturated}
+use Rattle.node_steps.specs.Within.{branch_limit}
 use Rattle.search.proofs.Charges.{built_rule, root_rule}
 use Rattle.search.proofs.Given.{built-given}
 use Rattle.search.proofs.Pures.{no_premises, pure_pick}

@@ -4,8 +4,6 @@ pub mod Pure
 pub mod Meaning
 pub mod Closed
 pub mod Course
-pub mod Pairing
-pub mod Within
 pub mod Walking
 pub mod Rounds
 pub mod Outcomes

@@ -11,6 +11,7 @@ use Rattle.sequent.specs.Leaf.{is_open}
 use Rattle.sequent.specs.Rules.{premises_of}
 use Rattle.sequent.specs.Sequent.{Sequent}
 use Rattle.solution_rules.specs.Solutions.{solving}
+use Rattle.node_steps.specs.Within.{branch_limit}
 use Rattle.proof_tree.specs.Proof.{Proof, Proofs, node, no_proof, and_proof, given}
 use Rattle.proof_tree.specs.Proves.{start}
 use Rattle.proof_tree.specs.Walk.{in_new_log}
@@ -60,10 +61,6 @@ concluded f n x None =
 abbrev pub judged : Form → ℕ → Option Proof → Traced (Option Answer)
 judged f n None = just (Some too_long)
 judged f n (Some x) = next (in_new_log (solving n (given x))) (λ a. just (concluded f n x a))
-
--- the nodes that a branch may have
-abbrev pub branch_limit : ℕ
-branch_limit = 2000
 
 -- the round with the limit k for a formula over n names, and what it answers
 abbrev pub one_round : Form → ℕ → ℕ → Traced (Option Answer)

@@ -19,14 +19,15 @@ ghost use Rattle.sequent.specs.declared.member.Pick.TheVariants as pick;
 ghost use Rattle.std.specs.Prelude.{◌≡◌, ◌+◌, ◌<◌, ◌≤◌, ◌^◌, [], IfOk, List};
 
 use super::course::Course;
-use clause_set::{Dnf, and};
+use clause_set::Dnf;
 use linear_term::{Memory, TermFault};
+use node_steps::{conjoined, first};
 use open_branch::{Branch, Principal};
 use pred_unify::closing;
 use purse::{ElimFault, ElimLog, Purse, StepFault};
 use quant_elim::{eliminate, forall_last};
 use sequent::{Sequent, Shape};
-use sqlite_items::{Items, at};
+use sqlite_items::Items;
 use std::alloc::Global;
 
 /// The refusal of a call on terms, before the first entry of a log.
@@ -55,28 +56,6 @@ fn close(alloc: Global, s: &Sequent, purse: &mut Purse) -> Result<(Dnf, ElimLog)
         Ok(f) => eliminate(alloc, &f, s.count, purse),
         Err(fault) => Err(without_log(alloc, fault)),
     }
-}
-
-/// The first constraint; false where there is none.
-fn first(alloc: Global, ds: &[Dnf]) -> Result<Dnf, Memory>
-    ensures { IfOk result (λ d. d ≡ first_given ds.now) }
-{
-    match at(ds, 0) {
-        Some(d) => d.copy(alloc),
-        None => Ok(Dnf::bottom(alloc)),
-    }
-}
-
-/// The conjunction of the constraints.
-#[tactic(auto, using(purse::proofs::Charging::looping))]
-fn conjoined(alloc: Global, ds: &[Dnf], purse: &mut Purse) -> Result<Dnf, StepFault>
-    ensures { Charged (conjoined ds.now top) purse.old result purse.new }
-{
-    let mut all = Dnf::top(alloc)?;
-    for d in ds {
-        all = and(alloc, &all, d, purse)?;
-    }
-    Ok(all)
 }
 
 /// A constraint that eliminates nothing, with its empty log.

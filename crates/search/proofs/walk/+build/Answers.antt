@@ -12,9 +12,9 @@ use Rattle.proof_tree.specs.Views.{proof_of}
 use Rattle.proof_tree.specs.Walk.{fee}
 use Rattle.search.specs.Building.{built}
 use Rattle.search.specs.Walking.{proofs_in}
-use Rattle.search.specs.Within.{IsWithin}
+use Rattle.node_steps.specs.Within.{IsWithin}
 use Rattle.search.proofs.Growing.{all_grown, built_then, item_at, no_level, node_built, node_cut, node_none, node_numbered, node_paid, node_unpaid, premise_built, premise_cut, premise_memory, premise_none, stepping_memory}
-use Rattle.search.proofs.Keeping.{premises_few, premises_within, within_room}
+use Rattle.node_steps.proofs.Keeping.{premises_few, premises_within, within_room}
 use Rattle.search.proofs.walk.+build.Goals as goal
 
 -- ---- which rule comes first

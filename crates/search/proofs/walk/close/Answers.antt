@@ -11,7 +11,7 @@ use Rattle.std.specs.List.{list_any}
 use Rattle.sequent.specs.Leaf.{is_open}
 use Rattle.open_branch.specs.Standing.{held, standing}
 use Rattle.search.proofs.Growing.{closed_numbered, node_closed, node_memory, node_unpaid}
-use Rattle.search.proofs.Keeping.{within_depth, within_room}
+use Rattle.node_steps.proofs.Keeping.{within_depth, within_room}
 use Rattle.search.proofs.walk.close.Goals as goal
 
 pub returns-in_err-s-clause-work : goal.returns-in_err-s-clause-work

@@ -1,0 +1,3 @@
+mod Outs
+mod Overs
+pub mod Given
