@@ -1,0 +1,7 @@
+// Rows of proofs that are read line by line, and as trees.
+#![tactic(auto)]
+
+#[cfg(test)]
+mod files;
+#[cfg(test)]
+mod lines;

@@ -1,0 +1,5 @@
+pub mod Streaming
+pub mod OneProof
+pub mod Places
+pub mod Parts
+pub mod Own

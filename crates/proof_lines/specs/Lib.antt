@@ -1,0 +1,3 @@
+pub mod Body
+pub mod Refused
+pub mod Coming
