@@ -1,0 +1,10 @@
+pub mod Accepted
+pub mod Accepting
+pub mod Concluding
+pub mod Ended
+pub mod Entered
+pub mod Left
+pub mod Paid
+pub mod Redoing
+pub mod Stepped
+mod Held

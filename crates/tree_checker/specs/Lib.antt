@@ -1,0 +1,5 @@
+pub mod Answering
+pub mod Faults
+pub mod Hand
+pub mod Walking
+pub mod Texts
