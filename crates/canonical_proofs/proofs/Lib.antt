@@ -1,0 +1,4 @@
+pub mod Sorting
+pub mod Placing
+pub mod Staying
+pub mod Proving

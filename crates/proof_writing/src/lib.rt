@@ -1,0 +1,13 @@
+// The text of a proof, written: what is written is read back as that proof.
+#![tactic(auto)]
+
+mod given;
+mod knowing;
+mod laws;
+mod rows;
+mod text;
+
+pub use given::write_given;
+pub use knowing::know_typed;
+pub use laws::text_law;
+pub use text::write_tree;
