@@ -24,18 +24,15 @@ meets_more P Q ends before after more met = record {
 }
 
 -- a file that is held whole is answered
-pub whole_answered : (IsAnswer : List ℕ → Answer → Type 0) (told : Option (List ℕ)) (bytes : List ℕ) (answer : Answer) → IsWhole told bytes → length bytes ≤ 1048576
-    → IsAnswer bytes answer → AnswersSource IsAnswer told answer
-whole_answered IsAnswer told bytes answer whole few is = record { bytes = bytes; whole = whole; is = within few is }
+pub whole_answered : (most : ℕ) (IsAnswer : List ℕ → Answer → Type 0) (told : Option (List ℕ)) (bytes : List ℕ) (answer : Answer) → IsWhole told bytes → length bytes ≤ most
+    → IsAnswer bytes answer → AnswersSource most IsAnswer told answer
+whole_answered most IsAnswer told bytes answer whole few is = record { bytes = bytes; whole = whole; is = within few is }
 
 -- some bytes are longer than n
 longer_bytes : (n : ℕ) → (bytes : List ℕ) × (n < length bytes)
 longer_bytes n = let zero : ℕ = 0 in (replicate (n + 1) zero, rw (length-replicate (n + 1) zero) (omega arith))
 
-long_past : (IsAnswer : List ℕ → Answer → Type 0) (most : ℕ) → most ≡ 1048576 → (told : Option (List ℕ)) (answer : Answer) → IsLonger told most → answer ≡ long_answer → AnswersSource IsAnswer told answer
-long_past IsAnswer most m (Some all) answer longer e = record { bytes = all; whole = refl; is = too_long (omega (arith, longer, m)) e }
-long_past IsAnswer most m None answer longer e = let some = longer_bytes most in let past = some.1 in record { bytes = some.0; whole = tt; is = too_long (omega (arith, past, m)) e }
-
 -- a file past the limit is answered so
-pub long_answered : (IsAnswer : List ℕ → Answer → Type 0) (told : Option (List ℕ)) (answer : Answer) → IsLonger told 1048576 → answer ≡ long_answer → AnswersSource IsAnswer told answer
-long_answered IsAnswer told answer longer e = long_past IsAnswer 1048576 refl told answer longer e
+pub long_answered : (most : ℕ) (IsAnswer : List ℕ → Answer → Type 0) (told : Option (List ℕ)) (answer : Answer) → IsLonger told most → answer ≡ long_answer → AnswersSource most IsAnswer told answer
+long_answered most IsAnswer (Some all) answer longer e = record { bytes = all; whole = refl; is = too_long longer e }
+long_answered most IsAnswer None answer longer e = let some = longer_bytes most in record { bytes = some.0; whole = tt; is = too_long some.1 e }

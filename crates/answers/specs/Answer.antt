@@ -33,6 +33,10 @@ refused_answer name = says_line 3 (codes "refused: " ++ name)
 abbrev pub unknown_answer : List ℕ → Answer
 unknown_answer cause = says_line 2 (codes "UNKNOWN: " ++ cause)
 
+-- the answer to a proof that is refused
+abbrev pub refused_proof_answer : List ℕ → Answer
+refused_proof_answer name = says_line 4 (codes "refused proof: " ++ name)
+
 -- the answer to words that name no job
 abbrev pub words_answer : Answer
 words_answer = says_line 5 (codes "refused words")
@@ -43,8 +47,8 @@ long_answer = says_line 9 (codes "refused: file too long")
 
 -- the statuses that answers have
 abbrev pub IsAnswerStatus : ℕ → Type 0
-IsAnswerStatus status = IsTrue (list_any (λ s. s == status) (0 ∷ 1 ∷ 2 ∷ 3 ∷ 5 ∷ 9 ∷ []))
+IsAnswerStatus status = IsTrue (list_any (λ s. s == status) (0 ∷ 1 ∷ 2 ∷ 3 ∷ 4 ∷ 5 ∷ 9 ∷ []))
 
 -- the statuses that a run ends with: those of answers, and 6, 7 and 8
 abbrev pub IsStatus : ℕ → Type 0
-IsStatus ends = IsTrue (list_any (λ s. s == ends) (0 ∷ 1 ∷ 2 ∷ 3 ∷ 5 ∷ 6 ∷ 7 ∷ 8 ∷ 9 ∷ []))
+IsStatus ends = IsTrue (list_any (λ s. s == ends) (0 ∷ 1 ∷ 2 ∷ 3 ∷ 4 ∷ 5 ∷ 6 ∷ 7 ∷ 8 ∷ 9 ∷ []))

@@ -6,7 +6,7 @@ mod output;
 mod puts;
 pub mod status;
 
-pub use lines::{refused, refused_at, say, unknown};
+pub use lines::{refused, refused_at, refused_proof, say, unknown};
 pub use output::Output;
 pub use puts::{put_all, put_answer};
 

@@ -1,10 +1,11 @@
 // Answers of one line.
 
-ghost use Rattle.answers.specs.Answer.{answer_of, placed, refused_answer, says_line, unknown_answer};
+ghost use Rattle.answers.specs.Answer.{answer_of, placed, refused_answer, refused_proof_answer, says_line, unknown_answer};
+ghost use Rattle.std.specs.Fmt.{decimal};
 ghost use Rattle.std.specs.Prelude.{◌≡◌, ◌++◌, IfOk};
 
 use crate::output::Output;
-use crate::status::{FILE_REFUSED, UNKNOWN};
+use crate::status::{FILE_REFUSED, PROOF_REFUSED, UNKNOWN};
 use linear_term::Memory;
 use std::alloc::Global;
 
@@ -28,6 +29,17 @@ pub fn refused_at(alloc: Global, name: &[u8], at: u64) -> Result<Output, Memory>
 {
     let text = placed(alloc, name, at)?;
     refused(alloc, text.as_slice())
+}
+
+/// The answer to a proof that is refused with this word and number: `Syntax at` or `Deep at` and a place in the file, or `node`,
+/// `range` or `cost` and the number of a node.
+pub fn refused_proof(alloc: Global, word: &[u8], number: u64) -> Result<Output, Memory>
+    ensures { IfOk result (λ output. answer_of output ≡ refused_proof_answer (word.now ++ decimal number)) }
+{
+    let digits = number.to_string(alloc)?;
+    let mut name = Vec::from_slice(alloc, word)?;
+    name.extend_from_slice(digits.as_bytes())?;
+    labelled(alloc, PROOF_REFUSED, b"refused proof: ", name.as_slice())
 }
 
 /// The answer that is not known, by its cause.

@@ -12,6 +12,9 @@ pub const UNKNOWN: u8 = 2;
 /// The file is refused.
 pub const FILE_REFUSED: u8 = 3;
 
+/// The proof is refused.
+pub const PROOF_REFUSED: u8 = 4;
+
 /// The words name no job.
 pub const WORDS_REFUSED: u8 = 5;
 

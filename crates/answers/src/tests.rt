@@ -15,6 +15,11 @@ fn lines_are_made_and_put(rt: HostRuntime) -> Result<(), Fail> {
             3,
             "refused: Syntax at 18\n",
         ),
+        (
+            refused_proof(alloc, b"node ", 18)?,
+            4,
+            "refused proof: node 18\n",
+        ),
         (unknown(alloc, b"overflow")?, 2, "UNKNOWN: overflow\n"),
     ] {
         let mut sink = MemorySink::new(alloc, 64, 3, Vec::new(alloc))?;

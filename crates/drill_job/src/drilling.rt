@@ -2,7 +2,7 @@
 
 ghost use Rattle.answers.specs.Answer.{answer_of};
 ghost use Rattle.drill_job.specs.Drilled.{IsDrilled, drill_answer, first_line};
-ghost use Rattle.std.specs.Prelude.{◌≡◌, ◌++◌, ◌<◌, ◌≤◌, ◌^◌, IfOk, OnOk};
+ghost use Rattle.std.specs.Prelude.{◌≡◌, ◌++◌, ◌≤◌, IfOk, OnOk};
 
 use answers::Output;
 use linear_term::Memory;
@@ -12,11 +12,11 @@ use std::alloc::Global;
 /// The answer of `drill` with a budget to this size, 1,000 at most.
 pub fn answer(alloc: Global, count: u32, budget: u64) -> Result<Output, Memory>
     requires count { count ≤ 1000 }
-    requires budget { budget < 2 ^ 32 }
+    requires budget { budget ≤ 1000000000 }
     ensures { IfOk result (λ output. IsDrilled budget count (answer_of output)) }
 {
     let problem = drill(alloc, count)?;
-    let solved = solve_job::answer(alloc, problem.as_slice(), budget)?;
+    let solved = solve_job::answer(alloc, problem.as_slice(), budget, false)?;
     told(alloc, count, &solved)
 }
 

@@ -1,5 +1,6 @@
 mod Accepted
 mod Answering
+mod Commanding
 mod Finds
 mod Finish
 mod Flat

@@ -1,26 +1,27 @@
 -- The job that all the words name, by their command.
-use Rattle.std.proofs.Common.{◌≡◌, ◌∙◌, ℕ, true, false, List, [], ◌∷◌, sym, ap, subst, codes}
+use Rattle.std.proofs.Common.{◌≡◌, ◌∙◌, ℕ, Bool, true, false, List, [], ◌∷◌, sym, ap, subst, codes, refl, arith}
 use Rattle.std.specs.List.{slice_index_or}
 use Rattle.std.specs.Str.{bytes_eq}
 use Rattle.std.specs.Str.Parse.{digits_value}
-use Rattle.job_words.specs.Uses.{Text, operands, values_of}
-use Rattle.job_words.specs.Jobs.{IsBudget, NamesDrill, NamesFile, NamesJob, Task, solve, eliminate, drill}
-use Rattle.job_words.proofs.Answering.{drill_is, solve_is}
+use Rattle.job_words.specs.Uses.{Text, operands, tally, times, values_of}
+use Rattle.job_words.specs.Jobs.{IsBudget, NamesCheck, NamesDrill, NamesElim, NamesJob, NamesSolve, Task, solve, eliminate, check, drill}
+use Rattle.job_words.proofs.Commanding.{check_is, drill_is, elim_is, solve_is}
 use Rattle.job_words.proofs.Finds.{same_uses}
 
 -- the command of a job
 abbrev command_of : Task → Text
-command_of (solve file budget) = codes "solve"
+command_of (solve file budget proof) = codes "solve"
 command_of (eliminate file budget) = codes "elim"
+command_of (check file proof) = codes "check"
 command_of (drill count budget) = codes "drill"
 
 -- behind a command stands a job of that command
-pub only_solve : (line : List Text) → ((f : Text) (n : ℕ) → NamesFile line f n → ⊥) → (task : Task) → NamesJob (codes "solve" ∷ line) task → ⊥
-only_solve line none (solve f n) names = none f n names.1
+pub only_solve : (line : List Text) → ((f : Text) (n : ℕ) (p : Bool) → NamesSolve line f n p → ⊥) → (task : Task) → NamesJob (codes "solve" ∷ line) task → ⊥
+only_solve line none (solve f n p) names = none f n p names.1
 only_solve line none task names =
     let bad : true ≡ false = ap (bytes_eq (codes "solve")) names.0 in cc
 
-pub only_elim : (line : List Text) → ((f : Text) (n : ℕ) → NamesFile line f n → ⊥) → (task : Task) → NamesJob (codes "elim" ∷ line) task → ⊥
+pub only_elim : (line : List Text) → ((f : Text) (n : ℕ) → NamesElim line f n → ⊥) → (task : Task) → NamesJob (codes "elim" ∷ line) task → ⊥
 only_elim line none (eliminate f n) names = none f n names.1
 only_elim line none task names =
     let bad : true ≡ false = ap (bytes_eq (codes "elim")) names.0 in cc
@@ -30,6 +31,11 @@ only_drill line none (drill n m) names = none n m names.1
 only_drill line none task names =
     let bad : true ≡ false = ap (bytes_eq (codes "drill")) names.0 in cc
 
+pub only_check : (line : List Text) → ((f p : Text) → NamesCheck line f p → ⊥) → (task : Task) → NamesJob (codes "check" ∷ line) task → ⊥
+only_check line none (check f p) names = none f p names.1
+only_check line none task names =
+    let bad : true ≡ false = ap (bytes_eq (codes "check")) names.0 in cc
+
 -- ---- words name one job
 
 one_budget : (values : List Text) (n m : ℕ) → IsBudget values n → IsBudget values m → n ≡ m
@@ -37,13 +43,29 @@ one_budget [] n m a b = a ∙ sym b
 one_budget (text ∷ []) n m a b = sym a.value ∙ b.value
 one_budget (text ∷ more ∷ rest) n m a b = absurd a
 
-one_file : (line : List Text) (f g : Text) (n m : ℕ) → NamesFile line f n → NamesFile line g m → (f ≡ g) × (n ≡ m)
-one_file line f g n m a b =
-    let us : a.us ≡ b.us = same_uses _ _ _ _ solve_is line a.us b.us a.spells b.spells in
-    let file : f ∷ [] ≡ g ∷ [] = sym a.file_is ∙ ap operands us ∙ b.file_is in (
-      ap (λ l. slice_index_or l 0 []) file,
-      one_budget (values_of (codes "budget") b.us) n m (subst (λ vs. IsBudget (values_of (codes "budget") vs) n) us a.budget_is) b.budget_is,
-    )
+one_flag : (p q : Bool) → tally p ≡ tally q → p ≡ q
+one_flag true true e = refl
+one_flag false false e = refl
+one_flag true false e = absurd (omega arith)
+one_flag false true e = absurd (omega arith)
+
+one_solve : (line : List Text) (f g : Text) (n m : ℕ) (p q : Bool) → NamesSolve line f n p → NamesSolve line g m q → solve f n p ≡ solve g m q
+one_solve line f g n m p q a b =
+    let us = same_uses _ _ _ _ solve_is line a.us b.us a.spells b.spells in
+    let file : f ≡ g = ap (λ l. slice_index_or l 0 []) (sym a.file_is ∙ ap operands us ∙ b.file_is) in
+    let budget = one_budget (values_of (codes "budget") b.us) n m (subst (λ vs. IsBudget (values_of (codes "budget") vs) n) us a.budget_is) b.budget_is in
+    let proof = one_flag p q (sym a.proof_is ∙ ap (times (codes "proof")) us ∙ b.proof_is) in λ i. solve (file i) (budget i) (proof i)
+
+one_elim : (line : List Text) (f g : Text) (n m : ℕ) → NamesElim line f n → NamesElim line g m → eliminate f n ≡ eliminate g m
+one_elim line f g n m a b =
+    let us = same_uses _ _ _ _ elim_is line a.us b.us a.spells b.spells in
+    let file : f ≡ g = ap (λ l. slice_index_or l 0 []) (sym a.file_is ∙ ap operands us ∙ b.file_is) in
+    let budget = one_budget (values_of (codes "budget") b.us) n m (subst (λ vs. IsBudget (values_of (codes "budget") vs) n) us a.budget_is) b.budget_is in λ i. eliminate (file i) (budget i)
+
+one_check : (line : List Text) (f g p q : Text) → NamesCheck line f p → NamesCheck line g q → check f p ≡ check g q
+one_check line f g p q a b =
+    let us = same_uses _ _ _ _ check_is line a.us b.us a.spells b.spells in
+    let files = sym a.files_are ∙ ap operands us ∙ b.files_are in λ i. check (slice_index_or (files i) 0 []) (slice_index_or (files i) 1 [])
 
 one_drill : (line : List Text) (n m k l : ℕ) → NamesDrill line n k → NamesDrill line m l → (n ≡ m) × (k ≡ l)
 one_drill line n m k l a b =
@@ -55,10 +77,9 @@ one_drill line n m k l a b =
 
 pub one_job : (words : List Text) (a b : Task) → NamesJob words a → NamesJob words b → a ≡ b
 one_job [] a b x y = absurd x
-one_job (command ∷ line) (solve f n) (solve g m) x y =
-    let same = one_file line f g n m x.1 y.1 in λ i. solve (same.0 i) (same.1 i)
-one_job (command ∷ line) (eliminate f n) (eliminate g m) x y =
-    let same = one_file line f g n m x.1 y.1 in λ i. eliminate (same.0 i) (same.1 i)
+one_job (command ∷ line) (solve f n p) (solve g m q) x y = one_solve line f g n m p q x.1 y.1
+one_job (command ∷ line) (eliminate f n) (eliminate g m) x y = one_elim line f g n m x.1 y.1
+one_job (command ∷ line) (check f p) (check g q) x y = one_check line f g p q x.1 y.1
 one_job (command ∷ line) (drill n k) (drill m l) x y =
     let same = one_drill line n m k l x.1 y.1 in λ i. drill (same.0 i) (same.1 i)
 one_job (command ∷ line) a b x y =

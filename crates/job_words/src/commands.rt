@@ -1,27 +1,45 @@
 // The commands as `clap` reads them: their operands and options, without help and version.
 
 ghost use Rattle.clap.specs.Words.{app_of, fault_of, found_of, is_simple_and_free, matches_of, rows_of};
-ghost use Rattle.job_words.specs.Jobs.{budget_option};
+ghost use Rattle.job_words.specs.Jobs.{budget_option, solve_options};
 ghost use Rattle.job_words.specs.Shapes.{command_app};
 ghost use Rattle.std.specs.Prelude.{◌≡◌, ◌≢◌, [], ◌∷◌, codes, map, string_bytes, true, IfOk, IfErr};
 
 use crate::jobs::WordsFault;
 use clap::error::ErrorKind;
-use clap::{Arg, ArgMatches, Command};
+use clap::{Arg, ArgAction, ArgMatches, Command};
 use std::alloc::{AllocError, Global};
 
-// `solve FILE [--budget N]`
+// `solve FILE [--budget N] [--proof]`
 pub(crate) fn solve_command<'a>(alloc: Global) -> Result<Command<'a>, AllocError>
-    ensures { IfOk result (λ c. app_of c ≡ command_app (codes "solve") (codes "FILE" ∷ []) budget_option) }
+    ensures { IfOk result (λ c. app_of c ≡ command_app (codes "solve") (codes "FILE" ∷ []) solve_options) }
 {
     let file = Arg::new(alloc, "FILE").required(true);
     let budget = Arg::new(alloc, "budget").long("budget");
+    let proof = Arg::new(alloc, "proof")
+        .long("proof")
+        .action(ArgAction::SetTrue);
     Command::new(alloc, "solve")
         .no_binary_name(true)
         .disable_help_flag(true)
         .disable_version_flag(true)
         .arg(file)?
-        .arg(budget)
+        .arg(budget)?
+        .arg(proof)
+}
+
+// `check FILE PROOF`
+pub(crate) fn check_command<'a>(alloc: Global) -> Result<Command<'a>, AllocError>
+    ensures { IfOk result (λ c. app_of c ≡ command_app (codes "check") (codes "FILE" ∷ codes "PROOF" ∷ []) []) }
+{
+    let file = Arg::new(alloc, "FILE").required(true);
+    let proof = Arg::new(alloc, "PROOF").required(true);
+    Command::new(alloc, "check")
+        .no_binary_name(true)
+        .disable_help_flag(true)
+        .disable_version_flag(true)
+        .arg(file)?
+        .arg(proof)
 }
 
 // `elim FILE [--budget N]`

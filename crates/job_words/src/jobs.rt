@@ -7,12 +7,27 @@ use std::alloc::AllocError;
 /// A job that words name.
 #[derive(Debug, Drop)]
 pub enum Job {
-    /// To say whether the problem in this file is valid, within a budget.
-    Solve { file: String, budget: u64 },
+    /// To say whether the problem in this file is valid, within a budget, and with its proof where that is asked for.
+    Solve {
+        file: String,
+        budget: u64,
+        proof: bool,
+    },
     /// To give the constraint of the problem in this file, within a budget.
-    Elim { file: String, budget: u64 },
+    Elim {
+        file: String,
+        budget: u64,
+    },
+    /// To check the proof in the second file against the problem in the first.
+    Check {
+        file: String,
+        proof: String,
+    },
     /// To solve the problem of this size that the program makes itself, within a budget.
-    Drill { count: u32, budget: u64 },
+    Drill {
+        count: u32,
+        budget: u64,
+    },
 }
 
 /// Why words give no job.

@@ -5,7 +5,7 @@ ghost use Rattle.job_words.specs.Jobs.{IsBudget, IsNumber, NamesJob, Task, task_
 ghost use Rattle.job_words.specs.Uses.{listed, Text};
 ghost use Rattle.std.specs.Prelude.{◌≡◌, ◌∷◌, ℕ, List, map, codes, string_bytes, None, Some, IfOk, IfErr, MatchResult};
 
-use crate::commands::{drill_command, elim_command, read, solve_command};
+use crate::commands::{check_command, drill_command, elim_command, read, solve_command};
 use crate::jobs::{Job, WordsFault};
 use crate::numbers::number;
 use clap::ArgMatches;
@@ -31,6 +31,7 @@ pub fn job(alloc: Global, words: &[String]) -> Result<Job, WordsFault>
     match command.as_str() {
         "solve" => solve_job(alloc, line),
         "elim" => elim_job(alloc, line),
+        "check" => check_job(alloc, line),
         "drill" => drill_job(alloc, line),
         _ => Err(WordsFault::Words),
     }
@@ -42,7 +43,7 @@ pub fn words_law()
     ensures { (words : List Text) (a : Task) (b : Task) → NamesJob words a → NamesJob words b → a ≡ b }
 {}
 
-// `solve FILE [--budget N]`
+// `solve FILE [--budget N] [--proof]`
 fn solve_job(alloc: Global, line: &[String]) -> Result<Job, WordsFault>
     ensures named { IfOk result (λ job. NamesJob (codes "solve" ∷ map string_bytes line.now) (task_of job)) }
     ensures refused { IfErr result (λ e. e ≡ WordsFault.Words → (task : Task) → NamesJob (codes "solve" ∷ map string_bytes line.now) task → ⊥) }
@@ -50,7 +51,12 @@ fn solve_job(alloc: Global, line: &[String]) -> Result<Job, WordsFault>
     let matches = read(solve_command(alloc)?, line)?;
     let file = text_in(alloc, &matches, "FILE")?;
     let budget = budget_in(&matches)?;
-    Ok(Job::Solve { file, budget })
+    let proof = matches.get_flag("proof");
+    Ok(Job::Solve {
+        file,
+        budget,
+        proof,
+    })
 }
 
 // `elim FILE [--budget N]`
@@ -73,6 +79,17 @@ fn drill_job(alloc: Global, line: &[String]) -> Result<Job, WordsFault>
     let count = count_in(&matches)?;
     let budget = budget_in(&matches)?;
     Ok(Job::Drill { count, budget })
+}
+
+// `check FILE PROOF`
+fn check_job(alloc: Global, line: &[String]) -> Result<Job, WordsFault>
+    ensures named { IfOk result (λ job. NamesJob (codes "check" ∷ map string_bytes line.now) (task_of job)) }
+    ensures refused { IfErr result (λ e. e ≡ WordsFault.Words → (task : Task) → NamesJob (codes "check" ∷ map string_bytes line.now) task → ⊥) }
+{
+    let matches = read(check_command(alloc)?, line)?;
+    let file = text_in(alloc, &matches, "FILE")?;
+    let proof = text_in(alloc, &matches, "PROOF")?;
+    Ok(Job::Check { file, proof })
 }
 
 // The word that an operand has.

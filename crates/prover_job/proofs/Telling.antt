@@ -1,23 +1,33 @@
 -- What a run answers, and what its end means.
-use Rattle.std.proofs.Common.{◌≡◌, ◌≢◌, ◌<◌, ◌^◌, ◌⊎◌, inl, inr, ℕ, List, [], ◌∷◌, Option, Result, Ok, Err, IfOk, refl, sym, ◌∙◌, ap, subst, arith}
+use Rattle.std.proofs.Common.{◌≡◌, ◌≢◌, ◌<◌, ◌≤◌, ◌^◌, ◌⊎◌, inl, inr, ℕ, ℤ, Bool, true, false, List, [], ◌∷◌, ◌++◌, length, Option, Result, Ok, Err, IfOk, refl, sym, ◌∙◌, ap, subst, append-nil, arith}
 use Rattle.typed_formula.specs.Truth.{Meaning}
 use Rattle.pri_typing.specs.Problems.{meaning_of}
-use Rattle.prover_io.specs.Outside.{IsLonger}
+use Rattle.prover_io.specs.Outside.{IsLonger, IsWhole}
 use Rattle.prover_io.specs.declared.whole.ReadFault.{ReadFault}
 use Rattle.prover_io.specs.declared.whole.ReadFault.TheVariants.{Long}
 use Rattle.answers.specs.Answer.{Answer, answer_of, long_answer, IsAnswerStatus}
 use Rattle.answers.specs.declared.output.Output.{Output}
-use Rattle.answers.specs.Outside.{Gives, Meets}
-use Rattle.answers.specs.Files.{AnswersBytes, AnswersSource, too_long, within}
-use Rattle.answers.proofs.Meeting.{long_answered, meets_more}
-use Rattle.job_words.specs.Jobs.{Task, solve, eliminate, drill, IsBudget, NamesJob}
+use Rattle.answers.specs.Outside.{Gives, Meets, PutsAll}
+use Rattle.answers.specs.Files.{AnswersBytes, AnswersSource, most_of_file, most_of_proof, too_long, within}
+use Rattle.answers.proofs.Meeting.{long_answered, meets_more, whole_answered}
+use Rattle.job_words.specs.Jobs.{Task, solve, eliminate, check, drill, IsBudget, NamesJob}
 use Rattle.problem_gen.specs.Drills.{drill_text}
+use Rattle.solve_job.specs.Proved.{IsSolvedAs, PrintsProofOf}
+use Rattle.proof_tree.specs.declared.run.Verdict.TheVariants as verdict
 use Rattle.solve_job.specs.Solved.{IsSolved}
+use Rattle.solve_job.proofs.Printing.{parted}
+use Rattle.constraint_lines.proofs.Losing.{no_table}
+use Rattle.check_job.specs.Checked.{IsChecked}
+use Rattle.check_job.specs.Meaning.{CheckMeans}
+use Rattle.check_job.proofs.Exactly.{accepted_text}
+use Rattle.check_job.proofs.Meaning as check_meaning
+use Rattle.proof_tree.specs.declared.run.Verdict.{Verdict}
+use Rattle.check_job.proofs.Meaning.{checked_status}
 use Rattle.solve_job.specs.Headline.{Headline}
 use Rattle.solve_job.proofs.Causing as solve_causing
 use Rattle.solve_job.proofs.Grounded.{ground_enough}
 use Rattle.solve_job.proofs.Exactly.{solved_status}
-use Rattle.solve_job.proofs.Meaning.{headline, no_table}
+use Rattle.solve_job.proofs.Meaning.{headline}
 use Rattle.drill_job.specs.Drilled.{IsDrilled}
 use Rattle.elim_job.specs.Eliminated.{IsEliminated}
 use Rattle.elim_job.specs.Meaning.{ElimMeans}
@@ -25,34 +35,51 @@ use Rattle.elim_job.proofs.Causing as elim_causing
 use Rattle.elim_job.proofs.Exactly.{eliminated_status}
 use Rattle.elim_job.proofs.Meaning.{means}
 use Rattle.prover_job.specs.declared.tasks.Stop.{Stop}
-use Rattle.prover_job.specs.Runs.{AnswersTask, IsWithin, SaysConstraint, SaysValid, SaysRefuted, IsSolveCaused, IsElimCaused, IsDrillCaused}
+use Rattle.prover_job.specs.Runs.{AnswersTask, AnswersWithProof, IsWithin, SaysChecked, SaysConstraint, SaysValid, SaysRefuted, IsSolveCaused, IsSolveCausedAs, IsElimCaused, IsDrillCaused}
 
 -- ---- files
 
 -- a file that is too long is answered so
-pub long_so : (IsAnswer : List ℕ → Answer → Type 0) (told : Option (List ℕ)) (f : ReadFault) (r : Result Output Stop) → (f ≡ Long → IsLonger told 1048576)
-    → IfOk r (λ o. (f ≡ Long) × (answer_of o ≡ long_answer)) → IfOk r (λ o. AnswersSource IsAnswer told (answer_of o))
-long_so IsAnswer told f (Ok o) longer h = long_answered IsAnswer told (answer_of o) (longer h.0) h.1
-long_so IsAnswer told f (Err s) longer h = tt
+pub long_so : (most : ℕ) (IsAnswer : List ℕ → Answer → Type 0) (told : Option (List ℕ)) (f : ReadFault) (r : Result Output Stop) → (f ≡ Long → IsLonger told most)
+    → IfOk r (λ o. (f ≡ Long) × (answer_of o ≡ long_answer)) → IfOk r (λ o. AnswersSource most IsAnswer told (answer_of o))
+long_so most IsAnswer told f (Ok o) longer h = long_answered most IsAnswer told (answer_of o) (longer h.0) h.1
+long_so most IsAnswer told f (Err s) longer h = tt
 
 -- what holds of the answers to bytes holds of those to a file
-source_more : (P Q : List ℕ → Answer → Type 0) → ((bytes : List ℕ) (a : Answer) → P bytes a → Q bytes a) → (told : Option (List ℕ)) (a : Answer) → AnswersSource P told a → AnswersSource Q told a
-source_more P Q more told a h = record { bytes = h.bytes; whole = h.whole; is = by h.is }
+source_more : (most : ℕ) (P Q : List ℕ → Answer → Type 0) → ((bytes : List ℕ) (a : Answer) → P bytes a → Q bytes a) → (told : Option (List ℕ)) (a : Answer) → AnswersSource most P told a → AnswersSource most Q told a
+source_more most P Q more told a h = record { bytes = h.bytes; whole = h.whole; is = by h.is }
   where
-    by : AnswersBytes P h.bytes a → AnswersBytes Q h.bytes a
+    by : AnswersBytes most P h.bytes a → AnswersBytes most Q h.bytes a
     by (too_long l e) = too_long l e
     by (within l is) = within l (more h.bytes a is)
 
+-- the answer to a proof's file whose bytes are told as those of another is the same
+pub told_same : (told other : Option (List ℕ)) → other ≡ told → (r : Result Output Stop) (bytes : List ℕ) → IfOk r (λ o. AnswersWithProof other bytes (answer_of o)) → IfOk r (λ o. AnswersWithProof told bytes (answer_of o))
+told_same told other same r bytes h = subst (λ t. IfOk r (λ o. AnswersWithProof t bytes (answer_of o))) same h
+
+-- a problem's file that is held is answered with the proof's file
+pub held_so : (IsAnswer : List ℕ → Answer → Type 0) (told : Option (List ℕ)) (bytes : List ℕ) (r : Result Output Stop) → IsWhole told bytes → length bytes ≤ most_of_file → IfOk r (λ o. IsAnswer bytes (answer_of o))
+    → IfOk r (λ o. AnswersSource most_of_file IsAnswer told (answer_of o))
+held_so IsAnswer told bytes (Ok o) whole few h = whole_answered most_of_file IsAnswer told bytes (answer_of o) whole few h
+held_so IsAnswer told bytes (Err s) whole few h = tt
+
 -- ---- statuses
 
-bytes_status : (P : List ℕ → Answer → Type 0) → ((bytes : List ℕ) (a : Answer) → P bytes a → IsAnswerStatus a.status) → (bytes : List ℕ) (a : Answer) → AnswersBytes P bytes a → IsAnswerStatus a.status
-bytes_status P known bytes a (too_long l e) = subst (λ b. IsAnswerStatus b.status) (sym e) refl
-bytes_status P known bytes a (within l is) = known bytes a is
+bytes_status : (most : ℕ) (P : List ℕ → Answer → Type 0) → ((bytes : List ℕ) (a : Answer) → P bytes a → IsAnswerStatus a.status) → (bytes : List ℕ) (a : Answer) → AnswersBytes most P bytes a → IsAnswerStatus a.status
+bytes_status most P known bytes a (too_long l e) = subst (λ b. IsAnswerStatus b.status) (sym e) refl
+bytes_status most P known bytes a (within l is) = known bytes a is
+
+solved_as_status : (asked : Bool) (budget : ℕ) (bytes : List ℕ) (a : Answer) → IsSolvedAs asked budget bytes a → IsAnswerStatus a.status
+solved_as_status asked budget bytes a h = let s = parted asked budget bytes a h in subst (λ b. IsAnswerStatus b.status) (sym s.whole) (solved_status budget bytes s.plain s.solved)
+
+with_proof_status : (told : Option (List ℕ)) (bytes : List ℕ) (a : Answer) → AnswersWithProof told bytes a → IsAnswerStatus a.status
+with_proof_status told bytes a h = bytes_status most_of_proof (λ proof. IsChecked proof bytes) (λ proof b is. checked_status proof bytes b is) h.bytes a h.is
 
 -- each answer has a status of answers
 pub task_status : (bytes_of : List ℕ → Option (List ℕ)) (task : Task) (a : Answer) → AnswersTask bytes_of task a → IsAnswerStatus a.status
-task_status bytes_of (solve file budget) a h = bytes_status (IsSolved budget) (solved_status budget) h.bytes a h.is
-task_status bytes_of (eliminate file budget) a h = bytes_status (IsEliminated budget) (eliminated_status budget) h.bytes a h.is
+task_status bytes_of (solve file budget proof) a h = bytes_status most_of_file (IsSolvedAs proof budget) (solved_as_status proof budget) h.bytes a h.is
+task_status bytes_of (eliminate file budget) a h = bytes_status most_of_file (IsEliminated budget) (eliminated_status budget) h.bytes a h.is
+task_status bytes_of (check file proof) a h = bytes_status most_of_file (AnswersWithProof (bytes_of proof)) (with_proof_status (bytes_of proof)) h.bytes a h.is
 task_status bytes_of (drill count budget) a h = subst (λ b. IsAnswerStatus b.status) (sym h.drilled) (solved_status budget (drill_text count) h.solved h.solves)
 
 -- what ends with such a status or with 7 ends neither with 6 nor with 8
@@ -71,14 +98,42 @@ meets_answer P a b ends before after is same met = meets_more (λ answer. answer
 -- ---- what a run's end means
 
 -- the answer to the bytes of a file means what answers to shorter ones do, where a long file's means nothing
-bytes_headline : (w : Meaning) (budget : ℕ) (bytes : List ℕ) (a : Answer) → AnswersBytes (IsSolved budget) bytes a → Headline w bytes a
-bytes_headline w budget bytes a (too_long l e) = record {
-  valid = λ z. let bad = sym z ∙ ap (λ b. b.status) e in absurd cc;
-  invalid = λ z. let bad = sym z ∙ ap (λ b. b.status) e in absurd cc;
-}
-bytes_headline w budget bytes a (within l is) = headline w budget bytes a is
+record Means (w : Meaning) (asked : Bool) (bytes : List ℕ) (a : Answer) : Type 0 where
+  text : List ℕ
+  part : List ℕ
+  whole : a.text ≡ text ++ part
+  none : asked ≡ false → part ≡ []
+  headline : Headline w bytes (record { status = a.status; text = text })
+  valid : asked ≡ true → a.status ≡ 0 → (vs : List ℤ) × PrintsProofOf bytes (verdict.Valid vs) part
+  invalid : asked ≡ true → a.status ≡ 1 → PrintsProofOf bytes verdict.Invalid part
 
-bytes_means : (w : Meaning) (budget : ℕ) (bytes : List ℕ) (a : Answer) → AnswersBytes (IsEliminated budget) bytes a → ElimMeans w bytes a
+bytes_headline : (w : Meaning) (asked : Bool) (budget : ℕ) (bytes : List ℕ) (a : Answer) → AnswersBytes most_of_file (IsSolvedAs asked budget) bytes a → Means w asked bytes a
+bytes_headline w asked budget bytes a (too_long l e) = record {
+  text = a.text;
+  part = [];
+  whole = sym (append-nil a.text);
+  none = λ off. refl;
+  headline = record {
+    valid = λ z. let bad = sym z ∙ ap (λ b. b.status) e in absurd cc;
+    invalid = λ z. let bad = sym z ∙ ap (λ b. b.status) e in absurd cc;
+  };
+  valid = λ on z. let bad = sym z ∙ ap (λ b. b.status) e in absurd cc;
+  invalid = λ on z. let bad = sym z ∙ ap (λ b. b.status) e in absurd cc;
+}
+bytes_headline w asked budget bytes a (within l is) =
+    let s = parted asked budget bytes a is in
+    let status : a.status ≡ (s.plain).status = ap (λ b. b.status) s.whole in
+    record {
+      text = (s.plain).text;
+      part = s.part;
+      whole = ap (λ b. b.text) s.whole;
+      none = s.none;
+      headline = subst (λ n. Headline w bytes (record { status = n; text = (s.plain).text })) (sym status) (headline w budget bytes s.plain s.solved);
+      valid = λ on z. s.valid on (sym status ∙ z);
+      invalid = λ on z. s.invalid on (sym status ∙ z);
+    }
+
+bytes_means : (w : Meaning) (budget : ℕ) (bytes : List ℕ) (a : Answer) → AnswersBytes most_of_file (IsEliminated budget) bytes a → ElimMeans w bytes a
 bytes_means w budget bytes a (too_long l e) = λ z. let bad = sym z ∙ ap (λ b. b.status) e in absurd cc
 bytes_means w budget bytes a (within l is) = means w budget bytes a is
 
@@ -87,30 +142,62 @@ given_to : (P : Answer → Type 0) (ends n : ℕ) (before after : Option (List �
 given_to P ends n before after met e six seven eight = met.whole (λ z. six (sym e ∙ z)) (λ z. seven (sym e ∙ z)) (λ z. eight (sym e ∙ z))
 
 -- at status 0 a text says of the problem that it is valid
-pub says_valid : (w : Meaning) (budget : ℕ) (told : Option (List ℕ)) (ends : ℕ) (before after : Option (List ℕ)) → Meets (AnswersSource (IsSolved budget) told) ends before after
-    → ends ≡ 0 → SaysValid w told before after
-says_valid w budget told ends before after met z =
+pub says_valid : (w : Meaning) (asked : Bool) (budget : ℕ) (told : Option (List ℕ)) (ends : ℕ) (before after : Option (List ℕ)) → Meets (AnswersSource most_of_file (IsSolvedAs asked budget) told) ends before after
+    → ends ≡ 0 → SaysValid w asked told before after
+says_valid w asked budget told ends before after met z =
+    let given = given_to _ ends 0 before after met z (λ e. cc) (λ e. cc) (λ e. cc) in
+    let m = bytes_headline w asked budget (given.is).bytes given.answer (given.is).is in
+    record {
+      bytes = (given.is).bytes;
+      whole = (given.is).whole;
+      text = m.text;
+      part = m.part;
+      put = subst (PutsAll before after) m.whole given.put;
+      valid = (m.headline).valid (sym given.status ∙ z);
+      none = m.none;
+      proved = λ on. m.valid on (sym given.status ∙ z);
+    }
+
+-- at status 1 the problem is refuted
+pub says_refuted : (asked : Bool) (budget : ℕ) (told : Option (List ℕ)) (ends : ℕ) (before after : Option (List ℕ)) → Meets (AnswersSource most_of_file (IsSolvedAs asked budget) told) ends before after → ends ≡ 1
+    → SaysRefuted asked told before after
+says_refuted asked budget told ends before after met z =
+    let given = given_to _ ends 1 before after met z (λ e. cc) (λ e. cc) (λ e. cc) in
+    let m = bytes_headline (meaning_of no_table) asked budget (given.is).bytes given.answer (given.is).is in
+    record {
+      bytes = (given.is).bytes;
+      whole = (given.is).whole;
+      text = m.text;
+      part = m.part;
+      put = subst (PutsAll before after) m.whole given.put;
+      refuted = (m.headline).invalid (sym given.status ∙ z);
+      none = m.none;
+      proved = λ on. m.invalid on (sym given.status ∙ z);
+    }
+
+-- at status 0 of `check` a text says of the problem what is so
+bytes_confirm : (w : Meaning) (told : Option (List ℕ)) (bytes : List ℕ) (a : Answer) → AnswersBytes most_of_file (AnswersWithProof told) bytes a → CheckMeans w bytes a
+bytes_confirm w told bytes a (too_long l e) = record { accepted = λ z. let bad = sym z ∙ ap (λ b. b.status) e in absurd cc }
+bytes_confirm w told bytes a (within l h) = proof_confirms h.bytes h.is
+  where
+    proof_confirms : (proof : List ℕ) → AnswersBytes most_of_proof (λ proof. IsChecked proof bytes) proof a → CheckMeans w bytes a
+    proof_confirms proof (too_long l e) = record { accepted = λ z. let bad = sym z ∙ ap (λ b. b.status) e in absurd cc }
+    proof_confirms proof (within l is) = check_meaning.means w proof bytes a is
+
+pub says_checked : (w : Meaning) (proof told : Option (List ℕ)) (ends : ℕ) (before after : Option (List ℕ)) → Meets (AnswersSource most_of_file (AnswersWithProof proof) told) ends before after → ends ≡ 0
+    → SaysChecked w told before after
+says_checked w proof told ends before after met z =
     let given = given_to _ ends 0 before after met z (λ e. cc) (λ e. cc) (λ e. cc) in
     record {
       bytes = (given.is).bytes;
       whole = (given.is).whole;
       text = (given.answer).text;
       put = given.put;
-      valid = (bytes_headline w budget (given.is).bytes given.answer (given.is).is).valid (sym given.status ∙ z);
-    }
-
--- at status 1 the problem is refuted
-pub says_refuted : (budget : ℕ) (told : Option (List ℕ)) (ends : ℕ) (before after : Option (List ℕ)) → Meets (AnswersSource (IsSolved budget) told) ends before after → ends ≡ 1 → SaysRefuted told
-says_refuted budget told ends before after met z =
-    let given = given_to _ ends 1 before after met z (λ e. cc) (λ e. cc) (λ e. cc) in
-    record {
-      bytes = (given.is).bytes;
-      whole = (given.is).whole;
-      refuted = (bytes_headline (meaning_of no_table) budget (given.is).bytes given.answer (given.is).is).invalid (sym given.status ∙ z);
+      confirms = (bytes_confirm w proof (given.is).bytes given.answer (given.is).is).accepted (sym given.status ∙ z);
     }
 
 -- at status 0 of `elim` a constraint is put that is true exactly where the problem holds
-pub says_constraint : (w : Meaning) (budget : ℕ) (told : Option (List ℕ)) (ends : ℕ) (before after : Option (List ℕ)) → Meets (AnswersSource (IsEliminated budget) told) ends before after
+pub says_constraint : (w : Meaning) (budget : ℕ) (told : Option (List ℕ)) (ends : ℕ) (before after : Option (List ℕ)) → Meets (AnswersSource most_of_file (IsEliminated budget) told) ends before after
     → ends ≡ 0 → SaysConstraint w told before after
 says_constraint w budget told ends before after met z =
     let given = given_to _ ends 0 before after met z (λ e. cc) (λ e. cc) (λ e. cc) in
@@ -126,13 +213,19 @@ says_constraint w budget told ends before after met z =
 solve_so : (budget : ℕ) (bytes : List ℕ) (a : Answer) → IsSolved budget bytes a → IsSolveCaused budget bytes a
 solve_so budget bytes a is = record { causes = solve_causing.causes budget bytes a is; decides = solve_causing.decides budget bytes a is; enough = ground_enough budget bytes }
 
-pub solve_caused : (budget : ℕ) (told : Option (List ℕ)) (ends : ℕ) (before after : Option (List ℕ)) → Meets (AnswersSource (IsSolved budget) told) ends before after
-    → Meets (AnswersSource (IsSolveCaused budget) told) ends before after
-solve_caused budget told ends before after met = meets_more _ _ ends before after (source_more (IsSolved budget) (IsSolveCaused budget) (solve_so budget) told) met
+solve_as_so : (asked : Bool) (budget : ℕ) (bytes : List ℕ) (a : Answer) → IsSolvedAs asked budget bytes a → IsSolveCausedAs asked budget bytes a
+solve_as_so asked budget bytes a is =
+    let s = parted asked budget bytes a is in
+    record { plain = s.plain; part = s.part; whole = s.whole; none = s.none; caused = solve_so budget bytes s.plain s.solved }
 
-pub elim_caused : (budget : ℕ) (told : Option (List ℕ)) (ends : ℕ) (before after : Option (List ℕ)) → Meets (AnswersSource (IsEliminated budget) told) ends before after
-    → Meets (AnswersSource (IsElimCaused budget) told) ends before after
-elim_caused budget told ends before after met = meets_more _ _ ends before after (source_more (IsEliminated budget) (IsElimCaused budget)
+pub solve_caused : (asked : Bool) (budget : ℕ) (told : Option (List ℕ)) (ends : ℕ) (before after : Option (List ℕ)) → Meets (AnswersSource most_of_file (IsSolvedAs asked budget) told) ends before after
+    → Meets (AnswersSource most_of_file (IsSolveCausedAs asked budget) told) ends before after
+solve_caused asked budget told ends before after met =
+    meets_more _ _ ends before after (source_more most_of_file (IsSolvedAs asked budget) (IsSolveCausedAs asked budget) (solve_as_so asked budget) told) met
+
+pub elim_caused : (budget : ℕ) (told : Option (List ℕ)) (ends : ℕ) (before after : Option (List ℕ)) → Meets (AnswersSource most_of_file (IsEliminated budget) told) ends before after
+    → Meets (AnswersSource most_of_file (IsElimCaused budget) told) ends before after
+elim_caused budget told ends before after met = meets_more _ _ ends before after (source_more most_of_file (IsEliminated budget) (IsElimCaused budget)
     (λ bytes a is. record { causes = elim_causing.causes budget bytes a is; decides = elim_causing.decides budget bytes a is }) told) met
 
 pub drill_caused : (w : Meaning) (budget count ends : ℕ) (before after : Option (List ℕ)) → Meets (IsDrilled budget count) ends before after → Meets (IsDrillCaused w budget count) ends before after
@@ -145,16 +238,17 @@ drill_caused w budget count ends before after met = meets_more (IsDrilled budget
 
 -- ---- the job that words name
 
-budget_small : (texts : List (List ℕ)) (n : ℕ) → IsBudget texts n → n < 2 ^ 32
+budget_small : (texts : List (List ℕ)) (n : ℕ) → IsBudget texts n → n ≤ 1000000000
 budget_small [] n h = omega (arith, h)
-budget_small (text ∷ []) n h = omega (arith, h.within)
+budget_small (text ∷ []) n h = h.within
 budget_small (text ∷ more ∷ rest) n h = absurd h
 
 -- the numbers of a job that words name are small enough
 pub named_within : (words : List (List ℕ)) (task : Task) → NamesJob words task → IsWithin task
 named_within [] task h = absurd h
-named_within (command ∷ line) (solve file budget) h = budget_small _ budget h.1.budget_is
-named_within (command ∷ line) (eliminate file budget) h = budget_small _ budget h.1.budget_is
+named_within (command ∷ line) (solve file budget proof) h = budget_small _ budget h.1.budget_is
+named_within (command ∷ line) (eliminate file budget) h = let small = budget_small _ budget h.1.budget_is in omega (arith, small)
+named_within (command ∷ line) (check file proof) h = tt
 named_within (command ∷ line) (drill count budget) h = (h.1.count_is.within, budget_small _ budget h.1.budget_is)
 
 -- an answer of the one job that words name is one of each
@@ -162,3 +256,8 @@ pub met_as : (bytes_of : List ℕ → Option (List ℕ)) (words : List (List ℕ
     → ((ws : List (List ℕ)) (a b : Task) → NamesJob ws a → NamesJob ws b → a ≡ b) → NamesJob words job → NamesJob words task
     → Meets (AnswersTask bytes_of job) ends before after → Meets (AnswersTask bytes_of task) ends before after
 met_as bytes_of words job task ends before after one named names met = subst (λ t. Meets (AnswersTask bytes_of t) ends before after) (one words job task named names) met
+
+-- ---- the proof that is printed is accepted
+pub printed_accepted : (bytes : List ℕ) (v : Verdict) (part : List ℕ) (h : PrintsProofOf bytes v part) (a : Answer) → IsChecked (h.prints).text bytes a → a.status ≡ 0
+printed_accepted bytes v part h a is =
+    accepted_text bytes (h.prints).text h.problem h.tree h.conclusion h.charges v a h.poses h.fits (h.prints).holds (h.prints).own h.proves is

@@ -1,12 +1,15 @@
 -- What a run answers to its words over a source of named bytes, and what its end means.
-use Rattle.std.specs.Prelude.{◌≡◌, ◌≤◌, ◌<◌, ◌^◌, ℕ, Bool, List, [], Option, Some, Contains}
+use Rattle.std.specs.Prelude.{◌≡◌, ◌≤◌, ◌<◌, ◌^◌, ℕ, ℤ, Bool, true, false, List, [], ◌++◌, Option, Some, Contains}
 use Rattle.typed_formula.specs.Truth.{Meaning}
 use Rattle.prover_io.specs.Outside.{Broke, IsWhole}
 use Rattle.answers.specs.Answer.{Answer}
-use Rattle.answers.specs.Files.{AnswersSource}
+use Rattle.answers.specs.Files.{AnswersSource, most_of_file, most_of_proof}
 use Rattle.answers.specs.Outside.{PutsAll}
-use Rattle.job_words.specs.Jobs.{Task, solve, eliminate, drill, files_of, NamesJob}
-use Rattle.solve_job.specs.Solved.{IsSolved}
+use Rattle.job_words.specs.Jobs.{Task, solve, eliminate, check, drill, files_of, NamesJob}
+use Rattle.proof_tree.specs.declared.run.Verdict.TheVariants as verdict
+use Rattle.solve_job.specs.Proved.{IsSolvedAs, PrintsProofOf, extended}
+use Rattle.check_job.specs.Checked.{IsChecked}
+use Rattle.check_job.specs.Meaning.{Confirms}
 use Rattle.solve_job.specs.Causes as solve_causes
 use Rattle.problem_gen.specs.Drills.{drill_text}
 use Rattle.solve_job.specs.Headline.{Headline, Validates, Refutes}
@@ -26,14 +29,20 @@ NameNoFile words = (task : Task) → NamesJob words task → files_of task ≡ [
 
 -- the numbers of a job are small enough for its work
 abbrev pub IsWithin : Task → Type 0
-IsWithin (solve file budget) = budget < 2 ^ 32
+IsWithin (solve file budget proof) = budget ≤ 1000000000
 IsWithin (eliminate file budget) = budget < 2 ^ 32
-IsWithin (drill count budget) = (count ≤ 1000) × (budget < 2 ^ 32)
+IsWithin (check file proof) = Unit {0}
+IsWithin (drill count budget) = (count ≤ 1000) × (budget ≤ 1000000000)
+
+-- the answer of `check` to the bytes of a problem's file, and to the proof's file of the bytes that are told
+abbrev pub AnswersWithProof : Option (List ℕ) → List ℕ → Answer → Type 0
+AnswersWithProof told bytes = AnswersSource most_of_proof (λ proof. IsChecked proof bytes) told
 
 -- the answer of each job
 abbrev pub AnswersTask : (List ℕ → Option (List ℕ)) → Task → Answer → Type 0
-AnswersTask bytes_of (solve file budget) = AnswersSource (IsSolved budget) (bytes_of file)
-AnswersTask bytes_of (eliminate file budget) = AnswersSource (IsEliminated budget) (bytes_of file)
+AnswersTask bytes_of (solve file budget proof) = AnswersSource most_of_file (IsSolvedAs proof budget) (bytes_of file)
+AnswersTask bytes_of (eliminate file budget) = AnswersSource most_of_file (IsEliminated budget) (bytes_of file)
+AnswersTask bytes_of (check file proof) = AnswersSource most_of_file (AnswersWithProof (bytes_of proof)) (bytes_of file)
 AnswersTask bytes_of (drill count budget) = IsDrilled budget count
 
 -- the name is that of a file of the job
@@ -44,19 +53,37 @@ IsJobFile task name = (file : List ℕ) × Contains (files_of task) file × (nam
 abbrev pub BrokeAt : Task → Option (List ℕ) → Bool → Type 0
 BrokeAt task name broken = (file : List ℕ) × Contains (files_of task) file × Broke (Some file) name broken
 
--- the bytes of a file, where they are told, read as a problem of which the text put says that it is valid
-pub record SaysValid (w : Meaning) (told before after : Option (List ℕ)) : Type 0 where
+-- the bytes of a file, where they are told, read as a problem of which the text put says that it is valid; behind it comes nothing,
+-- or the part with a proof of that, where the proof is asked for
+pub record SaysValid (w : Meaning) (asked : Bool) (told before after : Option (List ℕ)) : Type 0 where
+  pub bytes : List ℕ
+  pub whole : IsWhole told bytes
+  pub text : List ℕ
+  pub part : List ℕ
+  pub put : PutsAll before after (text ++ part)
+  pub valid : Validates w bytes text
+  pub none : asked ≡ false → part ≡ []
+  pub proved : asked ≡ true → (vs : List ℤ) × PrintsProofOf bytes (verdict.Valid vs) part
+
+-- the bytes of a file, where they are told, read as a problem of which the text put says what is so
+pub record SaysChecked (w : Meaning) (told before after : Option (List ℕ)) : Type 0 where
   pub bytes : List ℕ
   pub whole : IsWhole told bytes
   pub text : List ℕ
   pub put : PutsAll before after text
-  pub valid : Validates w bytes text
+  pub confirms : Confirms w bytes text
 
--- the bytes of a file, where they are told, read as a problem that is refuted
-pub record SaysRefuted (told : Option (List ℕ)) : Type 0 where
+-- the bytes of a file, where they are told, read as a problem that is refuted; behind the text put comes nothing, or the part with a
+-- proof of that, where the proof is asked for
+pub record SaysRefuted (asked : Bool) (told before after : Option (List ℕ)) : Type 0 where
   pub bytes : List ℕ
   pub whole : IsWhole told bytes
+  pub text : List ℕ
+  pub part : List ℕ
+  pub put : PutsAll before after (text ++ part)
   pub refuted : Refutes bytes
+  pub none : asked ≡ false → part ≡ []
+  pub proved : asked ≡ true → PrintsProofOf bytes verdict.Invalid part
 
 -- the bytes of a file, where they are told, read as a problem, and the text put is a constraint that is true exactly where it holds
 pub record SaysConstraint (w : Meaning) (told before after : Option (List ℕ)) : Type 0 where
@@ -72,6 +99,14 @@ pub record IsSolveCaused (budget : ℕ) (bytes : List ℕ) (answer : Answer) : T
   pub causes : solve_causes.Causes budget bytes answer
   pub decides : solve_causes.Decides budget bytes answer
   pub enough : IsEnough budget bytes
+
+-- such an answer with the proof behind it, where that is asked for
+pub record IsSolveCausedAs (asked : Bool) (budget : ℕ) (bytes : List ℕ) (answer : Answer) : Type 0 where
+  pub plain : Answer
+  pub part : List ℕ
+  pub whole : answer ≡ extended plain part
+  pub none : asked ≡ false → part ≡ []
+  pub caused : IsSolveCaused budget bytes plain
 
 -- the same of `elim`
 pub record IsElimCaused (budget : ℕ) (bytes : List ℕ) (answer : Answer) : Type 0 where

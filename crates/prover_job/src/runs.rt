@@ -1,12 +1,12 @@
 // The top call: the words, then the files of their job, then its answer, then the text of the answer.
 
 ghost use Rattle.answers.specs.Answer.{IsStatus, words_answer};
-ghost use Rattle.answers.specs.Files.{AnswersSource};
+ghost use Rattle.answers.specs.Files.{AnswersSource, most_of_file};
 ghost use Rattle.answers.specs.Outside.{Meets};
-ghost use Rattle.job_words.specs.Jobs.{NamesJob, Task, drill, eliminate, files_of, solve, task_of};
+ghost use Rattle.job_words.specs.Jobs.{NamesJob, Task, check, drill, eliminate, files_of, solve, task_of};
 ghost use Rattle.prover_io.specs.Outside.{Rose};
-ghost use Rattle.prover_job.specs.Runs.{AnswersTask, BrokeAt, IsDrillCaused, IsElimCaused, IsJobFile, IsSolveCaused, IsWithin, NameNoFile, NameNoJob, SaysConstraint, SaysRefuted, SaysValid};
-ghost use Rattle.std.specs.Prelude.{◌≡◌, ◌≢◌, ◌⊎◌, ℕ, List, [], map, string_bytes};
+ghost use Rattle.prover_job.specs.Runs.{AnswersTask, BrokeAt, IsDrillCaused, IsElimCaused, IsJobFile, IsSolveCausedAs, IsWithin, NameNoFile, NameNoJob, SaysChecked, SaysConstraint, SaysRefuted, SaysValid};
+ghost use Rattle.std.specs.Prelude.{◌≡◌, ◌≢◌, ◌⊎◌, ℕ, Bool, List, [], map, string_bytes};
 
 use crate::tasks::{Stop, job_output};
 use answers::put_answer;
@@ -16,9 +16,9 @@ use prover_io::{Sink, Source};
 use std::alloc::Global;
 use typed_formula::World;
 
-/// Does the job that the words name, and answers the exit status: 0 valid, or the constraint is made, 1 invalid, 2 unknown,
-/// 3 the file is refused, 5 the words name no job, 6 the source failed, 7 the sink failed, 8 no memory, 9 the file is too
-/// long. `drill` answers as `solve` does to the problem that it makes. The interpretation has no call, so what is promised in
+/// Does the job that the words name, and answers the exit status: 0 valid, or the constraint is made, or the proof is accepted,
+/// 1 invalid, 2 unknown, 3 the file is refused, 4 the proof is refused, 5 the words name no job, 6 the source failed, 7 the sink
+/// failed, 8 no memory, 9 the file or the proof's file is too long. `drill` answers as `solve` does to the problem that it makes. The interpretation has no call, so what is promised in
 /// it is promised in every one.
 pub fn run<S: Source, K: Sink, W: World>(
     alloc: Global,
@@ -30,16 +30,18 @@ pub fn run<S: Source, K: Sink, W: World>(
     ensures answered { (task : Task) → NamesJob (map string_bytes words.now) task
         → Meets (AnswersTask (S.bytes_of source.old) task) result (K.taken sink.old) (K.taken sink.new) }
     ensures no_job { NameNoJob (map string_bytes words.now) → Meets (λ answer. answer ≡ words_answer) result (K.taken sink.old) (K.taken sink.new) }
-    ensures valid { (file : List ℕ) (budget : ℕ) → NamesJob (map string_bytes words.now) (solve file budget) → result ≡ 0
-        → SaysValid (record { truth = W.truth world.now; value = W.value world.now }) (S.bytes_of source.old file) (K.taken sink.old) (K.taken sink.new) }
-    ensures refuted { (file : List ℕ) (budget : ℕ) → NamesJob (map string_bytes words.now) (solve file budget) → result ≡ 1
-        → SaysRefuted (S.bytes_of source.old file) }
+    ensures valid { (file : List ℕ) (budget : ℕ) (proof : Bool) → NamesJob (map string_bytes words.now) (solve file budget proof) → result ≡ 0
+        → SaysValid (record { truth = W.truth world.now; value = W.value world.now }) proof (S.bytes_of source.old file) (K.taken sink.old) (K.taken sink.new) }
+    ensures refuted { (file : List ℕ) (budget : ℕ) (proof : Bool) → NamesJob (map string_bytes words.now) (solve file budget proof) → result ≡ 1
+        → SaysRefuted proof (S.bytes_of source.old file) (K.taken sink.old) (K.taken sink.new) }
+    ensures checked { (file proof : List ℕ) → NamesJob (map string_bytes words.now) (check file proof) → result ≡ 0
+        → SaysChecked (record { truth = W.truth world.now; value = W.value world.now }) (S.bytes_of source.old file) (K.taken sink.old) (K.taken sink.new) }
     ensures constraint { (file : List ℕ) (budget : ℕ) → NamesJob (map string_bytes words.now) (eliminate file budget) → result ≡ 0
         → SaysConstraint (record { truth = W.truth world.now; value = W.value world.now }) (S.bytes_of source.old file) (K.taken sink.old) (K.taken sink.new) }
-    ensures solve_causes { (file : List ℕ) (budget : ℕ) → NamesJob (map string_bytes words.now) (solve file budget)
-        → Meets (AnswersSource (IsSolveCaused budget) (S.bytes_of source.old file)) result (K.taken sink.old) (K.taken sink.new) }
+    ensures solve_causes { (file : List ℕ) (budget : ℕ) (proof : Bool) → NamesJob (map string_bytes words.now) (solve file budget proof)
+        → Meets (AnswersSource most_of_file (IsSolveCausedAs proof budget) (S.bytes_of source.old file)) result (K.taken sink.old) (K.taken sink.new) }
     ensures elim_causes { (file : List ℕ) (budget : ℕ) → NamesJob (map string_bytes words.now) (eliminate file budget)
-        → Meets (AnswersSource (IsElimCaused budget) (S.bytes_of source.old file)) result (K.taken sink.old) (K.taken sink.new) }
+        → Meets (AnswersSource most_of_file (IsElimCaused budget) (S.bytes_of source.old file)) result (K.taken sink.old) (K.taken sink.new) }
     ensures drilled { (count budget : ℕ) → NamesJob (map string_bytes words.now) (drill count budget)
         → Meets (IsDrillCaused (record { truth = W.truth world.now; value = W.value world.now }) budget count) result (K.taken sink.old) (K.taken sink.new) }
     ensures unread { NameNoFile (map string_bytes words.now) → source.new ≡ source.old }

@@ -1,15 +1,15 @@
 // What each job answers, from its files; nothing is put yet.
 
 ghost use Rattle.answers.specs.Answer.{answer_of, long_answer};
-ghost use Rattle.answers.specs.Files.{AnswersSource};
+ghost use Rattle.answers.specs.Files.{AnswersSource, most_of_file};
 ghost use Rattle.elim_job.specs.Eliminated.{IsEliminated};
-ghost use Rattle.job_words.specs.Jobs.{files_of, task_of};
+ghost use Rattle.job_words.specs.Jobs.{check, files_of, task_of};
 ghost use Rattle.prover_io.specs.Outside.{Broke, Rose};
 ghost use Rattle.prover_io.specs.declared.whole.ReadFault.{ReadFault};
-ghost use Rattle.prover_job.specs.Runs.{AnswersTask, BrokeAt, IsJobFile, IsWithin};
+ghost use Rattle.prover_job.specs.Runs.{AnswersTask, AnswersWithProof, BrokeAt, IsJobFile, IsWithin};
 ghost use Rattle.prover_job.specs.declared.tasks.Stop.{Stop};
-ghost use Rattle.solve_job.specs.Solved.{IsSolved};
-ghost use Rattle.std.specs.Prelude.{◌≡◌, ◌≢◌, ◌<◌, ◌^◌, IfOk, IsErrOf, Some, []};
+ghost use Rattle.solve_job.specs.Proved.{IsSolvedAs};
+ghost use Rattle.std.specs.Prelude.{◌≡◌, ◌≢◌, ◌<◌, ◌≤◌, ◌^◌, length, IfOk, IsErrOf, Some, []};
 
 use answers::status::FILE_TOO_LONG;
 use answers::{Output, say};
@@ -20,6 +20,9 @@ use std::alloc::Global;
 
 // How many bytes a problem's file has at most.
 const FILE: u64 = 1_048_576;
+
+// How many bytes a proof's file has at most.
+const PROOF: u64 = 67_108_864;
 
 /// Why a job has no answer.
 #[derive(Clone, Copy, Debug, PartialEq, Eq)]
@@ -53,27 +56,33 @@ pub(crate) fn job_output<S: Source>(
     ensures unread { files_of (task_of job.now) ≡ [] → source.new ≡ source.old }
 {
     match job {
-        Job::Solve { file, budget } => solve_output(alloc, source, file.as_str(), *budget),
+        Job::Solve {
+            file,
+            budget,
+            proof,
+        } => solve_output(alloc, source, file.as_str(), *budget, *proof),
+        Job::Check { file, proof } => check_output(alloc, source, file.as_str(), proof.as_str()),
         Job::Elim { file, budget } => elim_output(alloc, source, file.as_str(), *budget),
         Job::Drill { count, budget } => Ok(drill_job::answer(alloc, *count, *budget)?),
     }
 }
 
-// What `solve` answers to a file.
+// What `solve` answers to a file, with the proof or without.
 fn solve_output<S: Source>(
     alloc: Global,
     source: &mut S,
     file: &str,
     budget: u64,
+    proof: bool,
 ) -> Result<Output, Stop>
-    requires { budget < 2 ^ 32 }
-    ensures answered { IfOk result (λ output. AnswersSource (IsSolved budget) (S.bytes_of source.old file.now) (answer_of output)) }
+    requires { budget ≤ 1000000000 }
+    ensures answered { IfOk result (λ output. AnswersSource most_of_file (IsSolvedAs proof budget) (S.bytes_of source.old file.now) (answer_of output)) }
     ensures rose { IsErrOf result Stop.Source → Rose (S.faults source.old) (S.faults source.new) }
     ensures broke { IsErrOf result Stop.Source → Broke (Some file.now) (S.at source.new) (S.broken source.new) }
     ensures begun { ¬ (IsErrOf result Stop.Memory) → S.at source.new ≡ Some file.now }
 {
     match read_all(alloc, source, file, FILE) {
-        Ok(bytes) => Ok(solve_job::answer(alloc, bytes.as_slice(), budget)?),
+        Ok(bytes) => Ok(solve_job::answer(alloc, bytes.as_slice(), budget, proof)?),
         Err(fault) => unread(alloc, fault),
     }
 }
@@ -86,13 +95,50 @@ fn elim_output<S: Source>(
     budget: u64,
 ) -> Result<Output, Stop>
     requires { budget < 2 ^ 32 }
-    ensures answered { IfOk result (λ output. AnswersSource (IsEliminated budget) (S.bytes_of source.old file.now) (answer_of output)) }
+    ensures answered { IfOk result (λ output. AnswersSource most_of_file (IsEliminated budget) (S.bytes_of source.old file.now) (answer_of output)) }
     ensures rose { IsErrOf result Stop.Source → Rose (S.faults source.old) (S.faults source.new) }
     ensures broke { IsErrOf result Stop.Source → Broke (Some file.now) (S.at source.new) (S.broken source.new) }
     ensures begun { ¬ (IsErrOf result Stop.Memory) → S.at source.new ≡ Some file.now }
 {
     match read_all(alloc, source, file, FILE) {
         Ok(bytes) => Ok(elim_job::answer(alloc, bytes.as_slice(), budget)?),
+        Err(fault) => unread(alloc, fault),
+    }
+}
+
+// What `check` answers to a problem's file and a proof's file.
+fn check_output<S: Source>(
+    alloc: Global,
+    source: &mut S,
+    file: &str,
+    proof: &str,
+) -> Result<Output, Stop>
+    ensures answered { IfOk result (λ output. AnswersTask (S.bytes_of source.old) (check file.now proof.now) (answer_of output)) }
+    ensures rose { IsErrOf result Stop.Source → Rose (S.faults source.old) (S.faults source.new) }
+    ensures broke { IsErrOf result Stop.Source → BrokeAt (check file.now proof.now) (S.at source.new) (S.broken source.new) }
+    ensures begun { ¬ (IsErrOf result Stop.Memory) → IsJobFile (check file.now proof.now) (S.at source.new) }
+{
+    match read_all(alloc, source, file, FILE) {
+        Ok(bytes) => proof_output(alloc, source, bytes.as_slice(), proof),
+        Err(fault) => unread(alloc, fault),
+    }
+}
+
+// What `check` answers to the bytes of a problem's file, and to a proof's file.
+fn proof_output<S: Source>(
+    alloc: Global,
+    source: &mut S,
+    bytes: &[u8],
+    proof: &str,
+) -> Result<Output, Stop>
+    requires { length bytes.now < 2 ^ 32 }
+    ensures answered { IfOk result (λ output. AnswersWithProof (S.bytes_of source.old proof.now) bytes.now (answer_of output)) }
+    ensures rose { IsErrOf result Stop.Source → Rose (S.faults source.old) (S.faults source.new) }
+    ensures broke { IsErrOf result Stop.Source → Broke (Some proof.now) (S.at source.new) (S.broken source.new) }
+    ensures begun { ¬ (IsErrOf result Stop.Memory) → S.at source.new ≡ Some proof.now }
+{
+    match read_all(alloc, source, proof, PROOF) {
+        Ok(text) => Ok(check_job::answer(alloc, bytes, text.as_slice())?),
         Err(fault) => unread(alloc, fault),
     }
 }

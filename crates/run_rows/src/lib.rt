@@ -8,6 +8,8 @@ mod interpolants;
 #[cfg(test)]
 mod limits;
 #[cfg(test)]
+mod proofs;
+#[cfg(test)]
 mod refused;
 #[cfg(test)]
 mod runs;

@@ -15,12 +15,29 @@ pub fn ends(
     source_fails: &[u64],
     sink_fails: &[u64],
 ) -> Result<(u8, Vec<u8>), Fail> {
+    ends_over(
+        alloc,
+        words,
+        &[("f", bytes), ("-", bytes)],
+        source_fails,
+        sink_fails,
+    )
+}
+
+// Runs these words over these files, and a sink that takes three bytes a call.
+pub fn ends_over(
+    alloc: Global,
+    words: &[&str],
+    named: &[(&str, &[u8])],
+    source_fails: &[u64],
+    sink_fails: &[u64],
+) -> Result<(u8, Vec<u8>), Fail> {
     let mut given = Vec::new(alloc);
     for word in words {
         given.push(String::from_str(alloc, word)?)?;
     }
     let mut files = Vec::new(alloc);
-    for name in ["f", "-"] {
+    for (name, bytes) in named {
         files.push((
             String::from_str(alloc, name)?,
             Vec::from_slice(alloc, bytes)?,

@@ -3,3 +3,4 @@ pub mod Exactly
 pub mod Grounded
 pub mod Meaning
 mod Outcomes
+pub mod Printing

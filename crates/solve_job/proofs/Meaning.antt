@@ -1,28 +1,21 @@
 -- What the answers of `solve` mean.
-use Rattle.std.proofs.Common.{◌≡◌, ◌≢◌, ℕ, zero, suc, ◌+◌, ℤ, true, List, [], ◌∷◌, ◌++◌, length, refl, sym, ◌∙◌, ap, subst, append_assoc, append-nil, length-append, codes, arith}
-use Rattle.typed_formula.specs.Formula.{formula}
+use Rattle.std.proofs.Common.{◌≡◌, ◌≢◌, ℕ, ℤ, List, [], ◌∷◌, ◌++◌, length, refl, sym, ◌∙◌, ap, codes, arith}
 use Rattle.typed_formula.specs.Truth.{Meaning}
-use Rattle.typed_formula.specs.declared.world.Table.{Table}
-use Rattle.purse.specs.Trace.{At, just, next}
-use Rattle.clause_set.specs.Literals.{dnf_truth}
-use Rattle.formula.specs.Form.{Form, FormTruth, is_pure, universal}
-use Rattle.elim_rules.specs.Presburger.{IsPresburger}
-use Rattle.elim_rules.proofs.Reduced.{presburger_of}
-use Rattle.elim_rules.proofs.Whole.{anywhere, counterexample}
+use Rattle.purse.specs.Trace.{At}
 use Rattle.proof_tree.specs.Proof.{Proof, given}
-use Rattle.search.specs.Meaning.{IsFound, IsLost, Tells}
+use Rattle.search.specs.Meaning.{IsFound, Tells}
 use Rattle.search.specs.Run as run
 use Rattle.search.specs.Run.{Ending, ends_with, out_of_steps, overflows}
-use Rattle.encoding.specs.Problems.{body, constants, problem_root}
-use Rattle.encoding.specs.Root.{for_last}
-use Rattle.encoding.proofs.Problems.{holds_is, over_constants_is, pure_is, root_over}
+use Rattle.encoding.specs.Problems.{problem_root}
+use Rattle.encoding.proofs.Problems.{holds_is, pure_is, root_over}
 use Rattle.pri_typing.specs.declared.problem.Problem.{Problem}
-use Rattle.pri_typing.specs.Problems.{Holds, IsRefuted, meaning_of}
+use Rattle.pri_typing.specs.Problems.{Holds}
 use Rattle.pri_typing.specs.WellFormed.{IsWellFormed}
-use Rattle.pri_printer.specs.Printed.{dnf_formula}
 use Rattle.answers.specs.Answer.{Answer, line}
 use Rattle.constraint_text.specs.Constraint.{IsTextOf}
-use Rattle.constraint_text.proofs.Printed.{speaks, true_where}
+use Rattle.constraint_lines.specs.Meaning.{CoversRoot}
+use Rattle.constraint_lines.proofs.Losing.{lost_refuted}
+use Rattle.constraint_lines.proofs.Supporting.{closed_holds, supports, true_there}
 use Rattle.problem_file.specs.Answers.{Poses, refused, unsupported, posed}
 use Rattle.problem_file.specs.Special.{HasPlainCuts}
 use Rattle.problem_file.specs.Encoded.{large, leaves, runs}
@@ -30,7 +23,7 @@ use Rattle.problem_file.proofs.Bytes.{reads_formed}
 use Rattle.problem_file.proofs.Supported.{poses_plain}
 use Rattle.interpolant_lines.proofs.Meaning.{blocks_mean}
 use Rattle.pri_typing.specs.declared.problem.Cut.{Cut}
-use Rattle.problem_file.proofs.Reduced.{problem_reduced, body_reduced}
+use Rattle.problem_file.proofs.Reduced.{problem_reduced}
 use Rattle.solve_job.specs.Solved.{AnswersEnd, closed, valid, invalid, saturated, branch, steps, overflow, run_end, IsSolved}
 use Rattle.solve_job.specs.Headline as headline_words
 use Rattle.solve_job.specs.Headline.{Constrains, Headline}
@@ -43,68 +36,17 @@ tells budget p a stands is =
 
 -- ---- VALID
 
+-- the constraint that was found covers the encoding
+covers : (p : Problem) (x : Proof) (vs : List ℤ) → IsFound (problem_root p).value (length p.existentials) vs x → CoversRoot p (given x) vs
+covers p x vs found = record { over = found.over; covers = found.covers; many = found.best.names; satisfies = found.best.satisfies }
+
 -- the printed constraint and values mean what the headline says
 found_constrains : (w : Meaning) (p : Problem) (x : Proof) (vs : List ℤ) (text : List ℕ) → IsWellFormed p → IsFound (problem_root p).value (length p.existentials) vs x → IsTextOf p (given x) text
     → Constrains w p text vs
 found_constrains w p x vs text formed found printed = record {
-  constraint = dnf_formula p (given x);
-  says = printed.says;
-  alone = speaks p (given x) found.over;
-  holds = λ e t. (holds_is w p e formed t.many).0 (found.covers w e t.many ((true_where w p (given x) e found.over t.many).0 t));
-  solved = (true_where w p (given x) vs found.over found.best.names).1 found.best.satisfies;
-  exact = λ pure e h. (true_where w p (given x) e found.over h.many).1 (found.exact ((pure_is p).1 pure) w e h.many ((holds_is w p e formed h.many).1 h));
+  supports = supports w p (given x) vs text formed (covers p x vs found) printed;
+  exact = λ pure e h. true_there w p (given x) vs text formed (covers p x vs found) printed e h.many (found.exact ((pure_is p).1 pure) w e h.many ((holds_is w p e formed h.many).1 h));
 }
-
-no_values : (vs : List ℤ) → length vs ≡ 0 → vs ≡ []
-no_values [] e = refl
-no_values (v ∷ vs) e = absurd (omega (arith, e))
-
--- without existential constants the problem holds
-found_closed : (w : Meaning) (p : Problem) (x : Proof) (vs : List ℤ) → IsWellFormed p → IsFound (problem_root p).value (length p.existentials) vs x → p.existentials ≡ [] → Holds w p []
-found_closed w p x vs formed found none =
-    let empty : vs ≡ [] = no_values vs (found.best.names ∙ ap length none) in
-    let many : 0 ≡ length p.existentials = sym (ap length none) in
-    (holds_is w p [] formed many).0 (found.covers w [] many (subst (λ v. dnf_truth (given x) v ≡ true) empty found.best.satisfies))
-
--- ---- INVALID
-
-presburger_last : (k : ℕ) (g : Form) → IsPresburger g → IsPresburger (for_last k g)
-presburger_last zero g h = h
-presburger_last (suc k) g h = presburger_last k g h
-
-pure_first : (k : ℕ) (g : Form) → is_pure (for_last k g) ≡ true → is_pure g ≡ true
-pure_first zero g h = h
-pure_first (suc k) g h = pure_first k g h
-
--- values of the last k names at which the formula fails
-record Witness (w : Meaning) (k : ℕ) (g : Form) (e : List ℤ) : Type 0 where
-  values : List ℤ
-  many : length values ≡ k
-  fails : ¬ (FormTruth w g (e ++ values))
-
--- a formula without predicates and functions that fails for all values of its last names has values at which it fails
-last_fails : (w : Meaning) (k : ℕ) (g : Form) (e : List ℤ) → IsPresburger g → ¬ (FormTruth w (for_last k g) e) → Witness w k g e
-last_fails w zero g e is h = record { values = []; many = refl; fails = λ t. h (subst (FormTruth w g) (append-nil e) t) }
-last_fails w (suc k) g e is h =
-    let whole = presburger_last k g is in
-    let one = counterexample (for_last k g) e whole (λ t. h ((anywhere w (universal (for_last k g)) e whole).1 t)) in
-    let rest = last_fails w k g (e ++ one.0 ∷ []) is (λ t. one.1 ((anywhere w (for_last k g) (e ++ one.0 ∷ []) whole).0 t)) in
-    record { values = one.0 ∷ rest.values; many = ap suc rest.many; fails = λ t. rest.fails (subst (FormTruth w g) (sym (append_assoc e (one.0 ∷ []) rest.values)) t) }
-
--- the table without rows
-pub no_table : Table
-no_table = record { truths = []; values = [] }
-
--- a problem that is false everywhere is refuted: its universal constants have values at which it fails
-lost_refuted : (p : Problem) → IsWellFormed p → IsLost (problem_root p).value (length p.existentials) → IsRefuted p
-unfolding next just
-lost_refuted p formed lost = λ e many.
-    let w = meaning_of no_table in
-    let k = length p.universals in
-    let g = (body p).value in
-    let at = last_fails w k g e (presburger_of g (pure_first k g lost.pure) (body_reduced p)) (lost.fails w e many) in
-    let all : length (e ++ at.values) ≡ constants p = length-append e at.values ∙ ap (λ n. n + length at.values) many ∙ ap (λ n. length p.existentials + n) at.many in
-    record { table = no_table; universals = at.values; fit = at.many; fails = λ t. at.fails ((over_constants_is w p (formula p.formula) (e ++ at.values) formed.products all).1 t) }
 
 -- ---- the headline
 
@@ -123,7 +65,7 @@ no_blocks p plain some = by p.cuts refl
 end_means : (w : Meaning) (budget : ℕ) (bytes : List ℕ) (p : Problem) (a : Answer) → Poses bytes p → AnswersEnd p (run_end budget p) a → Headline w bytes a
 end_means w budget bytes p a poses (closed vs x stands text is none told e) =
     let formed = reads_formed bytes p poses.reads in
-    let holds = found_closed w p x vs formed (tells budget p _ stands is) none in
+    let holds = closed_holds w p (given x) vs formed (covers p x vs (tells budget p _ stands is)) none in
     record {
       valid = λ z. record {
         problem = p;
@@ -143,7 +85,7 @@ end_means w budget bytes p a poses (valid vs x stands text is some printed e) = 
 }
 end_means w budget bytes p a poses (invalid log x stands is e) = record {
   valid = λ z. let bad = sym z ∙ ap (λ b. b.status) e in absurd cc;
-  invalid = λ z. record { problem = p; reads = poses.reads; refuted = lost_refuted p (reads_formed bytes p poses.reads) (tells budget p _ stands is) };
+  invalid = λ z. record { problem = p; reads = poses.reads; refuted = (let lost = tells budget p _ stands is in lost_refuted p (reads_formed bytes p poses.reads) lost.pure lost.fails) };
 }
 end_means w budget bytes p a poses (saturated log x stands is e) = silent w bytes a 2 (ap (λ b. b.status) e) (λ z. cc) (λ z. cc)
 end_means w budget bytes p a poses (branch stands is e) = silent w bytes a 2 (ap (λ b. b.status) e) (λ z. cc) (λ z. cc)

@@ -1,10 +1,8 @@
 -- What the outcome of a search is for the problem, and what is told of it.
-use Rattle.std.proofs.Common.{◌≡◌, ℕ, ◌≤◌, ◌<◌, [], Bool, true, false, ◌||◌, nat_lt, length, Result, Ok, Err, IfOk, refl, sym, ◌∙◌, ap, subst, arith}
-use Rattle.std.proofs.lemmas.Grind.{common_steps}
+use Rattle.std.proofs.Common.{◌≡◌, ℕ, ◌≤◌, ◌<◌, [], length, Result, Ok, Err, IfOk, refl, sym, ◌∙◌, ap, subst, arith}
 use Rattle.linear_term.specs.declared.range.Memory.{Memory}
 use Rattle.purse.specs.Trace.{Funds, At, at, End, done, refused, out_of_range, cut, stand}
 use Rattle.formula.specs.Form.{Form}
-use Rattle.formula.specs.Sizes.{size, depth}
 use Rattle.formula.specs.Tree.{form}
 use Rattle.elim_rules.specs.Whole.{AreOver}
 use Rattle.proof_tree.specs.declared.run.Why.TheVariants as why
@@ -13,7 +11,7 @@ use Rattle.search.specs.declared.judge.Outcome.TheVariants.{Valid, Invalid, Unkn
 use Rattle.search.specs.Outcomes.{EndsAs}
 use Rattle.search.specs.Run as run
 use Rattle.search.specs.Run.{Ending, ended, ending, ends_with, out_of_steps, overflows, canonical_run}
-use Rattle.encoding.specs.Problems.{is_large, problem_root}
+use Rattle.encoding.specs.Problems.{problem_root}
 use Rattle.function_encoding.specs.declared.answer.Encoded.{Encoded}
 use Rattle.pri_typing.specs.declared.problem.Problem.{Problem}
 use Rattle.answers.specs.Answer.{Answer, answer_of}
@@ -25,27 +23,12 @@ use Rattle.solve_job.specs.Solved.{closed, valid, invalid, saturated, branch, st
 use Rattle.solve_job.specs.Told.{IsFitting, alone, lines, TellsOutcome}
 use Rattle.solve_job.proofs.Meaning.{tells}
 
--- ---- what is not too large
-
-neither : (a b : Bool) → (a || b) ≡ false → (a ≡ false) × (b ≡ false)
-neither true b h = absurd cc
-neither false b h = (refl, h)
-
-not_above : (most n : ℕ) → nat_lt most n ≡ false → n ≤ most
-not_above most n h = grind (arith, common_steps)
-
-pub small_size : (f : Form) → is_large f ≡ false → size f ≤ 1000000
-small_size f small = not_above 1000000 (size f) (neither (nat_lt 1000000 (size f)) (nat_lt 2000 (depth f)) small).0
-
-pub small_depth : (f : Form) → is_large f ≡ false → depth f ≤ 2000
-small_depth f small = not_above 2000 (depth f) (neither (nat_lt 1000000 (size f)) (nat_lt 2000 (depth f)) small).1
-
 -- ---- the run of the code is that of the problem
 
-abbrev start : ℕ → Funds
+abbrev pub start : ℕ → Funds
 start budget = record { budget = budget; spent = 0 }
 
-run_is : (budget : ℕ) (p : Problem) (e : Encoded) → IsEncoded p e → ending (canonical_run (form e.root) e.constants budget) (at (start budget) []) ≡ run_end budget p
+pub run_is : (budget : ℕ) (p : Problem) (e : Encoded) → IsEncoded p e → ending (canonical_run (form e.root) e.constants budget) (at (start budget) []) ≡ run_end budget p
 run_is budget p e h =
     let from : Form → ℕ → Ending run.Answer = λ f n. ending (canonical_run f n budget) (at (start budget) []) in
     ap (λ f. from f e.constants) h.root ∙ ap (from (problem_root p).value) h.constants

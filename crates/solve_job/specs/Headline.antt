@@ -1,24 +1,20 @@
 -- What the answers of `solve` mean.
 use Rattle.std.specs.Prelude.{◌≡◌, ◌≢◌, ℕ, ℤ, List, [], ◌++◌, codes}
 use Rattle.std.specs.List.{concat}
-use Rattle.typed_formula.specs.Formula.{Formula}
 use Rattle.typed_formula.specs.Truth.{Meaning}
 use Rattle.pri_typing.specs.declared.problem.Problem.{Problem}
-use Rattle.pri_typing.specs.Problems.{Holds, IsPure, IsRefuted, IsTrueAt, Says, SpeaksOfExistentials}
+use Rattle.pri_typing.specs.Problems.{Holds, IsPure, IsRefuted, IsTrueAt}
 use Rattle.answers.specs.Answer.{Answer, line}
 use Rattle.problem_file.specs.Reads.{Reads}
+use Rattle.constraint_lines.specs.Meaning.{Supports}
 use Rattle.interpolant_lines.specs.Meaning.{AreInterpolantLines}
 use Rattle.solve_job.specs.Solved.{valid_answer}
 
 -- the printed constraint x and values vs of a problem: at each value of the existential constants satisfying the constraint the
 -- problem holds; the printed values satisfy it; without predicates and functions it is exact
 pub record Constrains (w : Meaning) (p : Problem) (x : List ℕ) (vs : List ℤ) : Type 0 where
-  pub constraint : Formula
-  pub says : Says x p constraint
-  pub alone : SpeaksOfExistentials p constraint
-  pub holds : (e : List ℤ) → IsTrueAt w p constraint e → Holds w p e
-  pub solved : IsTrueAt w p constraint vs
-  pub exact : IsPure p → (e : List ℤ) → Holds w p e → IsTrueAt w p constraint e
+  pub supports : Supports w p x vs
+  pub exact : IsPure p → (e : List ℤ) → Holds w p e → IsTrueAt w p supports.constraint e
 
 -- the text says that the problem is valid: without existential constants it holds, and there is a line for each `\interpolant`
 -- block; else a constraint and values are printed, and there is no block

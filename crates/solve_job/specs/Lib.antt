@@ -3,3 +3,5 @@ pub mod Ground
 pub mod Headline
 pub mod Solved
 pub mod Told
+pub mod Proved
+pub mod Shaping

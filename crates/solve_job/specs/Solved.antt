@@ -7,21 +7,17 @@ use Rattle.proof_tree.specs.Proof.{Proof, given}
 use Rattle.search.specs.Run as run
 use Rattle.search.specs.Run.{Ending, ending, ends_with, out_of_steps, overflows, canonical_run}
 use Rattle.pri_typing.specs.declared.problem.Problem.{Problem}
-use Rattle.pri_printer.specs.Printed.{solution_text}
 use Rattle.encoding.specs.Problems.{problem_root}
 use Rattle.answers.specs.Answer.{Answer, line, says_line, unknown_answer}
-use Rattle.constraint_text.specs.Constraint.{IsTextOf, constraint_line}
+use Rattle.constraint_text.specs.Constraint.{IsTextOf}
+use Rattle.constraint_lines.specs.Lines.{valued_lines}
 use Rattle.interpolant_lines.specs.Blocks.{IsBlocksText}
 use Rattle.problem_file.specs.Answers.{AnswersFile}
 use Rattle.problem_file.specs.Encoded.{AnswersEncoded}
 
--- the line with the values of the existential constants
-abbrev pub solution_line : Problem → List ℤ → List ℕ
-solution_line p vs = line (codes "solution: " ++ solution_text p vs)
-
 -- the answer that a problem with existential constants is valid, with a constraint and values
 abbrev pub valid_answer : Problem → List ℕ → List ℤ → Answer
-valid_answer p x vs = record { status = 0; text = line (codes "VALID") ++ (constraint_line x ++ solution_line p vs) }
+valid_answer p x vs = record { status = 0; text = line (codes "VALID") ++ valued_lines p x vs }
 
 -- the answer that a problem without existential constants is valid, with the lines of its `\interpolant` blocks
 abbrev pub closed_answer : List ℕ → Answer

@@ -8,10 +8,10 @@ use Rattle.search.specs.declared.judge.Outcome.{Outcome}
 use Rattle.search.specs.declared.judge.Outcome.TheVariants.{Valid, Invalid, Unknown}
 use Rattle.pri_typing.specs.declared.problem.Problem.{Problem}
 use Rattle.answers.specs.Answer.{Answer, says_line, unknown_answer}
-use Rattle.constraint_text.specs.Constraint.{IsTextOf}
+use Rattle.constraint_lines.specs.Lines.{AreValuedLines}
 use Rattle.interpolant_lines.specs.Blocks.{IsBlocksText}
 use Rattle.purse.specs.Trace.{Funds}
-use Rattle.solve_job.specs.Solved.{closed_answer, valid_answer}
+use Rattle.solve_job.specs.Solved.{closed_answer}
 
 -- a constraint that was found is over the existential constants, and there is a value for each of them
 abbrev pub IsFitting : Problem → Outcome → Type 0
@@ -24,14 +24,10 @@ IsFitting p (Unknown y r) = Unit {0}
 abbrev pub AreClosedLines : Problem → Funds → Answer → Type 0
 AreClosedLines p left answer = (blocks : List ℕ) × IsBlocksText p left blocks × (answer ≡ closed_answer blocks)
 
--- the lines that say that a problem with existential constants is valid, with the constraint d and the values vs
-abbrev pub AreValidLines : Problem → List (List Literal) → List ℤ → List ℕ → Type 0
-AreValidLines p d vs text = (x : List ℕ) × IsTextOf p d x × (text ≡ (valid_answer p x vs).text)
-
 -- the answer says that the problem is valid
 pub data IsValidTold (p : Problem) (left : Funds) (d : List (List Literal)) (vs : List ℤ) (answer : Answer) : Type 0 where
   alone : p.existentials ≡ [] → AreClosedLines p left answer → IsValidTold p left d vs answer
-  lines : (text : List ℕ) → p.existentials ≢ [] → AreValidLines p d vs text → answer ≡ record { status = 0; text = text } → IsValidTold p left d vs answer
+  lines : (text : List ℕ) → p.existentials ≢ [] → AreValuedLines (codes "VALID") p d vs text → answer ≡ record { status = 0; text = text } → IsValidTold p left d vs answer
 
 -- what a search without an answer has met
 abbrev pub cause_text : Why → List ℕ

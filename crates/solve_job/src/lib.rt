@@ -2,6 +2,7 @@
 #![tactic(auto)]
 
 mod laws;
+mod proving;
 mod solving;
 mod telling;
 

@@ -4,9 +4,10 @@ ghost use Rattle.answers.specs.Answer.{answer_of};
 ghost use Rattle.pri_typing.specs.WellFormed.{HasDistinctNames, HasIdentifiers, IsWellFormed};
 ghost use Rattle.problem_file.specs.Encoded.{AnswersEncoded, IsEncoded};
 ghost use Rattle.problem_file.specs.Special.{HasPlainCuts};
-ghost use Rattle.solve_job.specs.Solved.{AnswersRun, IsSolved};
-ghost use Rattle.std.specs.Prelude.{◌<◌, ◌^◌, length, IfOk};
+ghost use Rattle.solve_job.specs.Proved.{AnswersRunAs, IsSolvedAs};
+ghost use Rattle.std.specs.Prelude.{◌≤◌, ◌<◌, ◌^◌, length, IfOk};
 
+use crate::proving::tell_proof;
 use crate::telling::tell;
 use answers::Output;
 use function_encoding::Encoded;
@@ -17,29 +18,34 @@ use purse::Purse;
 use search::prove;
 use std::alloc::Global;
 
-/// The answer of `solve` with a budget to a problem's file of these bytes.
-pub fn answer(alloc: Global, bytes: &[u8], budget: u64) -> Result<Output, Memory>
+/// The answer of `solve` with a budget to a problem's file of these bytes, with the proof behind it where that is asked for.
+pub fn answer(alloc: Global, bytes: &[u8], budget: u64, proof: bool) -> Result<Output, Memory>
     requires bytes { length bytes.now < 2 ^ 32 }
-    requires budget { budget < 2 ^ 32 }
-    ensures { IfOk result (λ output. IsSolved budget bytes.now (answer_of output)) }
+    requires budget { budget ≤ 1000000000 }
+    ensures { IfOk result (λ output. IsSolvedAs proof budget bytes.now (answer_of output)) }
 {
     match read_problem(alloc, bytes) {
-        Ok(problem) => problem_answer(alloc, &problem, budget),
+        Ok(problem) => problem_answer(alloc, &problem, budget, proof),
         Err(fault) => refuse(alloc, fault),
     }
 }
 
 // The answer to a problem.
-fn problem_answer(alloc: Global, problem: &Problem, budget: u64) -> Result<Output, Memory>
+fn problem_answer(
+    alloc: Global,
+    problem: &Problem,
+    budget: u64,
+    proof: bool,
+) -> Result<Output, Memory>
     requires well_formed { IsWellFormed problem.now }
     requires distinct { HasDistinctNames problem.now }
     requires identifiers { HasIdentifiers problem.now }
     requires cuts { HasPlainCuts problem.now }
-    requires budget { budget < 2 ^ 32 }
-    ensures { IfOk result (λ output. AnswersEncoded (AnswersRun budget) problem.now (answer_of output)) }
+    requires budget { budget ≤ 1000000000 }
+    ensures { IfOk result (λ output. AnswersEncoded (AnswersRunAs proof budget) problem.now (answer_of output)) }
 {
     match encode_problem(alloc, problem) {
-        Ok(encoded) => run_answer(alloc, problem, &encoded, budget),
+        Ok(encoded) => run_answer(alloc, problem, &encoded, budget, proof),
         Err(refusal) => refuse_encoding(alloc, refusal),
     }
 }
@@ -50,16 +56,21 @@ fn run_answer(
     problem: &Problem,
     encoded: &Encoded,
     budget: u64,
+    proof: bool,
 ) -> Result<Output, Memory>
     requires well_formed { IsWellFormed problem.now }
     requires distinct { HasDistinctNames problem.now }
     requires identifiers { HasIdentifiers problem.now }
     requires cuts { HasPlainCuts problem.now }
     requires encoded { IsEncoded problem.now encoded.now }
-    requires budget { budget < 2 ^ 32 }
-    ensures { IfOk result (λ output. AnswersRun budget problem.now (answer_of output)) }
+    requires budget { budget ≤ 1000000000 }
+    ensures { IfOk result (λ output. AnswersRunAs proof budget problem.now (answer_of output)) }
 {
     let mut purse = Purse::new(budget);
     let outcome = prove(alloc, &encoded.root, encoded.constants, &mut purse)?;
-    tell(alloc, problem, &outcome, &mut purse)
+    let plain = tell(alloc, problem, &outcome, &mut purse)?;
+    if proof {
+        return tell_proof(alloc, plain, &outcome);
+    }
+    Ok(plain)
 }

@@ -5,16 +5,15 @@ ghost use Rattle.elim_rules.specs.Whole.{AreOver};
 ghost use Rattle.pri_typing.specs.WellFormed.{HasDistinctNames, HasIdentifiers, IsWellFormed};
 ghost use Rattle.encoding.specs.Problems.{is_large, problem_root};
 ghost use Rattle.problem_file.specs.Special.{HasPlainCuts};
-ghost use Rattle.solve_job.specs.Told.{AreClosedLines, AreValidLines, IsFitting, IsValidTold, TellsOutcome, cause_text};
+ghost use Rattle.solve_job.specs.Told.{AreClosedLines, IsFitting, IsValidTold, TellsOutcome, cause_text};
 ghost use Rattle.std.specs.Prelude.{◌≡◌, ◌<◌, ◌^◌, false, length, IfOk};
 
 use answers::status::{INVALID, VALID};
 use answers::{Output, say, unknown};
 use clause_set::Dnf;
-use constraint_text::constraint_line;
+use constraint_lines::valued_lines;
 use interpolant_lines::interpolant_lines;
 use linear_term::Memory;
-use pri_printer::print_solution;
 use pri_typing::Problem;
 use proof_tree::Why;
 use purse::Purse;
@@ -84,7 +83,7 @@ fn valid(
     if problem.existentials.is_empty() {
         return closed(alloc, problem, purse);
     }
-    let text = valid_lines(alloc, problem, constraint, solution)?;
+    let text = valued_lines(alloc, b"VALID", problem, constraint, solution)?;
     Ok(Output {
         status: VALID,
         text,
@@ -108,28 +107,4 @@ fn closed(alloc: Global, problem: &Problem, purse: &mut Purse) -> Result<Output,
         status: VALID,
         text,
     })
-}
-
-// The lines of the constraint and of the values behind VALID.
-fn valid_lines(
-    alloc: Global,
-    problem: &Problem,
-    constraint: &Dnf,
-    solution: &[i128],
-) -> Result<Vec<u8>, Memory>
-    requires well_formed { IsWellFormed problem.now }
-    requires distinct { HasDistinctNames problem.now }
-    requires identifiers { HasIdentifiers problem.now }
-    requires over { AreOver (length problem.now.existentials) constraint.now }
-    requires values { length solution.now ≡ length problem.now.existentials }
-    ensures { IfOk result (λ text. AreValidLines problem.now constraint.now solution.now text.items) }
-{
-    let constraint = constraint_line(alloc, problem, constraint)?;
-    let values = print_solution(alloc, problem, solution)?;
-    let mut text = Vec::from_slice(alloc, b"VALID\n")?;
-    text.extend_from_slice(constraint.as_slice())?;
-    text.extend_from_slice(b"solution: ")?;
-    text.extend_from_slice(values.as_slice())?;
-    text.push(b'\n')?;
-    Ok(text)
 }

@@ -12,9 +12,16 @@ fn named(alloc: Global, words: &[&str]) -> Result<String, Fail> {
         given.push(String::from_str(alloc, word)?)?;
     }
     match job(alloc, given.as_slice()) {
-        Ok(Job::Solve { file, budget }) => Ok(format!(in alloc; "solve {file} {budget}")?),
+        Ok(
+            Job::Solve {
+                file,
+                budget,
+                proof,
+            },
+        ) => Ok(format!(in alloc; "solve {file} {budget} {proof}")?),
         Ok(Job::Elim { file, budget }) => Ok(format!(in alloc; "elim {file} {budget}")?),
         Ok(Job::Drill { count, budget }) => Ok(format!(in alloc; "drill {count} {budget}")?),
+        Ok(Job::Check { file, proof }) => Ok(format!(in alloc; "check {file} {proof}")?),
         Err(WordsFault::Words) => Ok(String::from_str(alloc, "no job")?),
         Err(WordsFault::Memory) => Ok(String::from_str(alloc, "no memory")?),
     }
@@ -30,38 +37,47 @@ fn check(rt: &impl Abort, alloc: Global, rows: &[(&[&str], &str)]) -> Result<(),
 
 #[test]
 fn words_name_jobs(rt: HostRuntime) -> Result<(), Fail> {
-    let rows: [(&[&str], &str); 18] = [
-        (&["solve", "f"], "solve f 50000000"),
+    let rows: [(&[&str], &str); 24] = [
+        (&["solve", "f"], "solve f 50000000 false"),
         (&["elim", "f"], "elim f 50000000"),
-        (&["solve", "f", "--budget", "1"], "solve f 1"),
+        (&["solve", "f", "--budget", "1"], "solve f 1 false"),
         (
             &["elim", "--budget", "1000000000", "f"],
             "elim f 1000000000",
         ),
-        (&["solve", "--budget=0000000007", "f"], "solve f 7"),
-        (&["solve", "-"], "solve - 50000000"),
-        (&["solve", ""], "solve  50000000"),
-        (&["solve", "solve"], "solve solve 50000000"),
-        (&["solve", "--", "f"], "solve f 50000000"),
-        (&["solve", "f", "--"], "solve f 50000000"),
-        (&["solve", "--", "--"], "solve -- 50000000"),
-        (&["solve", "--", "-x"], "solve -x 50000000"),
+        (&["solve", "--budget=0000000007", "f"], "solve f 7 false"),
+        (&["solve", "-"], "solve - 50000000 false"),
+        (&["solve", ""], "solve  50000000 false"),
+        (&["solve", "solve"], "solve solve 50000000 false"),
+        (&["solve", "--", "f"], "solve f 50000000 false"),
+        (&["solve", "f", "--"], "solve f 50000000 false"),
+        (&["solve", "--", "--"], "solve -- 50000000 false"),
+        (&["solve", "--", "-x"], "solve -x 50000000 false"),
         (&["elim", "--", "--budget"], "elim --budget 50000000"),
         (
             &["elim", "--budget", "5", "--", "--budget=6"],
             "elim --budget=6 5",
         ),
-        (&["solve", "f=g", "--budget=5"], "solve f=g 5"),
+        (&["solve", "f=g", "--budget=5"], "solve f=g 5 false"),
+        (&["solve", "--proof", "f"], "solve f 50000000 true"),
+        (
+            &["solve", "--budget", "5", "f", "--proof", "--"],
+            "solve f 5 true",
+        ),
+        (&["solve", "--", "--proof"], "solve --proof 50000000 false"),
+        (&["check", "f", "g"], "check f g"),
+        (&["check", "--", "g", "-f"], "check g -f"),
+        (&["check", "-", "-"], "check - -"),
         (&["drill", "1"], "drill 1 50000000"),
         (&["drill", "--budget", "7", "0000001000"], "drill 1000 7"),
-        (&["solve", "ä", "--budget=5"], "solve ä 5"),
+        (&["solve", "ä", "--budget=5"], "solve ä 5 false"),
     ];
     check(&rt, rt.alloc(), &rows)
 }
 
 #[test]
 fn words_name_none(rt: HostRuntime) -> Result<(), Fail> {
-    let rows: [&[&str]; 40] = [
+    let rows: [&[&str]; 49] = [
         &[],
         &["f"],
         &["f", "solve"],
@@ -102,6 +118,15 @@ fn words_name_none(rt: HostRuntime) -> Result<(), Fail> {
         &["drill", "00000000001"],
         &["drill", "-1"],
         &["drill", "1", "2"],
+        &["solve", "f", "--proof", "--proof"],
+        &["solve", "f", "--proof="],
+        &["solve", "f", "--proof=true"],
+        &["solve", "f", "--pro"],
+        &["elim", "f", "--proof"],
+        &["check", "f"],
+        &["check", "f", "g", "h"],
+        &["check", "f", "g", "--budget", "1"],
+        &["check", "f", "--proof"],
     ];
     for words in rows {
         check(&rt, rt.alloc(), &[(words, "no job")])?;

@@ -1,7 +1,8 @@
 -- What the command finds names the job, and what it does not find no job has.
 use Rattle.std.proofs.Common.{ap, length, refl}
 use Rattle.clap.specs.Words.{found_of}
-use Rattle.job_words.proofs.Answering.{drill_is, drill_named, drill_once, handed_on, no_budget, no_count}
+use Rattle.job_words.proofs.Answering.{handed_on, no_budget}
+use Rattle.job_words.proofs.Commanding.{drill_is, drill_named, drill_once, no_count}
 use Rattle.job_words.proofs.Finds.{finds, refused}
 use Rattle.job_words.proofs.Naming.{only_drill}
 use Rattle.job_words.proofs.words.drill_job.Goals as goal

@@ -1,14 +1,15 @@
 -- What the command finds names the job, and what it does not find no job has.
 use Rattle.std.proofs.Common.{ap, length, refl}
 use Rattle.clap.specs.Words.{found_of}
-use Rattle.job_words.proofs.Answering.{solve_is, handed_on, operand_there, no_budget, file_once, file_named}
+use Rattle.job_words.proofs.Answering.{handed_on, operand_there, no_budget}
+use Rattle.job_words.proofs.Commanding.{solve_is, solve_named, solve_once}
 use Rattle.job_words.proofs.Finds.{finds, refused}
 use Rattle.job_words.proofs.Naming.{only_solve}
 use Rattle.job_words.proofs.words.solve_job.Goals as goal
 
 pub returns-in_err-matches-clause-refused : goal.returns-in_err-matches-clause-refused
 returns-in_err-matches-clause-refused c = handed_on c.from_residual-in_err-matches.result c.in_err-matches.field-0.0 _ c.from_residual-in_err-matches.ensures.1
-    (λ is. only_solve _ (λ file n names. refused _ _ _ _ solve_is _ c.in_ok-solve_command.ensures c.args.line.now (c.in_err-matches.ensures.refused is) names.us names.spells (ap length names.file_is) (file_once _ file n names)))
+    (λ is. only_solve _ (λ file n proof names. refused _ _ _ _ solve_is _ c.in_ok-solve_command.ensures c.args.line.now (c.in_err-matches.ensures.refused is) names.us names.spells (ap length names.file_is) (solve_once _ file n proof names)))
 
 pub returns-in_err-file-clause-refused : goal.returns-in_err-file-clause-refused
 returns-in_err-file-clause-refused c = handed_on c.from_residual-in_err-file.result c.in_err-file.field-0.0 _ c.from_residual-in_err-file.ensures.1
@@ -16,7 +17,7 @@ returns-in_err-file-clause-refused c = handed_on c.from_residual-in_err-file.res
 
 pub returns-in_err-budget-clause-refused : goal.returns-in_err-budget-clause-refused
 returns-in_err-budget-clause-refused c = handed_on c.from_residual-in_err-budget.result c.in_err-budget.field-0.0 _ c.from_residual-in_err-budget.ensures.1
-    (λ is. only_solve _ (λ file n names. no_budget _ _ _ _ solve_is refl _ _ (finds _ _ _ _ solve_is _ c.in_ok-solve_command.ensures c.args.line.now (found_of c.in_ok-matches.matches) c.in_ok-matches.ensures.found) c.in_err-budget.ensures names.us names.spells n names.budget_is))
+    (λ is. only_solve _ (λ file n proof names. no_budget _ _ _ _ solve_is refl _ _ (finds _ _ _ _ solve_is _ c.in_ok-solve_command.ensures c.args.line.now (found_of c.in_ok-matches.matches) c.in_ok-matches.ensures.found) c.in_err-budget.ensures names.us names.spells n names.budget_is))
 
 pub returns-clause-named : goal.returns-clause-named
-returns-clause-named c = (refl, file_named _ _ _ _ (finds _ _ _ _ solve_is _ c.in_ok-solve_command.ensures c.args.line.now (found_of c.in_ok-matches.matches) c.in_ok-matches.ensures.found) c.in_ok-file.ensures.found c.in_ok-budget.ensures)
+returns-clause-named c = (refl, solve_named _ _ _ _ _ (finds _ _ _ _ solve_is _ c.in_ok-solve_command.ensures c.args.line.now (found_of c.in_ok-matches.matches) c.in_ok-matches.ensures.found) c.in_ok-file.ensures.found c.in_ok-budget.ensures c.get_flag-proof.ensures.value c.get_flag-proof.ensures.other)

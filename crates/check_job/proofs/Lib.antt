@@ -1,0 +1,3 @@
+pub mod Exactly
+mod Judging
+pub mod Meaning

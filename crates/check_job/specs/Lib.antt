@@ -1,0 +1,4 @@
+pub mod Checked
+pub mod Exactly
+pub mod Meaning
+pub mod Told

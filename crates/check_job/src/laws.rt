@@ -1,0 +1,29 @@
+// What the answers of `check` mean, each the contract of a function with nothing to do.
+
+ghost use Rattle.answers.specs.Answer.{Answer, IsAnswerStatus};
+ghost use Rattle.check_job.specs.Checked.{IsChecked};
+ghost use Rattle.check_job.specs.Exactly.{IsDecided};
+ghost use Rattle.check_job.specs.Meaning.{CheckMeans};
+ghost use Rattle.pri_typing.specs.declared.problem.Problem.{Problem};
+ghost use Rattle.problem_file.specs.Answers.{Poses};
+ghost use Rattle.problem_file.specs.Encoded.{Fits};
+ghost use Rattle.std.specs.Prelude.{◌≡◌, ℕ, List};
+ghost use Rattle.typed_formula.specs.Truth.{Meaning};
+
+/// At status 0 the bytes read as a problem, whatever the bytes of the proof: at CHECKED VALID it holds, in whatever interpretation,
+/// at each value of the existential constants that satisfies the printed constraint, as the printed values do; at CHECKED INVALID
+/// it is refuted.
+pub fn meaning_law()
+    ensures { (w : Meaning) (proof bytes : List ℕ) (a : Answer) → IsChecked proof bytes a → CheckMeans w bytes a }
+{}
+
+/// A proof in a file is accepted, with status 0, exactly where the file holds a proof of the problem, and is refused elsewhere, with
+/// status 4: of a problem whose encoding fits.
+pub fn decided_law()
+    ensures { (proof bytes : List ℕ) (a : Answer) (p : Problem) → IsChecked proof bytes a → Poses bytes p → Fits p → IsDecided p proof a }
+{}
+
+/// Each answer has a status of answers.
+pub fn status_law()
+    ensures { (proof bytes : List ℕ) (a : Answer) → IsChecked proof bytes a → IsAnswerStatus a.status }
+{}

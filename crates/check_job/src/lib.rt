@@ -1,0 +1,9 @@
+// The job `check`: what it answers to the bytes of a problem's file and of a proof's file, and what its answers mean.
+#![tactic(auto)]
+
+mod checking;
+mod laws;
+mod telling;
+
+pub use checking::answer;
+pub use laws::{decided_law, meaning_law, status_law};

@@ -1,0 +1,3 @@
+pub mod Losing
+pub mod Sizes
+pub mod Supporting

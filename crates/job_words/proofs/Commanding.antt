@@ -1,0 +1,84 @@
+-- The commands of the program, and what each finds in its line.
+use Rattle.std.proofs.Common.{◌≡◌, ◌∙◌, ℕ, Bool, true, false, List, [], ◌∷◌, map, Some, None, refl, sym, ap, codes}
+use Rattle.std.specs.List.{slice_index_or}
+use Rattle.clap.specs.Matches.{first_value, one_text}
+use Rattle.clap.specs.declared.parser.matches.Found.{Found}
+use Rattle.job_words.specs.Uses.{Text, listed, operands, times, values_of}
+use Rattle.job_words.specs.Jobs.{IsBudget, IsNumber, NamesCheck, NamesDrill, NamesElim, NamesSolve, budget_option, solve_options}
+use Rattle.job_words.specs.Shapes.{command_app}
+use Rattle.job_words.proofs.Accepted.{IsCommand}
+use Rattle.job_words.proofs.Answering.{budget_is, budget_once, flag_is, flag_once, operand_is, operands_are}
+use Rattle.job_words.proofs.Finds.{Finds, OnceEach, same_uses}
+
+pub solve_is : IsCommand (command_app (codes "solve") (codes "FILE" ∷ []) solve_options) (codes "solve") (codes "FILE" ∷ []) solve_options
+solve_is = record { is_built = refl; whole = refl; places = (refl, refl); strange = (refl, tt); distinct_rules = refl; distinct_ids = refl; distinct_names = refl; named = refl }
+
+pub elim_is : IsCommand (command_app (codes "elim") (codes "FILE" ∷ []) budget_option) (codes "elim") (codes "FILE" ∷ []) budget_option
+elim_is = record { is_built = refl; whole = refl; places = (refl, refl); strange = (refl, tt); distinct_rules = refl; distinct_ids = refl; distinct_names = refl; named = refl }
+
+pub check_is : IsCommand (command_app (codes "check") (codes "FILE" ∷ codes "PROOF" ∷ []) []) (codes "check") (codes "FILE" ∷ codes "PROOF" ∷ []) []
+check_is = record { is_built = refl; whole = refl; places = (refl, (refl, refl)); strange = (refl, (refl, tt)); distinct_rules = refl; distinct_ids = refl; distinct_names = refl; named = refl }
+
+-- ---- each option once at most
+
+pub solve_once : (line : List Text) (file : Text) (n : ℕ) (p : Bool) (names : NamesSolve line file n p) → OnceEach solve_options names.us
+solve_once line file n p names = (budget_once (values_of (codes "budget") names.us) n names.budget_is, (flag_once (times (codes "proof") names.us) p names.proof_is, tt))
+
+pub elim_once : (line : List Text) (file : Text) (n : ℕ) (names : NamesElim line file n) → OnceEach budget_option names.us
+elim_once line file n names = (budget_once (values_of (codes "budget") names.us) n names.budget_is, tt)
+
+-- ---- what is found names the job
+
+pub solve_named : (line : List Text) (f : Found) (file : Text) (n : ℕ) (p : Bool) → Finds (codes "FILE" ∷ []) solve_options line f → Some file ≡ first_value f (codes "FILE") → IsBudget (listed (first_value f (codes "budget"))) n
+    → (one_text f (codes "proof") ≡ Some (codes "true") → p ≡ true) → (one_text f (codes "proof") ≡ Some (codes "false") → p ≡ false) → NamesSolve line file n p
+solve_named line f file n p found is budget on off = record {
+  us = found.us;
+  spells = found.spells;
+  file_is = operand_is (codes "FILE") file solve_options line f found is;
+  budget_is = budget_is (codes "FILE" ∷ []) solve_options line f n refl found budget;
+  proof_is = flag_is (codes "proof") (codes "FILE" ∷ []) solve_options line f p refl found on off;
+}
+
+pub elim_named : (line : List Text) (f : Found) (file : Text) (n : ℕ) → Finds (codes "FILE" ∷ []) budget_option line f → Some file ≡ first_value f (codes "FILE") → IsBudget (listed (first_value f (codes "budget"))) n
+    → NamesElim line file n
+elim_named line f file n found is budget = record {
+  us = found.us;
+  spells = found.spells;
+  file_is = operand_is (codes "FILE") file budget_option line f found is;
+  budget_is = budget_is (codes "FILE" ∷ []) budget_option line f n refl found budget;
+}
+
+pub check_named : (line : List Text) (f : Found) (file proof : Text) → Finds (codes "FILE" ∷ codes "PROOF" ∷ []) [] line f → Some file ≡ first_value f (codes "FILE") → Some proof ≡ first_value f (codes "PROOF")
+    → NamesCheck line file proof
+check_named line f file proof found first second = record {
+  us = found.us;
+  spells = found.spells;
+  files_are = operands_are (codes "FILE") (codes "PROOF") file proof [] line f found first second;
+}
+
+-- ---- drill
+
+pub drill_is : IsCommand (command_app (codes "drill") (codes "COUNT" ∷ []) budget_option) (codes "drill") (codes "COUNT" ∷ []) budget_option
+drill_is = record { is_built = refl; whole = refl; places = (refl, refl); strange = (refl, tt); distinct_rules = refl; distinct_ids = refl; distinct_names = refl; named = refl }
+
+pub drill_once : (line : List Text) (n m : ℕ) (names : NamesDrill line n m) → OnceEach budget_option names.us
+drill_once line n m names = (budget_once (values_of (codes "budget") names.us) m names.budget_is, tt)
+
+pub drill_named : (line : List Text) (f : Found) (n m : ℕ) → Finds (codes "COUNT" ∷ []) budget_option line f → (text : Text) × (Some text ≡ first_value f (codes "COUNT")) × IsNumber 1000 text n
+    → IsBudget (listed (first_value f (codes "budget"))) m → NamesDrill line n m
+drill_named line f n m found count budget = record {
+  us = found.us;
+  spells = found.spells;
+  text = count.0;
+  text_is = operand_is (codes "COUNT") count.0 budget_option line f found count.1;
+  count_is = count.2;
+  budget_is = budget_is (codes "COUNT" ∷ []) budget_option line f m refl found budget;
+}
+
+-- where the operand that is found is no size, the line names none
+pub no_count : (line : List Text) (f : Found) → Finds (codes "COUNT" ∷ []) budget_option line f → ((text : Text) → Some text ≡ first_value f (codes "COUNT") → (n : ℕ) → IsNumber 1000 text n → ⊥)
+    → (n m : ℕ) → NamesDrill line n m → ⊥
+no_count line f found none n m names =
+    let us : names.us ≡ found.us = same_uses _ _ _ _ drill_is line names.us found.us names.spells found.spells in
+    let first : map Some (names.text ∷ []) ≡ first_value f (codes "COUNT") ∷ [] = ap (map Some) (sym names.text_is ∙ ap operands us) ∙ found.operands_are in
+    none names.text (ap (λ os. slice_index_or os 0 None) first) n names.count_is

@@ -1,0 +1,13 @@
+// What joins the jobs, as the contract of a function with nothing to do.
+
+ghost use Rattle.answers.specs.Answer.{Answer};
+ghost use Rattle.check_job.specs.Checked.{IsChecked};
+ghost use Rattle.proof_tree.specs.declared.run.Verdict.{Verdict};
+ghost use Rattle.solve_job.specs.Proved.{PrintsProofOf};
+ghost use Rattle.std.specs.Prelude.{◌≡◌, List, ℕ};
+
+/// The proof that `solve` prints behind the line `proof:` is accepted: `check` of the same file and of these bytes answers with
+/// status 0.
+pub fn printed_law()
+    ensures { (bytes : List ℕ) (v : Verdict) (part : List ℕ) (h : PrintsProofOf bytes v part) (a : Answer) → IsChecked (h.prints).text bytes a → a.status ≡ 0 }
+{}
