@@ -1,32 +1,27 @@
 -- What is told of a check is the answer to the problem and the proof.
-use Rattle.std.proofs.Common.{◌≡◌, ◌∙◌, ◌≢◌, ℕ, ℤ, List, [], length, Result, Ok, Err, IfOk, refl, sym, ap, subst}
+use Rattle.std.proofs.Common.{◌≡◌, ◌∙◌, ℕ, ℤ, List, length, Result, Ok, Err, IfOk, sym, ap, subst}
 use Rattle.linear_term.specs.declared.range.Memory.{Memory}
 use Rattle.formula.specs.Form.{Form}
 use Rattle.formula.specs.Tree.{form}
 use Rattle.elim_rules.specs.Whole.{AreOver}
-use Rattle.sequent.proofs.Forming.{start_formed}
 use Rattle.proof_tree.specs.declared.node.Conclusion.{Conclusion}
 use Rattle.proof_tree.specs.declared.run.Verdict.{Verdict}
 use Rattle.proof_tree.specs.declared.run.Verdict.TheVariants.{Valid, Invalid}
-use Rattle.proof_tree.specs.Proof.{Proof, given}
-use Rattle.proof_tree.specs.Proves.{Proves}
+use Rattle.proof_tree.specs.Proof.{Proof}
 use Rattle.tree_text.specs.Shaped.{Holds}
 use Rattle.proof_lines.specs.Body.{body}
-use Rattle.tree_names.proofs.Given.{node_given}
 use Rattle.tree_checker.specs.declared.checking.Checked.{Checked}
 use Rattle.tree_checker.specs.declared.text.TextFault.{TextFault}
 use Rattle.tree_checker.specs.declared.text.TextFault.TheVariants as fault
 use Rattle.tree_checker.specs.Faults.{Check, accepted, checked}
 use Rattle.tree_checker.specs.Texts.{ChecksText}
 use Rattle.encoding.specs.Problems.{problem_root}
-use Rattle.encoding.proofs.Problems.{root_over}
 use Rattle.function_encoding.specs.declared.answer.Encoded.{Encoded}
 use Rattle.pri_typing.specs.declared.problem.Problem.{Problem}
 use Rattle.answers.specs.Answer.{Answer, answer_of}
 use Rattle.answers.specs.declared.output.Output.{Output}
 use Rattle.constraint_text.specs.Constraint.{IsTextOf}
 use Rattle.problem_file.specs.Encoded.{IsEncoded}
-use Rattle.problem_file.proofs.Reduced.{problem_reduced}
 use Rattle.check_job.specs.Checked.{AnswersProof, Judged, syntax, deep, node, range, cost, closed, valid, invalid}
 use Rattle.check_job.specs.Told.{HasValues, IsFitting, IsValidTold, TellsFault, TellsVerdict, alone, lines}
 use Rattle.check_job.proofs.Meaning.{accepted_over, accepted_values}

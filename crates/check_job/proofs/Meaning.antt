@@ -1,5 +1,5 @@
 -- What the answers of `check` mean.
-use Rattle.std.proofs.Common.{◌≡◌, ◌≢◌, ◌∙◌, ℕ, ℤ, Bool, true, false, cond, ◌&&◌, nat_eq, List, [], ◌++◌, length, Option, Some, None, refl, sym, ap, subst, codes}
+use Rattle.std.proofs.Common.{◌≡◌, ◌≢◌, ◌∙◌, ℕ, ℤ, Bool, true, false, cond, ◌&&◌, nat_eq, List, length, Option, Some, None, refl, sym, ap, subst}
 use Rattle.typed_formula.specs.Truth.{Meaning}
 use Rattle.purse.specs.Trace.{Traced, just, next}
 use Rattle.formula.specs.Form.{Form, is_pure}
@@ -24,8 +24,7 @@ use Rattle.tree_checker.proofs.Accepting.{accepts_proofs}
 use Rattle.encoding.specs.Problems.{problem_root}
 use Rattle.encoding.proofs.Problems.{root_over}
 use Rattle.pri_typing.specs.declared.problem.Problem.{Problem}
-use Rattle.pri_typing.specs.WellFormed.{IsWellFormed}
-use Rattle.answers.specs.Answer.{Answer, line, IsAnswerStatus}
+use Rattle.answers.specs.Answer.{Answer, IsAnswerStatus}
 use Rattle.constraint_lines.specs.Meaning.{CoversRoot}
 use Rattle.constraint_lines.proofs.Losing.{lost_refuted}
 use Rattle.constraint_lines.proofs.Supporting.{closed_holds, supports}

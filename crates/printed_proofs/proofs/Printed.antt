@@ -5,7 +5,6 @@ use Rattle.purse.specs.declared.log.ElimLog.{ElimLog}
 use Rattle.clause_set.specs.declared.literal.Literal.{Literal}
 use Rattle.proof_tree.specs.declared.node.Tree.{Tree}
 use Rattle.proof_tree.specs.Views.{proof_of}
-use Rattle.search.specs.declared.judge.Outcome.{Outcome}
 use Rattle.search.specs.declared.judge.Outcome.TheVariants.{Valid, Invalid}
 use Rattle.search.specs.Outcomes.{EndsAs, IsTree}
 use Rattle.purse.specs.Runs.{total}

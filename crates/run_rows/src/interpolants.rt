@@ -1,6 +1,8 @@
 // Files with `\interpolant` blocks.
 
-use crate::runs::{answers, answers_to};
+use crate::runs::{answers, answers_to, ends};
+use std::alloc::Global;
+use std::process::Abort;
 use std::test::Fail;
 
 const BOTH: &str =
@@ -119,6 +121,96 @@ fn some_blocks_are_unsupported(rt: HostRuntime) -> Result<(), Fail> {
         ] {
             answers_to(&rt, rt.alloc(), &[command, "f"], file, answer)?;
         }
+    }
+    Ok(())
+}
+
+// A file of a problem of these universal constants, up to where its formula begins.
+fn begun(alloc: Global, constants: &str) -> Result<Vec<u8>, Fail> {
+    let mut file = Vec::from_slice(alloc, b"\\universalConstants { int ")?;
+    file.extend_from_slice(constants.as_bytes())?;
+    file.extend_from_slice(b"; } \\problem { ")?;
+    Ok(file)
+}
+
+// Asks for VALID.
+fn holds(rt: &impl Abort, alloc: Global, file: &[u8]) -> Result<(), Fail> {
+    let (ended, taken) = ends(alloc, &["solve", "f"], file, &[], &[])?;
+    assert_eq!(rt; ended, 0);
+    assert_eq!(rt; taken.as_slice(), "VALID\n".as_bytes());
+    Ok(())
+}
+
+// The interpolant that is printed of these two sides.
+fn printed(alloc: Global, constants: &str, left: &str, right: &str) -> Result<Vec<u8>, Fail> {
+    let mut file = begun(alloc, constants)?;
+    file.extend_from_slice(b"\\part[l] (")?;
+    file.extend_from_slice(left.as_bytes())?;
+    file.extend_from_slice(b") & \\part[r] (")?;
+    file.extend_from_slice(right.as_bytes())?;
+    file.extend_from_slice(b") -> false } \\interpolant { l; r }")?;
+    let (_ended, taken) = ends(alloc, &["solve", "f"], file.as_slice(), &[], &[])?;
+    let line = taken.as_slice().get(b"VALID\ninterpolant: ".len()..);
+    Ok(Vec::from_slice(alloc, line.unwrap_or(&[]))?)
+}
+
+// The interpolant of the two sides follows from the left one, contradicts the right one, and needs no constant but these common ones:
+// the prover itself says so of what it printed.
+fn stands_between(
+    rt: &impl Abort,
+    alloc: Global,
+    constants: &str,
+    common: &str,
+    left: &str,
+    right: &str,
+) -> Result<(), Fail> {
+    let between = printed(alloc, constants, left, right)?;
+    let mut follows = begun(alloc, constants)?;
+    follows.extend_from_slice(left.as_bytes())?;
+    follows.extend_from_slice(b" -> ")?;
+    follows.extend_from_slice(between.as_slice())?;
+    follows.push(b'}')?;
+    holds(rt, alloc, follows.as_slice())?;
+    let mut contradicts = begun(alloc, constants)?;
+    contradicts.extend_from_slice(right.as_bytes())?;
+    contradicts.extend_from_slice(b" -> !(")?;
+    contradicts.extend_from_slice(between.as_slice())?;
+    contradicts.extend_from_slice(b") }")?;
+    holds(rt, alloc, contradicts.as_slice())?;
+    let mut speaks = begun(alloc, common)?;
+    speaks.extend_from_slice(b"true | ")?;
+    speaks.extend_from_slice(between.as_slice())?;
+    speaks.push(b'}')?;
+    holds(rt, alloc, speaks.as_slice())
+}
+
+#[test]
+fn interpolants_stand_between(rt: HostRuntime) -> Result<(), Fail> {
+    for (constants, common, left, right) in [
+        ("x, y, z", "x", "x = 2*y", "x = 2*z + 1"),
+        ("x, y, z", "x", "x = 6*y", "x = 3*z + 1"),
+        ("x, y, z", "x", "x <= y & y <= 3", "x >= z & z >= 5"),
+        (
+            "x, y, z",
+            "x",
+            "2*y <= x & x <= 2*y + 1 & x >= 7",
+            "x = z & z < 7",
+        ),
+        (
+            "x, y, u, v",
+            "x, y",
+            "x + u <= 0 & y <= u",
+            "x >= v & v >= 1 - y",
+        ),
+        (
+            "x, y, z",
+            "x",
+            "3*y <= x & x <= 3*y + 1 & x >= 5",
+            "x = z & 5 = z",
+        ),
+        ("x, y, z", "x", "x = 1 & y = 2 | x = 3 & y = x", "x = 2*z"),
+    ] {
+        stands_between(&rt, rt.alloc(), constants, common, left, right)?;
     }
     Ok(())
 }

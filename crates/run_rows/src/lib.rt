@@ -2,6 +2,8 @@
 #![tactic(auto)]
 
 #[cfg(test)]
+mod changes;
+#[cfg(test)]
 mod decided;
 #[cfg(test)]
 mod interpolants;
@@ -15,5 +17,7 @@ mod refused;
 mod runs;
 #[cfg(test)]
 mod solved;
+#[cfg(test)]
+mod strangers;
 #[cfg(test)]
 mod words;

@@ -14,7 +14,7 @@ const PROOF: &str =
     "princess-proof 1\ncharges 18\nalpha 0\nclose\nlog\ngives c0 - 3 = 0\ngives c0 - 3 = 0\nsolution 3\n";
 
 // Asks for the answer of `check` to a problem and these bytes of a proof's file.
-fn checks_to(
+pub fn checks_to(
     rt: &impl Abort,
     alloc: Global,
     file: &str,

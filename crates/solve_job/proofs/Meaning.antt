@@ -9,7 +9,6 @@ use Rattle.search.specs.Run.{Ending, ends_with, out_of_steps, overflows}
 use Rattle.encoding.specs.Problems.{problem_root}
 use Rattle.encoding.proofs.Problems.{holds_is, pure_is, root_over}
 use Rattle.pri_typing.specs.declared.problem.Problem.{Problem}
-use Rattle.pri_typing.specs.Problems.{Holds}
 use Rattle.pri_typing.specs.WellFormed.{IsWellFormed}
 use Rattle.answers.specs.Answer.{Answer, line}
 use Rattle.constraint_text.specs.Constraint.{IsTextOf}

@@ -1,5 +1,5 @@
 -- What the outcome of a search is for the problem, and what is told of it.
-use Rattle.std.proofs.Common.{◌≡◌, ℕ, ◌≤◌, ◌<◌, [], length, Result, Ok, Err, IfOk, refl, sym, ◌∙◌, ap, subst, arith}
+use Rattle.std.proofs.Common.{◌≡◌, ℕ, ◌<◌, [], length, Result, Ok, Err, IfOk, refl, sym, ◌∙◌, ap, subst}
 use Rattle.linear_term.specs.declared.range.Memory.{Memory}
 use Rattle.purse.specs.Trace.{Funds, At, at, End, done, refused, out_of_range, cut, stand}
 use Rattle.formula.specs.Form.{Form}

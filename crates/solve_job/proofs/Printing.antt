@@ -1,5 +1,5 @@
 -- An answer with a proof behind it, and the answer without it.
-use Rattle.std.proofs.Common.{◌≡◌, ◌≢◌, ◌∙◌, ◌≤◌, ℕ, ℤ, Bool, true, false, List, [], ◌∷◌, ◌++◌, length, Result, Ok, Err, IfOk, refl, sym, ap, subst, append_assoc, append-nil, codes}
+use Rattle.std.proofs.Common.{◌≡◌, ◌≢◌, ◌∙◌, ◌≤◌, ℕ, ℤ, Bool, true, false, List, [], ◌++◌, length, Result, Ok, Err, IfOk, refl, sym, ap, subst, append_assoc, append-nil, codes}
 use Rattle.linear_term.specs.declared.range.Memory.{Memory}
 use Rattle.purse.specs.Runs.{total}
 use Rattle.purse.specs.Trace.{Funds, At, at}
@@ -36,7 +36,7 @@ use Rattle.answers.specs.declared.output.Output.{Output}
 use Rattle.problem_file.specs.Answers.{Poses, refused, unsupported, posed}
 use Rattle.problem_file.specs.Encoded.{Fits, IsEncoded, large, leaves, runs}
 use Rattle.solve_job.specs.Proved.{AnswersRunAs, IsPart, IsParted, IsProofTold, IsSolvedAs, PrintsEnd, PrintsOutcome, PrintsProof, PrintsProofOf, PrintsTree, charges_of, extended}
-use Rattle.solve_job.specs.Solved.{AnswersEnd, AnswersRun, IsSolved, branch, closed, invalid, overflow, run_end, saturated, steps, valid}
+use Rattle.solve_job.specs.Solved.{AnswersEnd, IsSolved, branch, closed, invalid, overflow, run_end, saturated, steps, valid}
 use Rattle.solve_job.specs.Shaping.{CanBePrinted}
 use Rattle.solve_job.specs.Told.{TellsOutcome}
 use Rattle.constraint_lines.proofs.Sizes.{small_depth, small_size}

@@ -1,7 +1,5 @@
 use Rattle.std.proofs.Common.{◌≡◌, rules}
 use Rattle.job_words.specs.Jobs.{check, drill, eliminate, solve, task_of}
-use Rattle.prover_job.specs.Runs.{AnswersTask, BrokeAt, IsJobFile}
-use Rattle.answers.specs.Answer.{answer_of}
 use Rattle.prover_job.proofs.tasks.job_output.Goals as goal
 
 pub returns-in-Solve-clause-answered : goal.returns-in-Solve-clause-answered
