@@ -36,6 +36,10 @@ calls_of s = s.calls
 abbrev pub failing_of : MemorySource → List ℕ
 failing_of s = s.failing.items
 
+-- how many bytes a read gives at most
+abbrev pub most_of : MemorySource → ℕ
+most_of s = s.most
+
 -- whether the next call is one of those that fail
 abbrev pub fails_next : MemorySource → Bool
 fails_next s = list_any (λ n. nat_eq n (calls_of s)) (failing_of s)
@@ -44,16 +48,29 @@ fails_next s = list_any (λ n. nat_eq n (calls_of s)) (failing_of s)
 abbrev pub begin_fails : MemorySource → List ℕ → Bool
 begin_fails s name = fails_next s || is_none (bytes_of s name)
 
--- a call is counted, and the calls that fail stay
+-- a call is counted, and what the source was told stays
 pub record Counts (old new : MemorySource) : Type 0 where
   pub calls : calls_of new ≡ min (calls_of old + 1) (2 ^ 64 - 1)
   pub fails : failing_of new ≡ failing_of old
+  pub piece : most_of new ≡ most_of old
 
--- the source has these files, fails at these calls, and was not called yet
+-- the source has these files, fails at these calls, gives as much as is asked for, and was not called yet
 pub record IsFresh (s : MemorySource) (files : List (String Global × Vec ℕ Global)) (failing : List ℕ) : Type 0 where
   pub bytes : (name : List ℕ) → bytes_of s name ≡ content_of files name
   pub fails : failing_of s ≡ failing
+  pub piece : most_of s ≡ 2 ^ 64 - 1
   pub calls : calls_of s ≡ 0
   pub faults : faults_of s ≡ 0
   pub idle : name_of s ≡ None
   pub whole : is_broken s ≡ false
+
+-- the second source is the first one, but gives at most so many bytes in a read
+pub record Limits (old new : MemorySource) (most : ℕ) : Type 0 where
+  pub piece : most_of new ≡ most
+  pub bytes : (name : List ℕ) → bytes_of new name ≡ bytes_of old name
+  pub rest : rest_of new ≡ rest_of old
+  pub begun : name_of new ≡ name_of old
+  pub broken : is_broken new ≡ is_broken old
+  pub fails : failing_of new ≡ failing_of old
+  pub calls : calls_of new ≡ calls_of old
+  pub faults : faults_of new ≡ faults_of old

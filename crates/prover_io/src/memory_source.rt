@@ -11,20 +11,23 @@ use std::alloc::{AllocError, Global};
 pub struct MemorySource {
     files: Vec<(String, Vec<u8>)>,
     failing: Vec<u64>,
+    most: u64,
     calls: u64,
     faults: u64,
     name: Option<String>,
     content: Vec<u8>,
     position: usize,
     broken: bool,
+    ghost some: { 0 < most },
     ghost within: { position ≤ vec_len content },
 }
 
 impl MemorySource {
-    ghost use Rattle.prover_io.specs.MemorySource.{bytes_of, fails_next, IsFresh};
+    ghost use Rattle.prover_io.specs.MemorySource.{bytes_of, fails_next, IsFresh, Limits};
 
     /// A source of these files; of two with one name the first counts. It fails at the calls of `begin` and `read` with
-    /// the numbers in `failing`, counted from 0, and where a name is begun that it does not have.
+    /// the numbers in `failing`, counted from 0, and where a name is begun that it does not have. A read gives as much as
+    /// its buffer has room for.
     pub fn new(files: Vec<(String, Vec<u8>)>, failing: Vec<u64>) -> MemorySource
         ensures { IsFresh result files.items failing.items }
     {
@@ -32,6 +35,7 @@ impl MemorySource {
         MemorySource {
             files,
             failing,
+            most: u64::MAX,
             calls: 0,
             faults: 0,
             name: None,
@@ -39,6 +43,16 @@ impl MemorySource {
             position: 0,
             broken: false,
         }
+    }
+
+    /// The same source, each read of which gives at most `most` bytes. Takes no memory.
+    pub fn with_most(self, most: u64) -> MemorySource
+        requires { 0 < most }
+        ensures { Limits self result most }
+    {
+        let mut source = self;
+        source.most = most;
+        source
     }
 
     // Whether the next call is one of those that fail.
@@ -83,7 +97,7 @@ fn find_file<'a>(files: &'a [(String, Vec<u8>)], name: &str) -> Option<&'a (Stri
 }
 
 impl Source for MemorySource {
-    ghost use Rattle.prover_io.specs.MemorySource.{begin_fails, bytes_of, fails_next, faults_of, is_broken, name_of, rest_of, Counts};
+    ghost use Rattle.prover_io.specs.MemorySource.{begin_fails, bytes_of, fails_next, faults_of, is_broken, most_of, name_of, rest_of, Counts};
     ghost use Rattle.prover_io.specs.Outside.{Begun, Broke, Moves};
 
     ghost bytes_of = { λ s name. bytes_of s name };
@@ -139,7 +153,7 @@ impl Source for MemorySource {
         requires unbroken { is_broken self.old ≡ false }
         requires room { 0 < length buffer.old }
         ensures fails { IsErr result ↔ IsTrue (fails_next self.old) }
-        ensures full { IfOk result (λ n. n ≡ min (length buffer.old) (length (rest_of self.old))) }
+        ensures full { IfOk result (λ n. n ≡ min (min (length buffer.old) (most_of self.old)) (length (rest_of self.old))) }
         ensures bytes { IfOk result (λ n. Moves (rest_of self.old) (Some (rest_of self.new)) n buffer.new) }
         ensures unbroken { OnOk result (is_broken self.new ≡ false) }
         ensures failed { OnErr result (is_broken self.new ≡ true) }
@@ -158,7 +172,7 @@ impl Source for MemorySource {
             return Err(Failed);
         }
         let rest = &self.content[self.position..];
-        let count = buffer.len().min(rest.len());
+        let count = buffer.len().min(self.most as usize).min(rest.len());
         buffer[..count].copy_from_slice(&rest[..count]);
         self.position += count;
         Ok(count)

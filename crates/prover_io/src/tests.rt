@@ -60,6 +60,19 @@ fn fails_at_the_calls_that_it_is_told(rt: HostRuntime) -> Result<(), Fail> {
 }
 
 #[test]
+fn gives_pieces(rt: HostRuntime) -> Result<(), Fail> {
+    let mut files = source(rt.alloc(), &[4])?.with_most(2);
+    files.begin("f")?;
+    let mut buffer = [0u8; 4];
+    for (piece, count) in [("he", 2), ("ll", 2), ("o", 1)] {
+        assert_eq!(rt; files.read(&mut buffer), Ok(count), "at {piece}");
+        assert_eq!(rt; buffer[..count], *piece.as_bytes(), "at {piece}");
+    }
+    assert_eq!(rt; files.read(&mut buffer), Err(Failed));
+    Ok(())
+}
+
+#[test]
 fn takes_pieces(rt: HostRuntime) -> Result<(), Fail> {
     let failing = Vec::from_slice(rt.alloc(), &[2])?;
     let mut sink = MemorySink::new(rt.alloc(), 7, 3, failing)?;

@@ -6,6 +6,8 @@ mod changes;
 #[cfg(test)]
 mod decided;
 #[cfg(test)]
+mod faults;
+#[cfg(test)]
 mod interpolants;
 #[cfg(test)]
 mod limits;

@@ -32,19 +32,41 @@ pub fn ends_over(
     source_fails: &[u64],
     sink_fails: &[u64],
 ) -> Result<(u8, Vec<u8>), Fail> {
+    let outside = Outside {
+        source_fails,
+        source_most: u64::MAX,
+        sink_fails,
+        sink_most: 3,
+    };
+    ends_outside(alloc, words, named, &outside)
+}
+
+// What is outside of a run: the calls at which source and sink fail, and how many bytes they give and take in one call.
+#[derive(Clone, Copy)]
+pub struct Outside<'a> {
+    pub source_fails: &'a [u64],
+    pub source_most: u64,
+    pub sink_fails: &'a [u64],
+    pub sink_most: u64,
+}
+
+// Runs these words over these files.
+pub fn ends_outside(
+    alloc: Global,
+    words: &[&str],
+    named: &[(&str, &[u8])],
+    outside: &Outside<'_>,
+) -> Result<(u8, Vec<u8>), Fail> {
     let mut given = Vec::new(alloc);
     for word in words {
         given.push(String::from_str(alloc, word)?)?;
     }
-    let mut files = Vec::new(alloc);
-    for (name, bytes) in named {
-        files.push((
-            String::from_str(alloc, name)?,
-            Vec::from_slice(alloc, bytes)?,
-        ))?;
-    }
-    let mut source = MemorySource::new(files, Vec::from_slice(alloc, source_fails)?);
-    let mut sink = MemorySink::new(alloc, 1_048_576, 3, Vec::from_slice(alloc, sink_fails)?)?;
+    let source_fails = Vec::from_slice(alloc, outside.source_fails)?;
+    let mut source = MemorySource::new(files(alloc, named)?, source_fails).with_most(
+        outside.source_most.max(1),
+    );
+    let sink_fails = Vec::from_slice(alloc, outside.sink_fails)?;
+    let mut sink = MemorySink::new(alloc, 1_048_576, outside.sink_most.max(1), sink_fails)?;
     let status = run(
         alloc,
         given.as_slice(),
@@ -53,6 +75,18 @@ pub fn ends_over(
         &Table::empty(alloc),
     );
     Ok((status, Vec::from_slice(alloc, sink.taken())?))
+}
+
+// Copies of these files.
+fn files(alloc: Global, named: &[(&str, &[u8])]) -> Result<Vec<(String, Vec<u8>)>, Fail> {
+    let mut files = Vec::new(alloc);
+    for (name, bytes) in named {
+        files.push((
+            String::from_str(alloc, name)?,
+            Vec::from_slice(alloc, bytes)?,
+        ))?;
+    }
+    Ok(files)
 }
 
 // Runs each of these files, and asks for its answer.

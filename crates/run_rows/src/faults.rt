@@ -1,0 +1,88 @@
+// Reads and writes that fail, and those that move few bytes: the status, and the bytes taken before that.
+
+use crate::runs::{Outside, ends_outside};
+use std::alloc::Global;
+use std::process::Abort;
+use std::test::Fail;
+
+const UNIFIED: &[u8] =
+    b"\\existentialConstants { int a; } \\predicates { p(int); } \\problem { p(3) -> p(a) }";
+
+const ANSWER: &str = "VALID\nconstraint: a - 3 = 0\nsolution: a = 3\n";
+
+const PROOF: &[u8] =
+    b"princess-proof 1\ncharges 18\nalpha 0\nclose\nlog\ngives c0 - 3 = 0\ngives c0 - 3 = 0\nsolution 3\n";
+
+// Runs these words over the files `f` and `g`, and asks for the status and the bytes taken.
+fn asks(
+    rt: &impl Abort,
+    alloc: Global,
+    words: &[&str],
+    f: &[u8],
+    outside: &Outside<'_>,
+    answer: (u8, &str),
+) -> Result<(), Fail> {
+    let (status, text) = answer;
+    let (ended, taken) = ends_outside(alloc, words, &[("f", f), ("g", PROOF)], outside)?;
+    assert_eq!(rt; ended, status, "at {words:?} for {text}");
+    assert_eq!(rt;
+        taken.as_slice(),
+        text.as_bytes(),
+        "at {words:?} for {text}"
+    );
+    Ok(())
+}
+
+#[test]
+fn reads_that_fail_end_a_run(rt: HostRuntime) -> Result<(), Fail> {
+    let spaces = vec![in rt.alloc(); b' '; 1_048_577]?;
+    let solve: &[&str] = &["solve", "f"];
+    let check: &[&str] = &["check", "f", "g"];
+    let long = spaces.as_slice();
+    let rows: [(&[&str], &[u8], &[u64], u64, (u8, &str)); 9] = [
+        (solve, UNIFIED, &[0], u64::MAX, (6, "")),
+        (solve, UNIFIED, &[1], u64::MAX, (6, "")),
+        (solve, UNIFIED, &[2], u64::MAX, (6, "")),
+        (solve, UNIFIED, &[3], u64::MAX, (0, ANSWER)),
+        (solve, UNIFIED, &[], 1, (0, ANSWER)),
+        (check, UNIFIED, &[5], u64::MAX, (6, "")),
+        (check, b"", &[2], u64::MAX, (6, "")),
+        (solve, long, &[17], u64::MAX, (6, "")),
+        (
+            solve,
+            long,
+            &[18],
+            u64::MAX,
+            (9, "refused: file too long\n"),
+        ),
+    ];
+    for (words, f, source_fails, source_most, answer) in rows {
+        let outside = Outside {
+            source_fails,
+            source_most,
+            sink_fails: &[],
+            sink_most: 3,
+        };
+        asks(&rt, rt.alloc(), words, f, &outside, answer)?;
+    }
+    Ok(())
+}
+
+#[test]
+fn writes_that_fail_end_a_run(rt: HostRuntime) -> Result<(), Fail> {
+    let rows: [(u64, &[u64], (u8, &str)); 3] = [
+        (10, &[2], (7, "VALID\nconstraint: a ")),
+        (44, &[1], (0, ANSWER)),
+        (44, &[0], (7, "")),
+    ];
+    for (sink_most, sink_fails, answer) in rows {
+        let outside = Outside {
+            source_fails: &[],
+            source_most: u64::MAX,
+            sink_fails,
+            sink_most,
+        };
+        asks(&rt, rt.alloc(), &["solve", "f"], UNIFIED, &outside, answer)?;
+    }
+    Ok(())
+}
