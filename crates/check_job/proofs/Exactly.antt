@@ -40,7 +40,7 @@ same_judged p q proof x c charges a same j =
 lines_same : (p q : Problem) (text : List ℕ) (vs : List ℤ) → AreSame p q → valued_lines p text vs ≡ valued_lines q text vs
 lines_same p q text vs same = ap (λ names. constraint_line text ++ line (codes "solution: " ++ listed_text (value_texts names vs))) same.existentials
 
-same_row : (proof : List ℕ) (p q : Problem) (a : Answer) → AreSame p q → AnswersProof proof p a → AnswersProof proof q a
+pub same_row : (proof : List ℕ) (p q : Problem) (a : Answer) → AreSame p q → AnswersProof proof p a → AnswersProof proof q a
 same_row proof p q a same (syntax at h e) = syntax at h e
 same_row proof p q a same (deep at h e) = deep at h e
 same_row proof p q a same (node x c charges m j e) = node x c charges m (same_judged p q proof x c charges _ same j) e
@@ -53,7 +53,7 @@ same_row proof p q a same (valid x c charges vs text j some printed e) =
 same_row proof p q a same (invalid x c charges j e) = invalid x c charges (same_judged p q proof x c charges _ same j) e
 
 -- ---- accepted exactly where it proves
-abbrev status_of : Answer → ℕ
+abbrev pub status_of : Answer → ℕ
 status_of a = a.status
 
 -- a proof that a check does not accept does not prove

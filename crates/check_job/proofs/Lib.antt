@@ -1,3 +1,4 @@
 pub mod Exactly
 mod Judging
 pub mod Meaning
+pub mod Causing

@@ -1,6 +1,7 @@
 // What the answers of `check` mean, each the contract of a function with nothing to do.
 
 ghost use Rattle.answers.specs.Answer.{Answer, IsAnswerStatus};
+ghost use Rattle.check_job.specs.Causes.{Causes};
 ghost use Rattle.check_job.specs.Checked.{IsChecked};
 ghost use Rattle.check_job.specs.Exactly.{IsDecided};
 ghost use Rattle.check_job.specs.Meaning.{CheckMeans};
@@ -15,6 +16,16 @@ ghost use Rattle.typed_formula.specs.Truth.{Meaning};
 /// it is refuted.
 pub fn meaning_law()
     ensures { (w : Meaning) (proof bytes : List ℕ) (a : Answer) → IsChecked proof bytes a → CheckMeans w bytes a }
+{}
+
+/// A problem's file and a proof's file have at most one answer.
+pub fn one_answer_law()
+    ensures { (proof bytes : List ℕ) (a b : Answer) → IsChecked proof bytes a → IsChecked proof bytes b → a ≡ b }
+{}
+
+/// Each answer comes exactly where its row of the table of answers says.
+pub fn causes_law()
+    ensures { (proof bytes : List ℕ) (a : Answer) → IsChecked proof bytes a → Causes proof bytes a }
 {}
 
 /// A proof in a file is accepted, with status 0, exactly where the file holds a proof of the problem, and is refused elsewhere, with

@@ -6,4 +6,4 @@ mod laws;
 mod telling;
 
 pub use checking::answer;
-pub use laws::{decided_law, meaning_law, status_law};
+pub use laws::{causes_law, decided_law, meaning_law, one_answer_law, status_law};

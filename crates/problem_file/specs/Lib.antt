@@ -3,4 +3,5 @@ pub mod Encoded
 pub mod Faults
 pub mod Reads
 pub mod Refusals
+pub mod Refused
 pub mod Special

@@ -3,3 +3,4 @@ pub mod OneProof
 pub mod Places
 pub mod Parts
 pub mod Own
+pub mod OneRefusal

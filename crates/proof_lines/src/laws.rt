@@ -8,7 +8,7 @@ ghost use Rattle.proof_lines.specs.Body.{body};
 ghost use Rattle.proof_lines.specs.Refused.{RefusesFile};
 ghost use Rattle.proof_lines.specs.declared.refusal.ProofRefusal.{ProofRefusal};
 ghost use Rattle.proof_lines.specs.declared.refusal.ProofRefusal.TheVariants as r;
-ghost use Rattle.std.specs.Prelude.{◌≡◌, List, ℕ};
+ghost use Rattle.std.specs.Prelude.{◌≡◌, ◌≢◌, List, ℕ};
 ghost use Rattle.tree_lines.specs.declared.text.Fault.{Fault};
 ghost use Rattle.tree_lines.specs.declared.text.Fault.TheVariants as f;
 ghost use Rattle.tree_text.specs.Refusals.{RefusesText};
@@ -23,6 +23,12 @@ pub fn holds_one_law()
 pub fn refused_law()
     ensures text { (bytes : List ℕ) (n : ℕ) (x : Proof) (c : Conclusion) (fault : Fault) → Holds bytes n x c → RefusesText bytes fault → fault ≡ f.Memory }
     ensures file { (bytes : List ℕ) (n : ℕ) (x : Proof) (c : Conclusion) (refusal : ProofRefusal) → Holds (body bytes) n x c → RefusesFile bytes refusal → refusal ≡ r.Memory }
+{}
+
+/// Bytes, and files, have at most one refusal besides want of memory.
+pub fn one_refusal_law()
+    ensures text { (bytes : List ℕ) (a b : Fault) → RefusesText bytes a → RefusesText bytes b → a ≢ f.Memory → b ≢ f.Memory → a ≡ b }
+    ensures file { (bytes : List ℕ) (a b : ProofRefusal) → RefusesFile bytes a → RefusesFile bytes b → a ≢ r.Memory → b ≢ r.Memory → a ≡ b }
 {}
 
 /// Tokens as texts of proofs have them, written one behind another, are as a file of their own the part that holds the proof: none of

@@ -7,6 +7,6 @@ mod refusal;
 mod stream;
 
 pub use file::body;
-pub use laws::{holds_one_law, own_law, refused_law};
+pub use laws::{holds_one_law, one_refusal_law, own_law, refused_law};
 pub use refusal::ProofRefusal;
 pub use stream::Lines;

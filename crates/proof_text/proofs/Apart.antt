@@ -3,7 +3,7 @@ use Rattle.std.proofs.Common.{ℕ, ◌≡◌, List, [], ◌∷◌, ◌++◌, dro
 use Rattle.proof_text.specs.declared.tokens.Token.{Token}
 use Rattle.proof_text.specs.declared.scanner.Piece.{Piece}
 use Rattle.proof_text.specs.Lines.{AnyEntries, entries_text, numbered_text}
-use Rattle.proof_text.specs.Reading.{Cuts, IsRefusedAt, IsApart}
+use Rattle.proof_text.specs.Reading.{Cuts, IsFirstRefusal, IsRefusedAt, IsApart}
 use Rattle.proof_text.proofs.Cutting.{some_same}
 
 abbrev token_of : Piece → Token
@@ -73,3 +73,24 @@ entries_apart (s ∷ us) (a ∷ vs) more i j q =
 
 pub numbered_apart : (IsValue : ℕ → Type 0) → IsApart IsValue numbered_text
 numbered_apart IsValue n m more i j q = let same : n ≡ m = cc in let h : [] ≡ more = cc in (same, sym h)
+
+-- where one refusal's tokens go on as those of another, they are the same
+not_later : {V : Type 0} (IsValue : V → Type 0) (text : V → List Token) (bytes r s : List ℕ) (f : IsFirstRefusal IsValue text bytes r) (g : IsFirstRefusal IsValue text bytes s)
+    → (u : List Token) → f.front ≡ g.front ++ u → Cuts u s r → r ≡ s
+not_later IsValue text bytes r s f g [] e c = sym c
+not_later IsValue text bytes r s f g (x ∷ u) e c =
+    let b = f.begins in
+    absurd (g.none x (drop c.0 s) (c.0, c.1, refl) (record {
+      value = b.value;
+      is_value = b.is_value;
+      more = u ++ b.more;
+      parts = b.parts ∙ ap (λ z. z ++ b.more) e ∙ append_assoc g.front (x ∷ u) b.more ∙ sym (append_assoc g.front (x ∷ []) (u ++ b.more));
+    }))
+
+one_place : {V : Type 0} (IsValue : V → Type 0) (text : V → List Token) (bytes r s : List ℕ) (f : IsFirstRefusal IsValue text bytes r) (g : IsFirstRefusal IsValue text bytes s) → Meets f.front g.front r s → r ≡ s
+one_place IsValue text bytes r s f g (inl m) = not_later IsValue text bytes r s f g m.0 m.1 m.2
+one_place IsValue text bytes r s f g (inr m) = sym (not_later IsValue text bytes s r g f m.0 m.1 m.2)
+
+-- bytes have one first refusal
+pub first_same : {V : Type 0} (IsValue : V → Type 0) (text : V → List Token) (bytes r s : List ℕ) → IsFirstRefusal IsValue text bytes r → IsFirstRefusal IsValue text bytes s → r ≡ s
+first_same IsValue text bytes r s f g = one_place IsValue text bytes r s f g (meets f.front g.front bytes r s f.cut g.cut)

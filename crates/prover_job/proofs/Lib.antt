@@ -1,1 +1,4 @@
 mod Telling
+mod Lines
+mod Printed
+mod Output

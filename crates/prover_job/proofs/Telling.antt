@@ -19,6 +19,8 @@ use Rattle.solve_job.proofs.Printing.{parted}
 use Rattle.constraint_lines.proofs.Losing.{no_table}
 use Rattle.check_job.specs.Checked.{IsChecked}
 use Rattle.check_job.specs.Meaning.{CheckMeans}
+use Rattle.check_job.specs.Causes as check_causes
+use Rattle.check_job.proofs.Causing as check_causing
 use Rattle.check_job.proofs.Exactly.{accepted_text}
 use Rattle.check_job.proofs.Meaning as check_meaning
 use Rattle.proof_tree.specs.declared.run.Verdict.{Verdict}
@@ -35,7 +37,7 @@ use Rattle.elim_job.proofs.Causing as elim_causing
 use Rattle.elim_job.proofs.Exactly.{eliminated_status}
 use Rattle.elim_job.proofs.Meaning.{means}
 use Rattle.prover_job.specs.declared.tasks.Stop.{Stop}
-use Rattle.prover_job.specs.Runs.{AnswersTask, AnswersWithProof, IsWithin, SaysChecked, SaysConstraint, SaysValid, SaysRefuted, IsSolveCaused, IsSolveCausedAs, IsElimCaused, IsDrillCaused}
+use Rattle.prover_job.specs.Runs.{AnswersTask, AnswersWithProof, IsWithin, SaysChecked, SaysConstraint, SaysValid, SaysRefuted, IsSolveCaused, IsSolveCausedAs, IsElimCaused, IsCheckCaused, IsDrillCaused}
 
 -- ---- files
 
@@ -227,6 +229,11 @@ pub elim_caused : (budget : ℕ) (told : Option (List ℕ)) (ends : ℕ) (before
     → Meets (AnswersSource most_of_file (IsElimCaused budget) told) ends before after
 elim_caused budget told ends before after met = meets_more _ _ ends before after (source_more most_of_file (IsEliminated budget) (IsElimCaused budget)
     (λ bytes a is. record { causes = elim_causing.causes budget bytes a is; decides = elim_causing.decides budget bytes a is }) told) met
+
+pub check_caused : (proof told : Option (List ℕ)) (ends : ℕ) (before after : Option (List ℕ)) → Meets (AnswersSource most_of_file (AnswersWithProof proof) told) ends before after
+    → Meets (AnswersSource most_of_file (IsCheckCaused proof) told) ends before after
+check_caused proof told ends before after met = meets_more _ _ ends before after (source_more most_of_file (AnswersWithProof proof) (IsCheckCaused proof)
+    (λ bytes. source_more most_of_proof (λ text. IsChecked text bytes) (λ text. check_causes.Causes text bytes) (λ text a is. check_causing.causes text bytes a is) proof) told) met
 
 pub drill_caused : (w : Meaning) (budget count ends : ℕ) (before after : Option (List ℕ)) → Meets (IsDrilled budget count) ends before after → Meets (IsDrillCaused w budget count) ends before after
 drill_caused w budget count ends before after met = meets_more (IsDrilled budget count) (IsDrillCaused w budget count) ends before after (λ a is. record {

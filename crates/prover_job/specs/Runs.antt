@@ -10,6 +10,7 @@ use Rattle.proof_tree.specs.declared.run.Verdict.TheVariants as verdict
 use Rattle.solve_job.specs.Proved.{IsSolvedAs, PrintsProofOf, extended}
 use Rattle.check_job.specs.Checked.{IsChecked}
 use Rattle.check_job.specs.Meaning.{Confirms}
+use Rattle.check_job.specs.Causes as check_causes
 use Rattle.solve_job.specs.Causes as solve_causes
 use Rattle.problem_gen.specs.Drills.{drill_text}
 use Rattle.solve_job.specs.Headline.{Headline, Validates, Refutes}
@@ -112,6 +113,11 @@ pub record IsSolveCausedAs (asked : Bool) (budget : ℕ) (bytes : List ℕ) (ans
 pub record IsElimCaused (budget : ℕ) (bytes : List ℕ) (answer : Answer) : Type 0 where
   pub causes : elim_causes.Causes budget bytes answer
   pub decides : elim_causes.Decides budget bytes answer
+
+-- an answer of `check`, to the bytes of a problem's file and the proof's file of the bytes that are told, that comes exactly where its
+-- row says
+abbrev pub IsCheckCaused : Option (List ℕ) → List ℕ → Answer → Type 0
+IsCheckCaused told bytes = AnswersSource most_of_proof (λ proof. check_causes.Causes proof bytes) told
 
 -- an answer of `drill`: that of `solve` to the problem that the program makes, with its meaning and its causes
 pub record IsDrillCaused (w : Meaning) (budget count : ℕ) (answer : Answer) : Type 0 where

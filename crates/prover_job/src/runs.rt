@@ -5,7 +5,7 @@ ghost use Rattle.answers.specs.Files.{AnswersSource, most_of_file};
 ghost use Rattle.answers.specs.Outside.{Meets};
 ghost use Rattle.job_words.specs.Jobs.{NamesJob, Task, check, drill, eliminate, files_of, solve, task_of};
 ghost use Rattle.prover_io.specs.Outside.{Rose};
-ghost use Rattle.prover_job.specs.Runs.{AnswersTask, BrokeAt, IsDrillCaused, IsElimCaused, IsJobFile, IsSolveCausedAs, IsWithin, NameNoFile, NameNoJob, SaysChecked, SaysConstraint, SaysRefuted, SaysValid};
+ghost use Rattle.prover_job.specs.Runs.{AnswersTask, BrokeAt, IsCheckCaused, IsDrillCaused, IsElimCaused, IsJobFile, IsSolveCausedAs, IsWithin, NameNoFile, NameNoJob, SaysChecked, SaysConstraint, SaysRefuted, SaysValid};
 ghost use Rattle.std.specs.Prelude.{◌≡◌, ◌≢◌, ◌⊎◌, ℕ, Bool, List, [], map, string_bytes};
 
 use crate::tasks::{Stop, job_output};
@@ -18,8 +18,8 @@ use typed_formula::World;
 
 /// Does the job that the words name, and answers the exit status: 0 valid, or the constraint is made, or the proof is accepted,
 /// 1 invalid, 2 unknown, 3 the file is refused, 4 the proof is refused, 5 the words name no job, 6 the source failed, 7 the sink
-/// failed, 8 no memory, 9 the file or the proof's file is too long. `drill` answers as `solve` does to the problem that it makes. The interpretation has no call, so what is promised in
-/// it is promised in every one.
+/// failed, 8 no memory, 9 the file or the proof's file is too long. `drill` answers as `solve` does to the problem that it makes.
+/// The interpretation has no call, so what is promised in it is promised in every one.
 pub fn run<S: Source, K: Sink, W: World>(
     alloc: Global,
     words: &[String],
@@ -42,6 +42,8 @@ pub fn run<S: Source, K: Sink, W: World>(
         → Meets (AnswersSource most_of_file (IsSolveCausedAs proof budget) (S.bytes_of source.old file)) result (K.taken sink.old) (K.taken sink.new) }
     ensures elim_causes { (file : List ℕ) (budget : ℕ) → NamesJob (map string_bytes words.now) (eliminate file budget)
         → Meets (AnswersSource most_of_file (IsElimCaused budget) (S.bytes_of source.old file)) result (K.taken sink.old) (K.taken sink.new) }
+    ensures check_causes { (file proof : List ℕ) → NamesJob (map string_bytes words.now) (check file proof)
+        → Meets (AnswersSource most_of_file (IsCheckCaused (S.bytes_of source.old proof)) (S.bytes_of source.old file)) result (K.taken sink.old) (K.taken sink.new) }
     ensures drilled { (count budget : ℕ) → NamesJob (map string_bytes words.now) (drill count budget)
         → Meets (IsDrillCaused (record { truth = W.truth world.now; value = W.value world.now }) budget count) result (K.taken sink.old) (K.taken sink.new) }
     ensures unread { NameNoFile (map string_bytes words.now) → source.new ≡ source.old }

@@ -15,7 +15,8 @@ use Rattle.problem_file.specs.Encoded.{Fits, LeavesRange, large, leaves, runs}
 use Rattle.interpolant_lines.specs.Blocks.{AreBlockLines}
 use Rattle.interpolant_lines.proofs.Listing.{blocks_caused}
 use Rattle.solve_job.specs.Solved.{AnswersEnd, closed, valid, invalid, saturated, branch, steps, overflow, run_end, IsSolved}
-use Rattle.solve_job.specs.Causes.{Ends, IsValid, IsInvalid, IsSaturated, IsTooLong, IsOutOfSteps, IsOutOfRange, IsRefused, first, special, too_large, TellsBlocks, Causes, Decides}
+use Rattle.problem_file.specs.Refused.{IsRefused, first, special, too_large}
+use Rattle.solve_job.specs.Causes.{Ends, IsValid, IsInvalid, IsSaturated, IsTooLong, IsOutOfSteps, IsOutOfRange, TellsBlocks, Causes, Decides}
 use Rattle.solve_job.proofs.Exactly.{by_end, end_answer, found_answer, one_answer, run_answered}
 use Rattle.solve_job.proofs.Meaning.{tells}
 

@@ -14,6 +14,7 @@ use Rattle.problem_file.specs.Reads.{Refusal, FirstRefusal}
 use Rattle.problem_file.specs.Refusals.{refusal_name}
 use Rattle.problem_file.specs.Answers.{Poses, PosesOne, PosesUnsupported}
 use Rattle.problem_file.specs.Encoded.{Fits, IsLarge, LeavesRange}
+use Rattle.problem_file.specs.Refused.{IsRefused}
 use Rattle.interpolant_lines.specs.Causes.{AreBlocksCaused}
 use Rattle.solve_job.specs.Solved.{run_end}
 
@@ -39,12 +40,6 @@ IsOutOfRange end = (numbers : List Place) × (stands : At) × (end ≡ overflows
 -- the bytes pose a problem whose encoding fits and whose canonical run with this budget ends so
 abbrev pub Ends : ℕ → List ℕ → (Ending run.Answer → Type 0) → Type 0
 Ends budget bytes Is = PosesOne bytes (λ p. Fits p × Is (run_end budget p))
-
--- the file is refused: by its first refusal, at something unsupported, or as large
-pub data IsRefused (bytes : List ℕ) : Type 0 where
-  first : (r : Refusal) → FirstRefusal bytes r → IsRefused bytes
-  special : (at : ℕ) → PosesUnsupported bytes at → IsRefused bytes
-  too_large : PosesOne bytes IsLarge → IsRefused bytes
 
 -- the text is that of a valid problem with a line for each of its blocks, each exactly where its row says
 pub record TellsBlocks (p : Problem) (left : Funds) (text : List ℕ) : Type 0 where

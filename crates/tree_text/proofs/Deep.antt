@@ -80,6 +80,17 @@ deep_whole j us owed r s d e (second_on n) = whole_by owed r n
 pub none_deep : (ls : List TextLine) (bytes rest : List ℕ) → IsWhole Shallow start ls → Cuts (tokens_of ls) bytes rest → (deep : List ℕ) → IsDeepAt bytes deep → ⊥
 none_deep ls bytes rest p c deep d = deep_whole d.level (o.Node d.level ∷ d.owed) d.owed rest deep d.too_deep refl (compare ls d.before start [] (o.Node d.level ∷ d.owed) bytes rest deep p d.leads c d.cut)
 
+deep_same : (j k : ℕ) (ws us : List Owed) (r s : List ℕ) → 2000 < j → 2000 < k → Compared (o.Node j ∷ ws) (o.Node k ∷ us) r s → r ≡ s
+deep_same j k ws us r s d e (same p q) = q
+deep_same j k ws us r s d e (first_on n) = absurd (on_deep k us (o.Node k ∷ us) s e refl n)
+deep_same j k ws us r s d e (second_on n) = absurd (on_deep j ws (o.Node j ∷ ws) r d refl n)
+
+-- one node is the first that stands too deep
+pub one_deep : (bytes r s : List ℕ) → IsDeepAt bytes r → IsDeepAt bytes s → r ≡ s
+one_deep bytes r s d e =
+    deep_same d.level e.level d.owed e.owed r s d.too_deep e.too_deep
+    (compare d.before e.before start (o.Node d.level ∷ d.owed) (o.Node e.level ∷ e.owed) bytes r s d.leads e.leads d.cut e.cut)
+
 same_owed : (j : ℕ) (x : Owed) (os owed : List Owed) (inner deep : List ℕ) → 2000 < j → x ∷ os ≡ o.Node j ∷ owed → inner ≡ deep → IsShallow x inner → BeginsNode deep → ⊥
 same_owed j x os owed inner deep d e q s b =
     let h : x ≡ o.Node j = cc in

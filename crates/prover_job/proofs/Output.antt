@@ -1,0 +1,123 @@
+-- The whole output of `solve --proof` is accepted as a proof's file.
+use Rattle.std.proofs.Common.{ℕ, ℤ, ◌≡◌, ◌≢◌, ◌∙◌, ◌⊎◌, inl, inr, true, List, [], ◌∷◌, ◌++◌, refl, sym, ap, subst, codes}
+use Rattle.std.specs.List.{concat}
+use Rattle.purse.specs.Trace.{Funds}
+use Rattle.proof_tree.specs.declared.run.Verdict.{Verdict}
+use Rattle.proof_tree.specs.declared.run.Verdict.TheVariants.{Valid, Invalid}
+use Rattle.proof_lines.specs.Body.{body}
+use Rattle.tree_text.specs.Shaped.{Holds}
+use Rattle.clause_set.specs.declared.literal.Literal.{Literal}
+use Rattle.pri_typing.specs.declared.problem.Problem.{Problem}
+use Rattle.pri_typing.specs.declared.problem.Cut.{Cut}
+use Rattle.pri_typing.specs.WellFormed.{HasIdentifiers}
+use Rattle.answers.specs.Answer.{Answer, line}
+use Rattle.constraint_text.specs.Constraint.{IsTextOf}
+use Rattle.constraint_lines.specs.Lines.{solution_line, valued_lines}
+use Rattle.pri_printer.specs.Printed.{solution_text}
+use Rattle.interpolant_lines.specs.Blocks.{AreBlockLines, IsBlockLine, found, steps, overflow}
+use Rattle.problem_file.specs.Answers.{Poses, refused, unsupported, posed}
+use Rattle.problem_file.specs.Encoded.{large, leaves, runs}
+use Rattle.problem_file.proofs.Bytes.{reads_identifiers}
+use Rattle.search.specs.Run as run
+use Rattle.search.specs.Run.{Ending}
+use Rattle.solve_job.specs.Proved.{IsParted, IsSolvedAs, PrintsProofOf}
+use Rattle.solve_job.specs.Solved.{AnswersEnd, IsSolved, closed, valid, invalid, saturated, branch, steps as cut_by_steps, overflow as out_of_range, run_end}
+use Rattle.solve_job.proofs.Printing.{parted}
+use Rattle.check_job.specs.Checked.{IsChecked}
+use Rattle.check_job.proofs.Exactly.{decided}
+use Rattle.prover_job.proofs.Lines.{AreInner, IsOfLines, IsPassed, inner_append, inner_word, no_lines, one_alone, one_more, part_after}
+use Rattle.prover_job.proofs.Printed.{dnf_inner, solution_inner}
+
+abbrev status_of : Answer → ℕ
+status_of a = a.status
+
+abbrev text_of : Answer → List ℕ
+text_of a = a.text
+
+-- ---- the lines before the proof
+
+constraint_passed : (p : Problem) (x : List ℕ) (d : List (List Literal)) → HasIdentifiers p → IsTextOf p d x → IsPassed (codes "constraint: " ++ x)
+constraint_passed p x d h t = record {
+  inner = inner_append (codes "constraint: ") x (inner_word (codes "constraint: ") refl) (subst AreInner (sym t.text) (dnf_inner p d h));
+  other = refl;
+}
+
+interpolant_passed : (p : Problem) (x : List ℕ) (d : List (List Literal)) → HasIdentifiers p → IsTextOf p d x → IsPassed (codes "interpolant: " ++ x)
+interpolant_passed p x d h t = record {
+  inner = inner_append (codes "interpolant: ") x (inner_word (codes "interpolant: ") refl) (subst AreInner (sym t.text) (dnf_inner p d h));
+  other = refl;
+}
+
+solution_passed : (p : Problem) (vs : List ℤ) → HasIdentifiers p → IsPassed (codes "solution: " ++ solution_text p vs)
+solution_passed p vs h = record { inner = inner_append (codes "solution: ") (solution_text p vs) (inner_word (codes "solution: ") refl) (solution_inner p vs h); other = refl }
+
+block_line : (p : Problem) (b : Cut) (old : Funds) (text rest : List ℕ) → HasIdentifiers p → IsBlockLine p b old text → IsOfLines rest → IsOfLines (text ++ rest)
+block_line p b old text rest h (found x done printed e) k = subst (λ t. IsOfLines (t ++ rest)) (sym e) (one_more (codes "interpolant: " ++ x) rest (interpolant_passed p x _ h printed) k)
+block_line p b old text rest h (steps out e) k =
+    subst (λ t. IsOfLines (t ++ rest)) (sym e) (one_more (codes "interpolant unknown: " ++ codes "steps") rest (record { inner = inner_word (codes "interpolant unknown: " ++ codes "steps") refl; other = refl }) k)
+block_line p b old text rest h (overflow out e) k =
+    subst (λ t. IsOfLines (t ++ rest)) (sym e) (one_more (codes "interpolant unknown: " ++ codes "overflow") rest (record { inner = inner_word (codes "interpolant unknown: " ++ codes "overflow") refl; other = refl }) k)
+
+block_lines : (p : Problem) (bs : List Cut) (old : Funds) (lines : List (List ℕ)) → HasIdentifiers p → AreBlockLines p bs old lines → IsOfLines (concat lines)
+block_lines p [] old [] h are = no_lines
+block_lines p [] old (text ∷ lines) h are = absurd are
+block_lines p (b ∷ bs) old [] h are = absurd are
+block_lines p (b ∷ bs) old (text ∷ lines) h are = block_line p b old text (concat lines) h are.0 (block_lines p bs _ lines h are.1)
+
+neither : (a : Answer) (s : ℕ) → a.status ≡ s → s ≢ 0 → s ≢ 1 → (a.status ≡ 0) ⊎ (a.status ≡ 1) → ⊥
+neither a s e zero one (inl h) = zero (sym e ∙ h)
+neither a s e zero one (inr h) = one (sym e ∙ h)
+
+end_lines : (p : Problem) (end : Ending run.Answer) (a : Answer) → HasIdentifiers p → AnswersEnd p end a → (a.status ≡ 0) ⊎ (a.status ≡ 1) → IsOfLines a.text
+end_lines p end a h (closed vs x stands lines is none told e) good =
+    subst IsOfLines (sym (ap text_of e))
+    (one_more (codes "VALID") lines (record { inner = inner_word (codes "VALID") refl; other = refl }) (subst IsOfLines (sym told.whole) (block_lines p p.cuts stands.funds told.lines h told.are)))
+end_lines p end a h (valid vs x stands text is some printed e) good =
+    subst IsOfLines (sym (ap text_of e))
+    (one_more (codes "VALID") (valued_lines p text vs) (record { inner = inner_word (codes "VALID") refl; other = refl })
+    (one_more (codes "constraint: " ++ text) (solution_line p vs) (constraint_passed p text _ h printed) (one_alone (codes "solution: " ++ solution_text p vs) (solution_passed p vs h))))
+end_lines p end a h (invalid log x stands is e) good = subst IsOfLines (sym (ap text_of e)) (one_alone (codes "INVALID") (record { inner = inner_word (codes "INVALID") refl; other = refl }))
+end_lines p end a h (saturated log x stands is e) good = absurd (neither a 2 (ap status_of e) (λ z. cc) (λ z. cc) good)
+end_lines p end a h (branch stands is e) good = absurd (neither a 2 (ap status_of e) (λ z. cc) (λ z. cc) good)
+end_lines p end a h (cut_by_steps stands is e) good = absurd (neither a 2 (ap status_of e) (λ z. cc) (λ z. cc) good)
+end_lines p end a h (out_of_range numbers stands is e) good = absurd (neither a 2 (ap status_of e) (λ z. cc) (λ z. cc) good)
+
+solved_lines : (budget : ℕ) (bytes : List ℕ) (a : Answer) → IsSolved budget bytes a → (a.status ≡ 0) ⊎ (a.status ≡ 1) → IsOfLines a.text
+solved_lines budget bytes a (refused r h e) good = absurd (neither a 3 (ap status_of e) (λ z. cc) (λ z. cc) good)
+solved_lines budget bytes a (unsupported at h e) good = absurd (neither a 3 (ap status_of e) (λ z. cc) (λ z. cc) good)
+solved_lines budget bytes a (posed p h (large l e)) good = absurd (neither a 3 (ap status_of e) (λ z. cc) (λ z. cc) good)
+solved_lines budget bytes a (posed p h (leaves l e)) good = absurd (neither a 2 (ap status_of e) (λ z. cc) (λ z. cc) good)
+solved_lines budget bytes a (posed p h (runs f k)) good = end_lines p (run_end budget p) a (reads_identifiers bytes p h.reads) k good
+
+-- ---- the proof behind them
+
+-- behind such lines, what is printed of a proof is the part of the file that holds it
+whole_accepted : (bytes text part : List ℕ) (v : Verdict) → IsOfLines text → PrintsProofOf bytes v part → (b : Answer) → IsChecked (text ++ part) bytes b → b.status ≡ 0
+whole_accepted bytes text part v lines h b is =
+    let printed = h.prints in
+    let same : body (text ++ part) ≡ printed.text = ap (λ t. body (text ++ t)) printed.line ∙ part_after text printed.text lines in
+    (decided (text ++ part) bytes b h.problem is h.poses h.fits).accepts.1 (record {
+      tree = h.tree;
+      conclusion = h.conclusion;
+      charges = h.charges;
+      verdict = v;
+      holds = subst (λ t. Holds t h.charges h.tree h.conclusion) (sym same) printed.holds;
+      proves = h.proves;
+    })
+
+accepted_by : (budget : ℕ) (bytes : List ℕ) (a b : Answer) → IsParted true budget bytes a → IsChecked a.text bytes b → (a.status ≡ 0) ⊎ (a.status ≡ 1) → b.status ≡ 0
+accepted_by budget bytes a b q is good = by good
+  where
+    checked : IsChecked ((q.plain).text ++ q.part) bytes b
+    checked = subst (λ t. IsChecked t bytes b) (ap text_of q.whole) is
+
+    by : (a.status ≡ 0) ⊎ (a.status ≡ 1) → b.status ≡ 0
+    by (inl z) =
+        let zero : (q.plain).status ≡ 0 = sym (ap status_of q.whole) ∙ z in
+        let v = q.valid refl zero in whole_accepted bytes (q.plain).text q.part (Valid v.0) (solved_lines budget bytes q.plain q.solved (inl zero)) v.1 b checked
+    by (inr z) =
+        let one : (q.plain).status ≡ 1 = sym (ap status_of q.whole) ∙ z in
+        whole_accepted bytes (q.plain).text q.part Invalid (solved_lines budget bytes q.plain q.solved (inr one)) (q.invalid refl one) b checked
+
+pub output_accepted : (budget : ℕ) (bytes : List ℕ) (a b : Answer) → IsSolvedAs true budget bytes a → (a.status ≡ 0) ⊎ (a.status ≡ 1) → IsChecked a.text bytes b → b.status ≡ 0
+output_accepted budget bytes a b solved good is = accepted_by budget bytes a b (parted true budget bytes a solved) is good
