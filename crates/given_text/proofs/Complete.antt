@@ -1,6 +1,6 @@
 -- The machine reads the text of each value.
-use Rattle.std.proofs.Common.{ℕ, zero, suc, ◌≡◌, ◌≢◌, ◌≤◌, ◌<◌, ◌+◌, ◌^◌, ℤ, pos, ◌<ℤ◌, Bool, true, false, ◌&&◌, cond, List, [], ◌∷◌, ◌++◌, refl, sym, ap, subst, ◌∙◌, append_assoc, append-nil, arith, lit<, Option, Some, None, ◌⊎◌, inl, inr}
-use Rattle.std.specs.Prelude.{nat_le, nat_lt, nat_eq, int_lt, neg_ℤ, unsigned_abs}
+use Rattle.std.proofs.Common.{ℕ, ◌≡◌, ◌≢◌, ◌≤◌, ◌<◌, ◌+◌, ◌^◌, ℤ, pos, ◌<ℤ◌, Bool, true, false, ◌&&◌, cond, List, [], ◌∷◌, ◌++◌, refl, sym, ap, subst, ◌∙◌, append_assoc, append-nil, arith, Option, Some, None, ◌⊎◌, inl, inr}
+use Rattle.std.specs.Prelude.{nat_lt, nat_eq, int_lt, unsigned_abs}
 use Rattle.std.specs.Ordering.{int_eq}
 use Rattle.std.proofs.lemmas.Bool.{le-leb, lt-ltb}
 use Rattle.std.proofs.lemmas.Bool.Decides.{nat_tests, Decides-int_eq}
@@ -8,24 +8,23 @@ use Rattle.std.proofs.lemmas.Int.{ints}
 use Rattle.proof_text.specs.declared.tokens.Token.{Token}
 use Rattle.proof_text.specs.declared.tokens.Token.TheVariants as t
 use Rattle.linear_term.specs.Linear.{Linear, IsNormal, with_monomial}
-use Rattle.given_text.specs.declared.machine.Divisor.{Divisor}
+use Rattle.given_text.specs.declared.draft.Divisor.{Divisor}
 use Rattle.clause_set.specs.declared.literal.Literal.{Literal}
 use Rattle.clause_set.specs.declared.literal.Literal.TheVariants as l
 use Rattle.given_text.proofs.Normals.{normal_pairs}
-use Rattle.given_text.specs.declared.machine.Draft.{Draft}
-use Rattle.given_text.specs.declared.machine.Behind.{Behind}
-use Rattle.given_text.specs.declared.machine.Behind.TheVariants as b
-use Rattle.given_text.specs.declared.machine.State.{State}
-use Rattle.given_text.specs.declared.machine.State.TheVariants as s
-use Rattle.given_text.specs.declared.machine.Move.{Move}
-use Rattle.given_text.specs.declared.machine.Move.TheVariants as m
-use Rattle.given_text.specs.Text.{IsDivisor, IsSaid, AreLiterals, AreClauses, behind, sign_text, factor_text, pair_text, pairs_text, number_text, constant_text, sum_text, divisor_text, relation_text, zero_text, literal_text, clause_text, dnf_text, gives_text}
-use Rattle.given_text.specs.Machine.{signed, opened, with_pair, sum_of, divided, compared, named, counted, starred, relation, ends_literal, ended, and_then, or_then, follows, word, line_end, blank, moves}
+use Rattle.given_text.specs.declared.draft.Draft.{Draft}
+use Rattle.given_text.specs.Behind.{Behind}
+use Rattle.given_text.specs.Behind as b
+use Rattle.given_text.specs.State.{State}
+use Rattle.given_text.specs.State as s
+use Rattle.given_text.specs.Move.{Move}
+use Rattle.given_text.specs.Move as m
+use Rattle.given_text.specs.Text.{IsSaid, AreLiterals, AreClauses, behind, sign_text, factor_text, pair_text, pairs_text, number_text, constant_text, sum_text, divisor_text, relation_text, zero_text, literal_text, clause_text, dnf_text}
+use Rattle.given_text.specs.Machine.{signed, opened, with_pair, divided, compared, named, counted, starred, ends_literal, ended, follows, word, line_end, blank, moves}
 use Rattle.given_text.proofs.Said.{above, ArePairs}
 use Rattle.given_text.proofs.Running.{Step, Outcome, read, run}
 use Rattle.given_text.proofs.Line.{as_step, line_moves, gives_read}
 use Rattle.given_text.proofs.Runner.{run_on, run_done}
-use Rattle.given_text.proofs.Texts.{not_below, is_not_zero}
 
 abbrev Run : State → List Token → Outcome (List (List Literal))
 Run z xs = run line_moves z xs

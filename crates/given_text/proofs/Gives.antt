@@ -1,21 +1,21 @@
 -- Where the machine of a line `gives` stands in the bytes, and how it ends.
-use Rattle.std.proofs.Common.{ℕ, ◌≡◌, List, [], ◌∷◌, ◌++◌, length, refl, sym, ap, subst, ◌∙◌, append_assoc, append-nil, ◌⊎◌, inl, inr}
+use Rattle.std.proofs.Common.{ℕ, ◌≡◌, List, [], ◌∷◌, ◌++◌, length, refl, sym, ap, subst, ◌∙◌, append_assoc, append-nil}
 use Rattle.clause_set.specs.declared.literal.Literal.{Literal}
 use Rattle.proof_text.specs.declared.tokens.Token.{Token}
 use Rattle.proof_text.specs.declared.tokens.Token.TheVariants as t
 use Rattle.proof_text.specs.Spellings.{IsRanged}
-use Rattle.proof_text.specs.Reading.{Cuts, Begins, IsFirstRefusal, IsRefusedAt, IsApart, Lacks, Refuses}
+use Rattle.proof_text.specs.Reading.{Cuts, IsRefusedAt, IsApart, Lacks, Refuses}
 use Rattle.proof_text.specs.declared.reading.Refusal.{Refusal}
 use Rattle.proof_text.specs.declared.scanner.Piece.{Piece}
 use Rattle.proof_text.proofs.Cutting.{cut_append, some_same}
 use Rattle.proof_text.proofs.Refusals.{no_word}
-use Rattle.given_text.specs.declared.machine.State.{State}
-use Rattle.given_text.specs.declared.machine.Move.{Move}
-use Rattle.given_text.specs.declared.machine.Move.TheVariants as m
+use Rattle.given_text.specs.State.{State}
+use Rattle.given_text.specs.Move.{Move}
+use Rattle.given_text.specs.Move as m
 use Rattle.given_text.specs.Text.{AreClauses, dnf_text, gives_text}
 use Rattle.given_text.specs.Machine.{moves}
 use Rattle.given_text.proofs.Said.{said, IsFine}
-use Rattle.given_text.proofs.Running.{read, refused, run}
+use Rattle.given_text.proofs.Running.{read, run}
 use Rattle.given_text.proofs.Line.{as_step, line_moves, gives_read}
 use Rattle.given_text.proofs.Leads.{Leads, leads}
 use Rattle.given_text.proofs.Finish.{begun}

@@ -1,30 +1,28 @@
 -- Each state says what stood before it: what a token does adds that token.
-use Rattle.std.proofs.Common.{ℕ, zero, suc, ◌≡◌, ◌≢◌, ◌≤◌, ◌<◌, ◌+◌, ◌^◌, ℤ, pos, ◌<ℤ◌, Bool, true, false, ◌&&◌, cond, List, [], ◌∷◌, ◌++◌, refl, sym, ap, subst, ◌∙◌, append_assoc, append-nil, arith, lit<, Option, Some, None}
-use Rattle.std.specs.Prelude.{neg_ℤ, int_lt, unsigned_abs, nat_eq, nat_le, nat_lt}
+use Rattle.std.proofs.Common.{ℕ, ◌≡◌, ◌≢◌, ◌≤◌, ◌<◌, ◌^◌, ℤ, pos, ◌<ℤ◌, Bool, true, false, ◌&&◌, cond, List, [], ◌∷◌, ◌++◌, refl, sym, ap, subst, ◌∙◌, append_assoc, append-nil, arith, lit<, Option, Some, None}
+use Rattle.std.specs.Prelude.{unsigned_abs, nat_eq, nat_le, nat_lt}
 use Rattle.std.proofs.lemmas.Int.{ints}
 use Rattle.std.proofs.lemmas.Bool.{leb-true, ltb-true}
 use Rattle.std.proofs.lemmas.Bool.Decides.{nat_tests}
 use Rattle.std.specs.Ordering.{int_eq}
-use Rattle.std.specs.List.{AllByRecursion}
 use Rattle.proof_text.specs.declared.tokens.Token.{Token}
 use Rattle.proof_text.specs.declared.tokens.Token.TheVariants as t
 use Rattle.linear_term.specs.Linear.{Linear, IsNormal}
-use Rattle.given_text.specs.declared.machine.Divisor.{Divisor}
+use Rattle.given_text.specs.declared.draft.Divisor.{Divisor}
 use Rattle.clause_set.specs.declared.literal.Literal.{Literal}
-use Rattle.clause_set.specs.declared.literal.Literal.TheVariants as l
 use Rattle.proof_text.specs.Spellings.{IsRanged}
 use Rattle.given_text.proofs.Normals.{normal_sum}
-use Rattle.given_text.specs.declared.machine.Draft.{Draft}
-use Rattle.given_text.specs.declared.machine.Behind.{Behind}
-use Rattle.given_text.specs.declared.machine.Behind.TheVariants as b
-use Rattle.given_text.specs.declared.machine.State.{State}
-use Rattle.given_text.specs.declared.machine.State.TheVariants as s
-use Rattle.given_text.specs.declared.machine.Move.{Move}
-use Rattle.given_text.specs.declared.machine.Move.TheVariants as m
-use Rattle.given_text.specs.Text.{IsDivisor, IsSaid, AreLiterals, AreClauses, behind, sign_text, factor_text, pair_text, pairs_text, number_text, constant_text, sum_text, divisor_text, relation_text, zero_text, literal_text, clause_text, dnf_text, gives_text}
+use Rattle.given_text.specs.declared.draft.Draft.{Draft}
+use Rattle.given_text.specs.Behind.{Behind}
+use Rattle.given_text.specs.Behind as b
+use Rattle.given_text.specs.State.{State}
+use Rattle.given_text.specs.State as s
+use Rattle.given_text.specs.Move.{Move}
+use Rattle.given_text.specs.Move as m
+use Rattle.given_text.specs.Text.{IsDivisor, IsSaid, AreLiterals, AreClauses, sign_text, factor_text, pairs_text, sum_text, divisor_text, relation_text, zero_text, literal_text, clause_text, gives_text}
 use Rattle.given_text.specs.Machine.{signed, opened, with_pair, sum_of, divided, compared, named, counted, starred, and_then, or_then, ended, ends_literal, relation, follows, divides_then, false_then, true_then, word, line_end, blank, times, behind_word, in_word_minus, in_word_times, moves}
-use Rattle.given_text.proofs.Said.{before, is_first, said_before, said_draft, said_behind, said, above, ArePairs, HasDivisor, IsDraft, IsFineBehind, IsFine}
-use Rattle.given_text.proofs.Texts.{joined_last, before_more, before_all, clause_more, dnf_more, pairs_more, not_zero, size_of, pair_is, constant_is, zero_constant, divided_is, above_more, pairs_fit, all_more}
+use Rattle.given_text.proofs.Said.{before, is_first, said_before, said_draft, said_behind, said, HasDivisor, IsDraft, IsFineBehind, IsFine}
+use Rattle.given_text.proofs.Texts.{before_more, before_all, clause_more, dnf_more, pairs_more, not_zero, size_of, pair_is, constant_is, zero_constant, divided_is, above_more, pairs_fit, all_more}
 
 -- what a move says of the tokens up to now
 abbrev pub Leads : List Token → Move → Type 0

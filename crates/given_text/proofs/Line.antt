@@ -1,13 +1,12 @@
 -- The line `gives` as a machine.
-use Rattle.std.specs.Prelude.{ℕ, List, [], ◌∷◌, None}
+use Rattle.std.specs.Prelude.{List, [], None}
 use Rattle.proof_text.specs.declared.tokens.Token.{Token}
-use Rattle.proof_text.specs.declared.tokens.Token.TheVariants as t
 use Rattle.clause_set.specs.declared.literal.Literal.{Literal}
-use Rattle.given_text.specs.declared.machine.Behind.TheVariants as b
-use Rattle.given_text.specs.declared.machine.State.{State}
-use Rattle.given_text.specs.declared.machine.State.TheVariants as s
-use Rattle.given_text.specs.declared.machine.Move.{Move}
-use Rattle.given_text.specs.declared.machine.Move.TheVariants as m
+use Rattle.given_text.specs.Behind as b
+use Rattle.given_text.specs.State.{State}
+use Rattle.given_text.specs.State as s
+use Rattle.given_text.specs.Move.{Move}
+use Rattle.given_text.specs.Move as m
 use Rattle.given_text.proofs.Running.{Step, bad, on, done}
 use Rattle.given_text.specs.Machine.{opened, moves}
 

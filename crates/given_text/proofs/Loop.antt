@@ -1,10 +1,10 @@
 -- What the machine's registers hold where it stands.
-use Rattle.std.proofs.Common.{ℕ, ◌≡◌, ◌<◌, ◌≢◌, refl, arith}
-use Rattle.given_text.specs.declared.machine.Behind.{Behind}
-use Rattle.given_text.specs.declared.machine.Behind.TheVariants as b
-use Rattle.given_text.specs.declared.machine.Draft.{Draft}
-use Rattle.given_text.specs.declared.machine.State.{State}
-use Rattle.given_text.specs.declared.machine.State.TheVariants as s
+use Rattle.std.proofs.Common.{arith}
+use Rattle.given_text.specs.Behind.{Behind}
+use Rattle.given_text.specs.Behind as b
+use Rattle.given_text.specs.declared.draft.Draft.{Draft}
+use Rattle.given_text.specs.State.{State}
+use Rattle.given_text.specs.State as s
 use Rattle.given_text.specs.Ranges.{IsOpen, IsInRange, IsStateInRange}
 use Rattle.given_text.proofs.Said.{IsDraft, IsFineBehind, IsFine}
 use Rattle.given_text.proofs.Normals.{over}

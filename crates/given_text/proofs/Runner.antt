@@ -1,7 +1,7 @@
 -- How a machine runs, one token after another.
-use Rattle.std.proofs.Common.{◌≡◌, List, [], ◌∷◌, ◌++◌, refl, ap}
+use Rattle.std.proofs.Common.{◌≡◌, List, [], ◌∷◌, refl, ap}
 use Rattle.proof_text.specs.declared.tokens.Token.{Token}
-use Rattle.given_text.proofs.Running.{Step, bad, on, done, Outcome, refused, read, after, run}
+use Rattle.given_text.proofs.Running.{Step, bad, on, done, refused, read, after, run}
 
 pub run_on : {S V : Type 0} (moves : S → Token → Step S V) (s z : S) (x : Token) (xs : List Token) → moves s x ≡ on z → run moves s (x ∷ xs) ≡ run moves z xs
 unfolding run

@@ -1,17 +1,15 @@
 -- What each state says of the tokens before it: the text is canonical, so the state determines them.
-use Rattle.std.specs.Prelude.{ℕ, zero, suc, ◌≡◌, ◌≢◌, ◌≤◌, ◌<◌, ◌+◌, ◌^◌, ℤ, pos, Bool, true, false, cond, unsigned_abs, List, [], ◌∷◌, ◌++◌, Option, Some, None}
-use Rattle.std.specs.List.{AllByRecursion}
+use Rattle.std.specs.Prelude.{ℕ, ◌≡◌, ◌≢◌, ◌≤◌, ◌<◌, ◌+◌, ◌^◌, ℤ, pos, Bool, true, false, cond, unsigned_abs, List, [], ◌∷◌, ◌++◌, Option, Some, None}
 use Rattle.proof_text.specs.declared.tokens.Token.{Token}
 use Rattle.proof_text.specs.declared.tokens.Token.TheVariants as t
-use Rattle.linear_term.specs.Linear.{Linear, IsNormal, IsOver}
-use Rattle.given_text.specs.declared.machine.Divisor.{Divisor}
+use Rattle.linear_term.specs.Linear.{IsNormal}
+use Rattle.given_text.specs.declared.draft.Divisor.{Divisor}
 use Rattle.clause_set.specs.declared.literal.Literal.{Literal}
-use Rattle.clause_set.specs.declared.literal.Literal.TheVariants as l
-use Rattle.given_text.specs.declared.machine.Draft.{Draft}
-use Rattle.given_text.specs.declared.machine.Behind.{Behind}
-use Rattle.given_text.specs.declared.machine.Behind.TheVariants as b
-use Rattle.given_text.specs.declared.machine.State.{State}
-use Rattle.given_text.specs.declared.machine.State.TheVariants as s
+use Rattle.given_text.specs.declared.draft.Draft.{Draft}
+use Rattle.given_text.specs.Behind.{Behind}
+use Rattle.given_text.specs.Behind as b
+use Rattle.given_text.specs.State.{State}
+use Rattle.given_text.specs.State as s
 use Rattle.given_text.specs.Text.{AreLiterals, AreClauses, IsDivisor, sign_text, pairs_text, sum_text, divisor_text, relation_text, literal_text, clause_text}
 
 -- the texts of a list, each before a blank and the separator

@@ -1,17 +1,16 @@
 -- Texts that grow at their end.
-use Rattle.std.proofs.Common.{ℕ, zero, suc, ◌≡◌, ◌≢◌, ◌≤◌, ◌<◌, ◌+◌, ◌^◌, ℤ, pos, Bool, true, false, cond, List, [], ◌∷◌, ◌++◌, refl, sym, ap, subst, ◌∙◌, append_assoc, append-nil, arith, Option, Some, None}
+use Rattle.std.proofs.Common.{ℕ, zero, suc, ◌≡◌, ◌≢◌, ◌≤◌, ◌<◌, ◌+◌, ◌^◌, ℤ, pos, Bool, true, false, cond, List, [], ◌∷◌, ◌++◌, refl, sym, ap, ◌∙◌, append_assoc, append-nil, arith, Some}
 use Rattle.std.proofs.lemmas.Int.{ints}
 use Rattle.std.proofs.lemmas.Bool.Decides.{Decides-int_eq}
-use Rattle.std.specs.Prelude.{neg_ℤ, int_lt, unsigned_abs, nat_eq}
+use Rattle.std.specs.Prelude.{int_lt, unsigned_abs}
 use Rattle.std.specs.Ordering.{int_eq}
 use Rattle.std.specs.List.{AllByRecursion}
 use Rattle.proof_text.specs.declared.tokens.Token.{Token}
 use Rattle.proof_text.specs.declared.tokens.Token.TheVariants as t
 use Rattle.linear_term.specs.Linear.{Linear}
-use Rattle.given_text.specs.declared.machine.Divisor.{Divisor}
+use Rattle.given_text.specs.declared.draft.Divisor.{Divisor}
 use Rattle.clause_set.specs.declared.literal.Literal.{Literal}
-use Rattle.clause_set.specs.declared.literal.Literal.TheVariants as l
-use Rattle.given_text.specs.Text.{behind, sign_text, factor_text, pair_text, pairs_text, number_text, constant_text, sum_text, divisor_text, literal_text, clause_text, dnf_text, gives_text}
+use Rattle.given_text.specs.Text.{behind, sign_text, factor_text, pair_text, pairs_text, number_text, constant_text, sum_text, divisor_text, literal_text, clause_text, dnf_text}
 use Rattle.given_text.specs.Machine.{signed, divided}
 use Rattle.given_text.proofs.Said.{before, is_first, above, ArePairs}
 

@@ -1,18 +1,18 @@
 -- The reader of a line `gives` as a machine: what a token does in each state.
-use Rattle.std.specs.Prelude.{ℕ, zero, suc, ◌+◌, ◌^◌, ℤ, pos, neg_ℤ, Bool, true, false, ◌&&◌, cond, nat_eq, nat_lt, nat_le, List, [], ◌∷◌, ◌++◌, Option, Some, None}
+use Rattle.std.specs.Prelude.{ℕ, ◌+◌, ◌^◌, ℤ, pos, neg_ℤ, Bool, true, false, ◌&&◌, cond, nat_eq, nat_lt, nat_le, List, [], ◌∷◌, ◌++◌, Option, Some, None}
 use Rattle.proof_text.specs.declared.tokens.Token.{Token}
 use Rattle.proof_text.specs.declared.tokens.Token.TheVariants as t
-use Rattle.given_text.specs.declared.machine.Divisor.{Divisor}
+use Rattle.given_text.specs.declared.draft.Divisor.{Divisor}
 use Rattle.linear_term.specs.Linear.{Linear, number, with_monomial}
 use Rattle.clause_set.specs.declared.literal.Literal.{Literal}
 use Rattle.clause_set.specs.declared.literal.Literal.TheVariants as l
-use Rattle.given_text.specs.declared.machine.Draft.{Draft}
-use Rattle.given_text.specs.declared.machine.Behind.{Behind}
-use Rattle.given_text.specs.declared.machine.Behind.TheVariants as b
-use Rattle.given_text.specs.declared.machine.State.{State}
-use Rattle.given_text.specs.declared.machine.State.TheVariants as s
-use Rattle.given_text.specs.declared.machine.Move.{Move}
-use Rattle.given_text.specs.declared.machine.Move.TheVariants as m
+use Rattle.given_text.specs.declared.draft.Draft.{Draft}
+use Rattle.given_text.specs.Behind.{Behind}
+use Rattle.given_text.specs.Behind as b
+use Rattle.given_text.specs.State.{State}
+use Rattle.given_text.specs.State as s
+use Rattle.given_text.specs.Move.{Move}
+use Rattle.given_text.specs.Move as m
 
 -- n or -n
 abbrev pub signed : Bool → ℕ → ℤ

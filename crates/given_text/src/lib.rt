@@ -1,10 +1,13 @@
 // The constraint that a node of a proof gives, as a line of the proof's text.
 #![tactic(auto)]
 
+mod draft;
 mod laws;
 mod machine;
+mod place;
 mod reading;
 
+pub use draft::{Divisor, Draft};
 pub use laws::given_law;
-pub use machine::{Behind, Divisor, Draft, Move, State, step};
+pub use place::{Last, Place, Progress};
 pub use reading::given;

@@ -1,421 +1,366 @@
 // The line `gives` as a machine: what each token does, behind each other.
 
+ghost use Rattle.given_text.specs.Behind as b;
 ghost use Rattle.given_text.specs.Machine as spec;
-ghost use Rattle.linear_term.specs.Range.{InRange};
+ghost use Rattle.given_text.specs.Places.{behind_of, move_of, state_of};
 ghost use Rattle.given_text.specs.Ranges.{IsInRange, IsOpen, IsStateInRange};
-ghost use Rattle.given_text.specs.declared.machine.Behind.TheVariants as b;
-ghost use Rattle.given_text.specs.declared.machine.State.TheVariants as s;
-ghost use Rattle.given_text.specs.declared.machine.Move.TheVariants as m;
+ghost use Rattle.linear_term.specs.Range.{InRange};
 ghost use Rattle.proof_text.specs.Spellings.{IsRanged};
-ghost use Rattle.std.specs.Prelude.{◌≡◌, ◌≢◌, ◌<◌, ◌≤◌, ◌^◌, ◌++◌, ◌∷◌, [], IfOk};
+ghost use Rattle.proof_text.specs.declared.tokens.Token.TheVariants as t;
+ghost use Rattle.std.specs.Prelude.{◌≡◌, ◌≢◌, ◌<◌, ◌^◌, IfOk};
 
-use clause_set::Literal;
-use linear_term::{Memory, Term};
+use crate::draft::{Divisor, Draft, signed};
+use crate::place::{Last, Place, Progress};
+use linear_term::Memory;
 use proof_text::Token;
 use sqlite_items::Items;
 use std::alloc::Global;
 
-/// The divisor that begins a literal, and whether it is said not to divide.
-#[derive(Clone, Copy)]
-pub struct Divisor {
-    pub size: i128,
-    pub negated: bool,
-}
-
-/// A literal that is being read, and what stands before it.
-#[derive(Drop)]
-pub struct Draft {
-    pub clauses: Items<Items<Literal>>,
-    pub literals: Items<Literal>,
-    pub divisor: Option<Divisor>,
-    /// What is read of its term; the constant comes last.
-    pub sum: Term,
-    /// The least name that may come.
-    pub least: u64,
-}
-
-/// A word of the line that is whole.
-#[derive(Drop)]
-pub enum Behind {
-    Start(Draft),
-    Sum(Draft),
-    Sign(Draft, bool),
-    Number(Draft, bool, u128),
-    Relation(Items<Items<Literal>>, Items<Literal>, Term, bool),
-    Clause(Items<Items<Literal>>, Items<Literal>),
-    False,
-}
-
-#[derive(Drop)]
-pub enum State {
-    /// Behind a word.
-    Behind(Behind),
-    /// Behind a word and a blank.
-    Blank(Behind),
-    /// Behind the `-` that begins a term.
-    Minus(Draft),
-    /// Behind a coefficient and its `*`.
-    Times(Draft, bool, u128),
-}
-
-#[derive(Drop)]
-pub enum Move {
-    Bad,
-    On(State),
-    Done(Items<Items<Literal>>),
-}
-
-/// n or -n.
-fn signed(minus: bool, n: u128) -> i128
-    requires { n < 2 ^ 127 }
-    ensures exact { result ≡ spec.signed minus n }
-    ensures range { InRange result }
-{
-    let n = n as i128;
-    if minus { -n } else { n }
-}
-
-/// A literal of which nothing but its divisor is read.
-pub fn opened(
-    alloc: Global,
-    clauses: Items<Items<Literal>>,
-    literals: Items<Literal>,
-    divisor: Option<Divisor>,
-) -> Draft
-    ensures { result ≡ spec.opened clauses literals divisor }
-{
-    Draft {
-        clauses,
-        literals,
-        divisor,
-        sum: Term::number(alloc, 0),
-        least: 0,
-    }
-}
-
 /// A name comes, with its coefficient.
-fn named(draft: Draft, minus: bool, n: u128, name: u32) -> Result<Move, Memory>
-    requires open { IsOpen draft }
+fn named(draft: &mut Draft, minus: bool, n: u128, name: u32) -> Result<Progress, Memory>
+    requires open { IsOpen draft.old }
     requires small { n < 2 ^ 127 }
     requires some { n ≢ 0 }
-    ensures { IfOk result (λ m. m ≡ spec.named draft minus n name) }
+    ensures { IfOk result (λ p. move_of p draft.new ≡ spec.named draft.old minus n name) }
 {
     if draft.least > u64::from(name) {
-        return Ok(Move::Bad);
+        return Ok(Progress::Bad);
     }
-    let mut grown = draft;
-    grown.sum.push(name, signed(minus, n))?;
-    grown.least = u64::from(name) + 1;
-    Ok(Move::On(State::Behind(Behind::Sum(grown))))
+    draft.add_name(minus, n, name)?;
+    Ok(Progress::On(Place::Behind(Last::Sum)))
 }
 
 /// A constant that is not 0 comes.
-fn counted(draft: Draft, minus: bool, n: u128) -> Move
-    ensures { result ≡ spec.counted draft minus n }
+fn counted(draft: &Draft, minus: bool, n: u128) -> Progress
+    ensures { move_of result draft.now ≡ spec.counted draft.now minus n }
 {
     if n == 0 {
-        Move::Bad
+        Progress::Bad
     } else {
-        Move::On(State::Behind(Behind::Number(draft, minus, n)))
+        Progress::On(Place::Behind(Last::Number(minus, n)))
     }
 }
 
 /// A `*` comes behind a number.
-fn starred(draft: Draft, minus: bool, n: u128) -> Move
-    ensures { result ≡ spec.starred draft minus n }
+fn starred(draft: &Draft, minus: bool, n: u128) -> Progress
+    ensures { move_of result draft.now ≡ spec.starred draft.now minus n }
 {
     if n > 1 && draft.least <= u64::from(u32::MAX) {
-        Move::On(State::Times(draft, minus, n))
+        Progress::On(Place::Times(minus, n))
     } else {
-        Move::Bad
+        Progress::Bad
     }
 }
 
 /// `&` comes behind the literals of a clause.
-fn and_then(alloc: Global, clauses: Items<Items<Literal>>, literals: Items<Literal>) -> Move
-    ensures { result ≡ spec.and_then clauses literals }
+fn and_then(alloc: Global, draft: &mut Draft) -> Progress
+    ensures { move_of result draft.new ≡ spec.and_then draft.old.clauses draft.old.literals }
 {
-    if literals.is_empty() {
-        return Move::Bad;
+    if draft.literals.is_empty() {
+        return Progress::Bad;
     }
-    Move::On(State::Behind(Behind::Start(opened(alloc, clauses, literals, None))))
+    draft.begin(alloc, None);
+    Progress::On(Place::Behind(Last::Start))
 }
 
 /// `|` comes behind a clause.
-fn or_then(
-    alloc: Global,
-    clauses: Items<Items<Literal>>,
-    literals: Items<Literal>,
-) -> Result<Move, Memory>
-    ensures { IfOk result (λ m. m ≡ spec.or_then clauses literals) }
+fn or_then(alloc: Global, draft: &mut Draft) -> Result<Progress, Memory>
+    ensures { IfOk result (λ p. move_of p draft.new ≡ spec.or_then draft.old.clauses draft.old.literals) }
 {
-    let mut clauses = clauses;
-    clauses.push(literals)?;
-    Ok(Move::On(State::Behind(Behind::Start(opened(alloc, clauses, Items::new(alloc), None)))))
+    draft.end_clause(alloc)?;
+    draft.begin(alloc, None);
+    Ok(Progress::On(Place::Behind(Last::Start)))
 }
 
 /// The line ends behind a clause.
-fn ended(clauses: Items<Items<Literal>>, literals: Items<Literal>) -> Result<Move, Memory>
-    ensures { IfOk result (λ m. m ≡ spec.ended clauses literals) }
+fn ended(alloc: Global, draft: &mut Draft) -> Result<Progress, Memory>
+    ensures { IfOk result (λ p. move_of p draft.new ≡ spec.ended draft.old.clauses draft.old.literals) }
 {
-    let mut clauses = clauses;
-    clauses.push(literals)?;
-    Ok(Move::Done(clauses))
-}
-
-/// What a whole sum with a divisor makes of its clause: its literals with one more.
-fn with_divided(
-    draft: Draft,
-    divisor: Divisor,
-    constant: i128,
-) -> Result<(Items<Items<Literal>>, Items<Literal>), Memory>
-    requires { InRange constant }
-    ensures { IfOk result (λ x. (x.0 ≡ draft.clauses) × (x.1 ≡ draft.literals ++ spec.divided divisor (spec.sum_of draft constant) ∷ [])) }
-{
-    let Draft {
-        clauses,
-        mut literals,
-        divisor: _,
-        mut sum,
-        least: _,
-    } = draft;
-    sum.set_constant(constant);
-    let literal = if divisor.negated {
-        Literal::NDiv(divisor.size, sum)
-    } else {
-        Literal::Div(divisor.size, sum)
-    };
-    literals.push(literal)?;
-    Ok((clauses, literals))
+    draft.end_clause(alloc)?;
+    Ok(Progress::Done)
 }
 
 /// A relation comes behind a whole sum.
-fn related(draft: Draft, constant: i128, bound: bool) -> Move
+fn related(draft: &mut Draft, constant: i128, bound: bool) -> Progress
     requires { InRange constant }
-    ensures { result ≡ spec.relation bound draft.divisor draft constant }
+    ensures { move_of result draft.new ≡ spec.relation bound draft.old.divisor draft.old constant }
 {
-    match draft.divisor {
-        Some(_) => Move::Bad,
-        None => {
-            let Draft {
-                clauses,
-                literals,
-                divisor: _,
-                mut sum,
-                least: _,
-            } = draft;
-            sum.set_constant(constant);
-            Move::On(State::Behind(Behind::Relation(clauses, literals, sum, bound)))
-        }
+    if draft.divisor.is_some() {
+        return Progress::Bad;
     }
+    draft.sum.set_constant(constant);
+    Progress::On(Place::Behind(Last::Relation(bound)))
 }
 
 /// `&` comes behind a sum.
-fn and_behind(alloc: Global, draft: Draft, constant: i128) -> Result<Move, Memory>
+fn and_behind(alloc: Global, draft: &mut Draft, constant: i128) -> Result<Progress, Memory>
     requires { InRange constant }
-    ensures { IfOk result (λ m. m ≡ spec.ends_literal spec.and_then draft.divisor draft constant) }
+    ensures { IfOk result (λ p. move_of p draft.new ≡ spec.ends_literal spec.and_then draft.old.divisor draft.old constant) }
 {
     let Some(divisor) = draft.divisor else {
-        return Ok(Move::Bad);
+        return Ok(Progress::Bad);
     };
-    let (clauses, literals) = with_divided(draft, divisor, constant)?;
-    Ok(and_then(alloc, clauses, literals))
+    draft.end_divided(alloc, divisor, constant)?;
+    Ok(and_then(alloc, draft))
 }
 
 /// `|` comes behind a sum.
-fn or_behind(alloc: Global, draft: Draft, constant: i128) -> Result<Move, Memory>
+fn or_behind(alloc: Global, draft: &mut Draft, constant: i128) -> Result<Progress, Memory>
     requires { InRange constant }
-    ensures { IfOk result (λ m. m ≡ spec.ends_literal spec.or_then draft.divisor draft constant) }
+    ensures { IfOk result (λ p. move_of p draft.new ≡ spec.ends_literal spec.or_then draft.old.divisor draft.old constant) }
 {
     let Some(divisor) = draft.divisor else {
-        return Ok(Move::Bad);
+        return Ok(Progress::Bad);
     };
-    let (clauses, literals) = with_divided(draft, divisor, constant)?;
-    or_then(alloc, clauses, literals)
+    draft.end_divided(alloc, divisor, constant)?;
+    or_then(alloc, draft)
 }
 
 /// The line ends behind a sum.
-fn ended_behind(draft: Draft, constant: i128) -> Result<Move, Memory>
+fn ended_behind(alloc: Global, draft: &mut Draft, constant: i128) -> Result<Progress, Memory>
     requires { InRange constant }
-    ensures { IfOk result (λ m. m ≡ spec.ends_literal spec.ended draft.divisor draft constant) }
+    ensures { IfOk result (λ p. move_of p draft.new ≡ spec.ends_literal spec.ended draft.old.divisor draft.old constant) }
 {
     let Some(divisor) = draft.divisor else {
-        return Ok(Move::Bad);
+        return Ok(Progress::Bad);
     };
-    let (clauses, literals) = with_divided(draft, divisor, constant)?;
-    ended(clauses, literals)
+    draft.end_divided(alloc, divisor, constant)?;
+    ended(alloc, draft)
 }
 
 /// What follows a whole sum and a blank.
-fn follows(alloc: Global, draft: Draft, constant: i128, token: Token) -> Result<Move, Memory>
+fn follows(
+    alloc: Global,
+    draft: &mut Draft,
+    constant: i128,
+    token: Token,
+) -> Result<Progress, Memory>
     requires { InRange constant }
-    ensures { IfOk result (λ m. m ≡ spec.follows draft constant token) }
+    ensures { IfOk result (λ p. move_of p draft.new ≡ spec.follows draft.old constant token) }
 {
     match token {
         Token::Equal => Ok(related(draft, constant, false)),
         Token::AtLeast => Ok(related(draft, constant, true)),
         Token::And => and_behind(alloc, draft, constant),
         Token::Or => or_behind(alloc, draft, constant),
-        _ => Ok(Move::Bad),
+        _ => Ok(Progress::Bad),
     }
 }
 
 /// `divides` or `notdivides` comes behind a number.
-fn divides(alloc: Global, draft: Draft, minus: bool, size: u128, negated: bool) -> Move
+fn divides(alloc: Global, draft: &mut Draft, minus: bool, size: u128, negated: bool) -> Progress
     requires { size < 2 ^ 127 }
-    ensures { result ≡ spec.divides_then negated draft.divisor draft.sum.pairs minus draft size }
+    ensures { move_of result draft.new ≡ spec.divides_then negated draft.old.divisor draft.old.sum.pairs minus draft.old size }
 {
     if draft.divisor.is_some() || minus || draft.sum.len() != 0 || size < 2 {
-        return Move::Bad;
+        return Progress::Bad;
     }
     let divisor = Divisor {
         size: size as i128,
         negated,
     };
-    Move::On(State::Behind(Behind::Start(opened(
-        alloc,
-        draft.clauses,
-        draft.literals,
-        Some(divisor),
-    ))))
+    draft.begin(alloc, Some(divisor));
+    Progress::On(Place::Behind(Last::Start))
 }
 
 /// The word `false` comes.
-fn whole_false(draft: Draft) -> Move
-    ensures { result ≡ spec.false_then draft.clauses draft.literals draft.divisor }
+fn whole_false(draft: &Draft) -> Progress
+    ensures { move_of result draft.now ≡ spec.false_then draft.now.clauses draft.now.literals draft.now.divisor }
 {
     if draft.clauses.is_empty() && draft.literals.is_empty() && draft.divisor.is_none() {
-        return Move::On(State::Behind(Behind::False));
+        return Progress::On(Place::Behind(Last::False));
     }
-    Move::Bad
+    Progress::Bad
 }
 
 /// The word `true` comes.
-fn whole_true(alloc: Global, draft: Draft) -> Move
-    ensures { result ≡ spec.true_then draft.clauses draft.literals draft.divisor }
+fn whole_true(draft: &Draft) -> Progress
+    ensures { move_of result draft.now ≡ spec.true_then draft.now.clauses draft.now.literals draft.now.divisor }
 {
     if draft.literals.is_empty() && draft.divisor.is_none() {
-        return Move::On(State::Behind(Behind::Clause(draft.clauses, Items::new(alloc))));
+        return Progress::On(Place::Behind(Last::Clause));
     }
-    Move::Bad
+    Progress::Bad
 }
 
-/// The 0 behind a relation comes.
-fn compared(
-    clauses: Items<Items<Literal>>,
-    literals: Items<Literal>,
-    sum: Term,
-    bound: bool,
-) -> Result<Move, Memory>
-    ensures { IfOk result (λ r. r ≡ m.On (s.Behind (b.Clause clauses (literals ++ spec.compared bound sum ∷ [])))) }
+/// What the number behind a relation does.
+fn compared(alloc: Global, draft: &mut Draft, bound: bool, n: u128) -> Result<Progress, Memory>
+    ensures { IfOk result (λ p. move_of p draft.new ≡ spec.word (b.Relation draft.old.clauses draft.old.literals draft.old.sum bound) (t.Number n)) }
 {
-    let mut literals = literals;
-    literals.push(if bound {
-        Literal::Geq(sum)
-    } else {
-        Literal::Eq(sum)
-    })?;
-    Ok(Move::On(State::Behind(Behind::Clause(clauses, literals))))
+    if n != 0 {
+        return Ok(Progress::Bad);
+    }
+    draft.end_compared(alloc, bound)?;
+    Ok(Progress::On(Place::Behind(Last::Clause)))
+}
+
+/// What a word does where a literal or its term begins.
+fn first_word(draft: &mut Draft, token: Token) -> Result<Progress, Memory>
+    requires token_in_range { IsRanged token }
+    requires open { IsOpen draft.old }
+    ensures { IfOk result (λ p. move_of p draft.new ≡ spec.word (b.Start draft.old) token) }
+{
+    match token {
+        Token::False => Ok(whole_false(draft)),
+        Token::True => Ok(whole_true(draft)),
+        Token::Minus => Ok(Progress::On(Place::Minus)),
+        Token::Number(n) => Ok(Progress::On(Place::Behind(Last::Number(false, n)))),
+        Token::Name(x) => named(draft, false, 1, x),
+        _ => Ok(Progress::Bad),
+    }
+}
+
+/// What a word does behind a name and a blank.
+fn behind_name(alloc: Global, draft: &mut Draft, token: Token) -> Result<Progress, Memory>
+    ensures { IfOk result (λ p. move_of p draft.new ≡ spec.word (b.Sum draft.old) token) }
+{
+    match token {
+        Token::Plus => Ok(Progress::On(Place::Behind(Last::Sign(false)))),
+        Token::Minus => Ok(Progress::On(Place::Behind(Last::Sign(true)))),
+        other => follows(alloc, draft, 0, other),
+    }
+}
+
+/// What a word does behind a sign and a blank.
+fn behind_sign(draft: &mut Draft, minus: bool, token: Token) -> Result<Progress, Memory>
+    requires token_in_range { IsRanged token }
+    requires open { IsOpen draft.old }
+    ensures { IfOk result (λ p. move_of p draft.new ≡ spec.word (b.Sign draft.old minus) token) }
+{
+    match token {
+        Token::Number(n) => Ok(counted(draft, minus, n)),
+        Token::Name(x) => named(draft, minus, 1, x),
+        _ => Ok(Progress::Bad),
+    }
+}
+
+/// What a word does behind a number and a blank.
+fn behind_number(
+    alloc: Global,
+    draft: &mut Draft,
+    minus: bool,
+    n: u128,
+    token: Token,
+) -> Result<Progress, Memory>
+    requires { n < 2 ^ 127 }
+    ensures { IfOk result (λ p. move_of p draft.new ≡ spec.word (b.Number draft.old minus n) token) }
+{
+    match token {
+        Token::Divides => Ok(divides(alloc, draft, minus, n, false)),
+        Token::NotDivides => Ok(divides(alloc, draft, minus, n, true)),
+        other => follows(alloc, draft, signed(minus, n), other),
+    }
+}
+
+/// What a word does behind a clause and a blank.
+fn behind_clause(alloc: Global, draft: &mut Draft, token: Token) -> Result<Progress, Memory>
+    ensures { IfOk result (λ p. move_of p draft.new ≡ spec.word (b.Clause draft.old.clauses draft.old.literals) token) }
+{
+    match token {
+        Token::And => Ok(and_then(alloc, draft)),
+        Token::Or => or_then(alloc, draft),
+        _ => Ok(Progress::Bad),
+    }
 }
 
 /// What a word does behind a word and a blank.
-fn word(alloc: Global, behind: Behind, token: Token) -> Result<Move, Memory>
+fn word(alloc: Global, draft: &mut Draft, last: Last, token: Token) -> Result<Progress, Memory>
     requires token_in_range { IsRanged token }
-    requires in_range { IsInRange behind }
-    ensures { IfOk result (λ m. m ≡ spec.word behind token) }
+    requires in_range { IsInRange (behind_of last draft.old) }
+    ensures { IfOk result (λ p. move_of p draft.new ≡ spec.word (behind_of last draft.old) token) }
 {
-    match behind {
-        Behind::Start(draft) => match token {
-            Token::False => Ok(whole_false(draft)),
-            Token::True => Ok(whole_true(alloc, draft)),
-            Token::Minus => Ok(Move::On(State::Minus(draft))),
-            Token::Number(n) => Ok(Move::On(State::Behind(Behind::Number(draft, false, n)))),
-            Token::Name(x) => named(draft, false, 1, x),
-            _ => Ok(Move::Bad),
+    match last {
+        Last::Start => first_word(draft, token),
+        Last::Sum => behind_name(alloc, draft, token),
+        Last::Sign(minus) => behind_sign(draft, minus, token),
+        Last::Number(minus, n) => behind_number(alloc, draft, minus, n, token),
+        Last::Relation(bound) => match token {
+            Token::Number(n) => compared(alloc, draft, bound, n),
+            _ => Ok(Progress::Bad),
         },
-        Behind::Sum(draft) => match token {
-            Token::Plus => Ok(Move::On(State::Behind(Behind::Sign(draft, false)))),
-            Token::Minus => Ok(Move::On(State::Behind(Behind::Sign(draft, true)))),
-            other => follows(alloc, draft, 0, other),
-        },
-        Behind::Sign(draft, minus) => match token {
-            Token::Number(n) => Ok(counted(draft, minus, n)),
-            Token::Name(x) => named(draft, minus, 1, x),
-            _ => Ok(Move::Bad),
-        },
-        Behind::Number(draft, minus, n) => match token {
-            Token::Divides => Ok(divides(alloc, draft, minus, n, false)),
-            Token::NotDivides => Ok(divides(alloc, draft, minus, n, true)),
-            other => follows(alloc, draft, signed(minus, n), other),
-        },
-        Behind::Relation(clauses, literals, sum, bound) => match token {
-            Token::Number(n) => if n == 0 {
-                compared(clauses, literals, sum, bound)
-            } else {
-                Ok(Move::Bad)
-            },
-            _ => Ok(Move::Bad),
-        },
-        Behind::Clause(clauses, literals) => match token {
-            Token::And => Ok(and_then(alloc, clauses, literals)),
-            Token::Or => or_then(alloc, clauses, literals),
-            _ => Ok(Move::Bad),
-        },
-        Behind::False => Ok(Move::Bad),
+        Last::Clause => behind_clause(alloc, draft, token),
+        Last::False => Ok(Progress::Bad),
     }
 }
 
 /// What the end of the line does behind a word.
-fn line_end(alloc: Global, behind: Behind) -> Result<Move, Memory>
-    requires in_range { IsInRange behind }
-    ensures { IfOk result (λ m. m ≡ spec.line_end behind) }
+fn line_end(alloc: Global, draft: &mut Draft, last: Last) -> Result<Progress, Memory>
+    requires in_range { IsInRange (behind_of last draft.old) }
+    ensures { IfOk result (λ p. move_of p draft.new ≡ spec.line_end (behind_of last draft.old)) }
 {
-    match behind {
-        Behind::Sum(draft) => ended_behind(draft, 0),
-        Behind::Number(draft, minus, n) => ended_behind(draft, signed(minus, n)),
-        Behind::Clause(clauses, literals) => ended(clauses, literals),
-        Behind::False => Ok(Move::Done(Items::new(alloc))),
-        _ => Ok(Move::Bad),
+    match last {
+        Last::Sum => ended_behind(alloc, draft, 0),
+        Last::Number(minus, n) => ended_behind(alloc, draft, signed(minus, n)),
+        Last::Clause => ended(alloc, draft),
+        Last::False => {
+            draft.clauses = Items::new(alloc);
+            Ok(Progress::Done)
+        }
+        _ => Ok(Progress::Bad),
+    }
+}
+
+/// A blank comes behind a word.
+fn blank(draft: &Draft, last: Last) -> Progress
+    ensures { move_of result draft.now ≡ spec.blank (behind_of last draft.now) }
+{
+    match last {
+        Last::False => Progress::Bad,
+        other => Progress::On(Place::Blank(other)),
+    }
+}
+
+/// A `*` comes behind a word.
+fn times(draft: &Draft, last: Last) -> Progress
+    ensures { move_of result draft.now ≡ spec.times (behind_of last draft.now) }
+{
+    match last {
+        Last::Number(minus, n) => starred(draft, minus, n),
+        _ => Progress::Bad,
     }
 }
 
 /// What a token does behind a word.
-fn behind_word(alloc: Global, behind: Behind, token: Token) -> Result<Move, Memory>
-    requires in_range { IsInRange behind }
-    ensures { IfOk result (λ m. m ≡ spec.behind_word behind token) }
+fn behind_word(
+    alloc: Global,
+    draft: &mut Draft,
+    last: Last,
+    token: Token,
+) -> Result<Progress, Memory>
+    requires in_range { IsInRange (behind_of last draft.old) }
+    ensures { IfOk result (λ p. move_of p draft.new ≡ spec.behind_word (behind_of last draft.old) token) }
 {
     match token {
-        Token::Blank => match behind {
-            Behind::False => Ok(Move::Bad),
-            other => Ok(Move::On(State::Blank(other))),
-        },
-        Token::LineFeed => line_end(alloc, behind),
-        Token::Times => match behind {
-            Behind::Number(draft, minus, n) => Ok(starred(draft, minus, n)),
-            _ => Ok(Move::Bad),
-        },
-        _ => Ok(Move::Bad),
+        Token::Blank => Ok(blank(draft, last)),
+        Token::LineFeed => line_end(alloc, draft, last),
+        Token::Times => Ok(times(draft, last)),
+        _ => Ok(Progress::Bad),
     }
 }
 
 /// What a token does.
 #[tactic(auto, unfolding(crate::specs::Machine::moves))]
-pub fn step(alloc: Global, state: State, token: Token) -> Result<Move, Memory>
+pub fn step(
+    alloc: Global,
+    draft: &mut Draft,
+    place: Place,
+    token: Token,
+) -> Result<Progress, Memory>
     requires token_in_range { IsRanged token }
-    requires in_range { IsStateInRange state }
-    ensures { IfOk result (λ m. m ≡ spec.moves state token) }
+    requires in_range { IsStateInRange (state_of place draft.old) }
+    ensures { IfOk result (λ p. move_of p draft.new ≡ spec.moves (state_of place draft.old) token) }
 {
-    match state {
-        State::Behind(behind) => behind_word(alloc, behind, token),
-        State::Blank(behind) => word(alloc, behind, token),
-        State::Minus(draft) => match token {
+    match place {
+        Place::Behind(last) => behind_word(alloc, draft, last, token),
+        Place::Blank(last) => word(alloc, draft, last, token),
+        Place::Minus => match token {
             Token::Number(n) => Ok(counted(draft, true, n)),
             Token::Name(x) => named(draft, true, 1, x),
-            _ => Ok(Move::Bad),
+            _ => Ok(Progress::Bad),
         },
-        State::Times(draft, minus, n) => match token {
+        Place::Times(minus, n) => match token {
             Token::Name(x) => named(draft, minus, n, x),
-            _ => Ok(Move::Bad),
+            _ => Ok(Progress::Bad),
         },
     }
 }

@@ -4,7 +4,9 @@ ghost use Rattle.given_text.specs.Text.{AreClauses, gives_text};
 ghost use Rattle.proof_text.specs.Reading.{Cuts, Refuses};
 ghost use Rattle.std.specs.Prelude.{IfErr, IfOk};
 
-use crate::machine::{Behind, Move, State, opened, step};
+use crate::draft::Draft;
+use crate::machine::step;
+use crate::place::{Last, Place, Progress};
 use clause_set::Literal;
 use proof_text::{Refusal, gives_word, next};
 use sqlite_items::Items;
@@ -16,20 +18,16 @@ pub fn given(alloc: Global, text: &[u8]) -> Result<(Items<Items<Literal>>, &[u8]
     ensures first { IfErr result (Refuses AreClauses gives_text text.now) }
 {
     let mut rest = gives_word(text)?;
-    let mut state = State::Behind(Behind::Start(opened(
-        alloc,
-        Items::new(alloc),
-        Items::new(alloc),
-        None,
-    )));
+    let mut draft = Draft::new(alloc);
+    let mut place = Place::Behind(Last::Start);
     'tokens: loop {
         let Some((token, more)) = next(rest) else {
             return Err(Refusal::Syntax(0));
         };
-        match step(alloc, state, token)? {
-            Move::Bad => return Err(Refusal::Syntax(rest.len())),
-            Move::On(then) => state = then,
-            Move::Done(clauses) => return Ok((clauses, more)),
+        match step(alloc, &mut draft, place, token)? {
+            Progress::Bad => return Err(Refusal::Syntax(rest.len())),
+            Progress::On(then) => place = then,
+            Progress::Done => return Ok((draft.clauses, more)),
         }
         rest = more;
     }

@@ -1,9 +1,10 @@
 use Rattle.std.proofs.Common.{length}
+use Rattle.given_text.specs.Places.{state_of}
 use Rattle.given_text.proofs.Gives.{Stands}
 use Rattle.given_text.proofs.reading.given.Given as goal
 
 abbrev pub invariant-tokens : goal.invariant-tokens
-invariant-tokens l = Stands l.state l.text l.rest
+invariant-tokens l = Stands (state_of l.place l.draft) l.text l.rest
 
 abbrev pub decreases-tokens : goal.decreases-tokens
 decreases-tokens l = length l.rest

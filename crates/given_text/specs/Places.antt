@@ -1,0 +1,35 @@
+-- The state of the machine that a place with its registers is.
+use Rattle.given_text.specs.declared.draft.Draft.{Draft}
+use Rattle.given_text.specs.declared.place.Last.{Last}
+use Rattle.given_text.specs.declared.place.Last.TheVariants as w
+use Rattle.given_text.specs.declared.place.Place.{Place}
+use Rattle.given_text.specs.declared.place.Place.TheVariants as p
+use Rattle.given_text.specs.declared.place.Progress.{Progress}
+use Rattle.given_text.specs.declared.place.Progress.TheVariants as q
+use Rattle.given_text.specs.Behind.{Behind}
+use Rattle.given_text.specs.Behind as b
+use Rattle.given_text.specs.State.{State}
+use Rattle.given_text.specs.State as s
+use Rattle.given_text.specs.Move.{Move}
+use Rattle.given_text.specs.Move as m
+
+abbrev pub behind_of : Last → Draft → Behind
+behind_of w.Start g = b.Start g
+behind_of w.Sum g = b.Sum g
+behind_of (w.Sign minus) g = b.Sign g minus
+behind_of (w.Number minus n) g = b.Number g minus n
+behind_of (w.Relation bound) g = b.Relation g.clauses g.literals g.sum bound
+behind_of w.Clause g = b.Clause g.clauses g.literals
+behind_of w.False g = b.False
+
+abbrev pub state_of : Place → Draft → State
+state_of (p.Behind last) g = s.Behind (behind_of last g)
+state_of (p.Blank last) g = s.Blank (behind_of last g)
+state_of p.Minus g = s.Minus g
+state_of (p.Times minus n) g = s.Times g minus n
+
+-- what a token did
+abbrev pub move_of : Progress → Draft → Move
+move_of q.Bad g = m.Bad
+move_of (q.On place) g = m.On (state_of place g)
+move_of q.Done g = m.Done g.clauses
