@@ -88,7 +88,8 @@ fn has_open_leaf(branch: &Branch, principal: &Principal, children: &Children) ->
     }
 }
 
-/// The node whose premises have these trees.
+/// The node whose premises have these trees. A frame of its own, which the walk's frames below it do not hold.
+#[inline(never)]
 pub fn finish(
     alloc: Global,
     branch: &Branch,

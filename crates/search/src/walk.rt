@@ -99,7 +99,8 @@ pub fn build(
     }
 }
 
-/// The tree of a leaf that is closed.
+/// The tree of a leaf that is closed. A frame of its own, which the walk's frames below it do not hold.
+#[inline(never)]
 fn close(
     alloc: Global,
     branch: &Branch,
