@@ -2,8 +2,9 @@
 
 ghost use Rattle.given_text.specs.Machine as spec;
 ghost use Rattle.given_text.specs.Ranges.{IsOpen};
+ghost use Rattle.linear_term.specs.Linear.{number};
 ghost use Rattle.linear_term.specs.Range.{InRange};
-ghost use Rattle.std.specs.Prelude.{◌≡◌, ◌≢◌, ◌≤◌, ◌<◌, ◌^◌, ◌++◌, ◌∷◌, [], None, OnOk};
+ghost use Rattle.std.specs.Prelude.{◌≡◌, ◌≢◌, ◌≤◌, ◌<◌, ◌^◌, ◌++◌, ◌∷◌, [], pos, None, OnOk};
 
 use clause_set::Literal;
 use linear_term::{Memory, Term};
@@ -84,8 +85,7 @@ impl Draft {
         constant: i128,
     ) -> Result<(), Memory>
         requires { InRange constant }
-        ensures clauses { OnOk result (self.new.clauses ≡ self.old.clauses) }
-        ensures literals { OnOk result (self.new.literals ≡ self.old.literals ++ spec.divided divisor (spec.sum_of self.old constant) ∷ []) }
+        ensures { OnOk result (self.new ≡ record self.old { literals = self.old.literals ++ spec.divided divisor (spec.sum_of self.old constant) ∷ []; sum = number (pos 0) }) }
     {
         let mut sum = mem::replace(&mut self.sum, Term::number(alloc, 0));
         sum.set_constant(constant);
@@ -99,8 +99,7 @@ impl Draft {
 
     /// The literal ends: its term is compared with 0.
     pub fn end_compared(&mut self, alloc: Global, bound: bool) -> Result<(), Memory>
-        ensures clauses { OnOk result (self.new.clauses ≡ self.old.clauses) }
-        ensures literals { OnOk result (self.new.literals ≡ self.old.literals ++ spec.compared bound self.old.sum ∷ []) }
+        ensures { OnOk result (self.new ≡ record self.old { literals = self.old.literals ++ spec.compared bound self.old.sum ∷ []; sum = number (pos 0) }) }
     {
         let sum = mem::replace(&mut self.sum, Term::number(alloc, 0));
         self.literals.push(if bound {
@@ -113,8 +112,7 @@ impl Draft {
 
     /// The clause ends.
     pub fn end_clause(&mut self, alloc: Global) -> Result<(), Memory>
-        ensures clauses { OnOk result (self.new.clauses ≡ self.old.clauses ++ self.old.literals ∷ []) }
-        ensures literals { OnOk result (self.new.literals ≡ []) }
+        ensures { OnOk result (self.new ≡ record self.old { clauses = self.old.clauses ++ self.old.literals ∷ []; literals = [] }) }
     {
         let literals = mem::replace(&mut self.literals, Items::new(alloc));
         self.clauses.push(literals)?;
