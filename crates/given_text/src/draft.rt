@@ -56,7 +56,7 @@ impl Draft {
     }
 
     /// Begins a literal, of which nothing but its divisor is read.
-    pub fn begin(&mut self, alloc: Global, divisor: Option<Divisor>)
+    pub(crate) fn begin(&mut self, alloc: Global, divisor: Option<Divisor>)
         ensures { self.new ≡ spec.opened self.old.clauses self.old.literals divisor }
     {
         self.divisor = divisor;
@@ -65,7 +65,7 @@ impl Draft {
     }
 
     /// The term goes on by a name above all that came, with its coefficient.
-    pub fn add_name(&mut self, minus: bool, n: u128, name: u32) -> Result<(), Memory>
+    pub(crate) fn add_name(&mut self, minus: bool, n: u128, name: u32) -> Result<(), Memory>
         requires open { IsOpen self.old }
         requires above { self.old.least ≤ name }
         requires small { n < 2 ^ 127 }
@@ -78,7 +78,7 @@ impl Draft {
     }
 
     /// The term ends by its constant, and the literal with it: its divisor divides the term, or is said not to.
-    pub fn end_divided(
+    pub(crate) fn end_divided(
         &mut self,
         alloc: Global,
         divisor: Divisor,
@@ -98,7 +98,7 @@ impl Draft {
     }
 
     /// The literal ends: its term is compared with 0.
-    pub fn end_compared(&mut self, alloc: Global, bound: bool) -> Result<(), Memory>
+    pub(crate) fn end_compared(&mut self, alloc: Global, bound: bool) -> Result<(), Memory>
         ensures { OnOk result (self.new ≡ record self.old { literals = self.old.literals ++ spec.compared bound self.old.sum ∷ []; sum = number (pos 0) }) }
     {
         let sum = mem::replace(&mut self.sum, Term::number(alloc, 0));
@@ -111,7 +111,7 @@ impl Draft {
     }
 
     /// The clause ends.
-    pub fn end_clause(&mut self, alloc: Global) -> Result<(), Memory>
+    pub(crate) fn end_clause(&mut self, alloc: Global) -> Result<(), Memory>
         ensures { OnOk result (self.new ≡ record self.old { clauses = self.old.clauses ++ self.old.literals ∷ []; literals = [] }) }
     {
         let literals = mem::replace(&mut self.literals, Items::new(alloc));
