@@ -2,8 +2,9 @@
 
 ghost use Rattle.given_text.specs.Machine as spec;
 ghost use Rattle.given_text.specs.Ranges.{IsOpen};
+ghost use Rattle.linear_term.specs.Linear.{number};
 ghost use Rattle.linear_term.specs.Range.{InRange};
-ghost use Rattle.std.specs.Prelude.{◌≡◌, ◌≢◌, ◌≤◌, ◌<◌, ◌^◌, ◌++◌, ◌∷◌, [], None, OnOk};
+ghost use Rattle.std.specs.Prelude.{◌≡◌, ◌≢◌, ◌≤◌, ◌<◌, ◌^◌, ◌++◌, ◌∷◌, [], pos, None, OnOk};
 
 use clause_set::Literal;
 use linear_term::{Memory, Term};
@@ -55,7 +56,7 @@ impl Draft {
     }
 
     /// Begins a literal, of which nothing but its divisor is read.
-    pub fn begin(&mut self, alloc: Global, divisor: Option<Divisor>)
+    pub(crate) fn begin(&mut self, alloc: Global, divisor: Option<Divisor>)
         ensures { self.new ≡ spec.opened self.old.clauses self.old.literals divisor }
     {
         self.divisor = divisor;
@@ -64,7 +65,7 @@ impl Draft {
     }
 
     /// The term goes on by a name above all that came, with its coefficient.
-    pub fn add_name(&mut self, minus: bool, n: u128, name: u32) -> Result<(), Memory>
+    pub(crate) fn add_name(&mut self, minus: bool, n: u128, name: u32) -> Result<(), Memory>
         requires open { IsOpen self.old }
         requires above { self.old.least ≤ name }
         requires small { n < 2 ^ 127 }
@@ -77,15 +78,14 @@ impl Draft {
     }
 
     /// The term ends by its constant, and the literal with it: its divisor divides the term, or is said not to.
-    pub fn end_divided(
+    pub(crate) fn end_divided(
         &mut self,
         alloc: Global,
         divisor: Divisor,
         constant: i128,
     ) -> Result<(), Memory>
         requires { InRange constant }
-        ensures clauses { OnOk result (self.new.clauses ≡ self.old.clauses) }
-        ensures literals { OnOk result (self.new.literals ≡ self.old.literals ++ spec.divided divisor (spec.sum_of self.old constant) ∷ []) }
+        ensures { OnOk result (self.new ≡ record self.old { literals = self.old.literals ++ spec.divided divisor (spec.sum_of self.old constant) ∷ []; sum = number (pos 0) }) }
     {
         let mut sum = mem::replace(&mut self.sum, Term::number(alloc, 0));
         sum.set_constant(constant);
@@ -98,9 +98,8 @@ impl Draft {
     }
 
     /// The literal ends: its term is compared with 0.
-    pub fn end_compared(&mut self, alloc: Global, bound: bool) -> Result<(), Memory>
-        ensures clauses { OnOk result (self.new.clauses ≡ self.old.clauses) }
-        ensures literals { OnOk result (self.new.literals ≡ self.old.literals ++ spec.compared bound self.old.sum ∷ []) }
+    pub(crate) fn end_compared(&mut self, alloc: Global, bound: bool) -> Result<(), Memory>
+        ensures { OnOk result (self.new ≡ record self.old { literals = self.old.literals ++ spec.compared bound self.old.sum ∷ []; sum = number (pos 0) }) }
     {
         let sum = mem::replace(&mut self.sum, Term::number(alloc, 0));
         self.literals.push(if bound {
@@ -112,9 +111,8 @@ impl Draft {
     }
 
     /// The clause ends.
-    pub fn end_clause(&mut self, alloc: Global) -> Result<(), Memory>
-        ensures clauses { OnOk result (self.new.clauses ≡ self.old.clauses ++ self.old.literals ∷ []) }
-        ensures literals { OnOk result (self.new.literals ≡ []) }
+    pub(crate) fn end_clause(&mut self, alloc: Global) -> Result<(), Memory>
+        ensures { OnOk result (self.new ≡ record self.old { clauses = self.old.clauses ++ self.old.literals ∷ []; literals = [] }) }
     {
         let literals = mem::replace(&mut self.literals, Items::new(alloc));
         self.clauses.push(literals)?;

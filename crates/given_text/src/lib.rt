@@ -9,5 +9,6 @@ mod reading;
 
 pub use draft::{Divisor, Draft};
 pub use laws::given_law;
+pub use machine::step;
 pub use place::{Last, Place, Progress};
 pub use reading::given;

@@ -7,6 +7,7 @@ pub mod EntryLines
 pub mod NumberLines
 pub mod Apart
 pub mod Decimals
+pub mod Figures
 pub mod Respelled
 pub mod Written
 pub mod Behind

@@ -6,7 +6,6 @@ use Rattle.std.specs.Str.{bytes_eq}
 use Rattle.std.specs.Fmt.{decimal}
 use Rattle.std.specs.Char.{is_ascii_digit, is_ascii_alphabetic}
 use Rattle.std.proofs.lemmas.Bool.{false≢true}
-use Rattle.std.proofs.lemmas.Slice.Eq.{bytes_eq-Decides}
 use Rattle.pri_tokens.proofs.Tests.{if_begins, left_true, right_true}
 use Rattle.purse.specs.declared.log.Entry.{Entry}
 use Rattle.purse.specs.declared.log.Entry.TheVariants as e
@@ -16,6 +15,7 @@ use Rattle.proof_text.specs.Words.{is_empty, is_numeral, numeral_of, index_of, m
 use Rattle.proof_text.specs.Scanning.{is_word_byte, joins, word_len, piece, piece_of, first_piece_of}
 use Rattle.proof_text.specs.Spellings.{IsEntry, IsToken, is_sign, NextIsSign, AreSpaced, entry_spelling, spelling, spelled}
 use Rattle.proof_text.specs.Reading.{Cuts}
+use Rattle.proof_text.proofs.Figures.{has_digit, not_same, figure_is}
 use Rattle.proof_text.proofs.Numerals.{three_true}
 use Rattle.proof_text.proofs.Decimals.{decimal_is, numeral_back}
 
@@ -98,29 +98,6 @@ joined_back b bs c v rest x all stop more j is h =
     piece_by b ((bs ++ (c ∷ v)) ++ rest) (length w) (left_true (is_word_byte b) (list_all is_word_byte bs) all) n
     ∙ ap (λ z. Some (record { token = word_of z; len = length w })) (take_all w rest)
     ∙ ap (λ z. Some (record { token = z; len = length w })) is
-
--- Words with digits are no keywords.
-
-abbrev has_digit : List ℕ → Bool
-has_digit = list_any is_ascii_digit
-
-not_same_by : (w k : List ℕ) (v : Bool) → bytes_eq w k ≡ v → has_digit w ≡ true → has_digit k ≡ false → bytes_eq w k ≡ false
-not_same_by w k true e h n = absurd (false≢true (sym n ∙ ap has_digit (sym ((bytes_eq-Decides w k).0 e)) ∙ h))
-not_same_by w k false e h n = e
-
-not_same : (w k : List ℕ) → has_digit w ≡ true → has_digit k ≡ false → bytes_eq w k ≡ false
-not_same w k h n = not_same_by w k (bytes_eq w k) refl h n
-
-skip : (w k : List ℕ) (x y : Token) → has_digit w ≡ true → has_digit k ≡ false → (if bytes_eq w k then x else y) ≡ y
-skip w k x y h n = ap (λ v. if v then x else y) (not_same w k h n)
-
-figure_is : (w : List ℕ) → has_digit w ≡ true → word_of w ≡ figure_of w
-figure_is w h =
-    skip w (codes "princess-proof") t.PrincessProof _ h refl ∙ skip w (codes "charges") t.Charges _ h refl ∙ skip w (codes "log") t.Log _ h refl
-    ∙ skip w (codes "gives") t.Gives _ h refl ∙ skip w (codes "solution") t.Solution _ h refl ∙ skip w (codes "none") t.Nothing _ h refl
-    ∙ skip w (codes "true") t.True _ h refl ∙ skip w (codes "false") t.False _ h refl ∙ skip w (codes "divides") t.Divides _ h refl
-    ∙ skip w (codes "notdivides") t.NotDivides _ h refl ∙ skip w (codes "trivial") t.Trivial _ h refl ∙ skip w (codes "alpha") t.Alpha _ h refl
-    ∙ skip w (codes "beta") t.Beta _ h refl ∙ skip w (codes "delta") t.Delta _ h refl ∙ skip w (codes "gamma") t.Gamma _ h refl ∙ skip w (codes "close") t.Close _ h refl
 
 -- Numerals.
 

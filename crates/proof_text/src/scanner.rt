@@ -5,7 +5,7 @@ ghost use Rattle.std.specs.List.{prefix_len};
 ghost use Rattle.std.specs.Prelude.{◌≡◌, ◌≤◌, ◌<◌, ◌+◌, length, slice_index, IfSome};
 
 use crate::tokens::Token;
-use crate::words::{are_digits, sign, word};
+use crate::words::{are_digits, byte_at, sign, word};
 
 /// A token at the front of a text, and its length in bytes.
 #[derive(Clone, Copy)]
@@ -86,11 +86,4 @@ fn is_word_byte(byte: u8) -> bool
     ensures { result ≡ is_word_byte byte }
 {
     byte.is_ascii_alphabetic() || byte.is_ascii_digit()
-}
-
-/// The byte at this place, 0 past the end.
-fn byte_at(text: &[u8], at: usize) -> u8
-    ensures { result ≡ slice_index text.now at }
-{
-    text.get(at).copied().unwrap_or(0)
 }

@@ -1,18 +1,23 @@
 // Which token a word is.
 
+ghost use Rattle.pri_tokens.specs.Numerals.{decimal_value};
 ghost use Rattle.proof_text.specs.Words.{entry_of, figure_of, is_numeral, merge_of, numeral_of, row_word_of, sign_of, word_of};
 ghost use Rattle.std.specs.Char.{is_ascii_digit};
 ghost use Rattle.std.specs.List.{list_all, prefix_len};
-ghost use Rattle.std.specs.Prelude.{◌≡◌, ◌≤◌, ◌<◌, ◌^◌, length};
+ghost use Rattle.std.specs.Prelude.{◌≡◌, ◌≤◌, ◌<◌, ◌+◌, ◌-◌, ◌*◌, ◌^◌, length, slice_index, MatchOption};
 
 use crate::tokens::Token;
 use pri_tokens::numeral;
 use purse::Entry;
 
 /// The token that a run of letters and digits is, with what belongs to it.
+#[tactic(auto, using(crate::proofs::Figures::second_digit))]
 pub fn word(text: &[u8]) -> Token
     ensures { result ≡ word_of text.now }
 {
+    if byte_at(text, 1).is_ascii_digit() {
+        return figure(text);
+    }
     if text == b"princess-proof".as_slice() {
         return Token::PrincessProof;
     }
@@ -155,8 +160,29 @@ fn number(digits: &[u8]) -> Option<u128>
 fn index(digits: &[u8]) -> Option<u32>
     ensures { result ≡ numeral_of (2 ^ 32) digits.now }
 {
-    let n = number(digits)?;
-    u32::try_from(n).ok()
+    if !is_numeral(digits) {
+        return None;
+    }
+    small_value(digits)
+}
+
+/// The value of decimal digits; none where it is above 2^32 − 1.
+fn small_value(digits: &[u8]) -> Option<u32>
+    ensures exact { MatchOption result (2 ^ 32 ≤ decimal_value digits.now) (λ value. value ≡ decimal_value digits.now) }
+{
+    let mut value: u32 = 0;
+    for digit in digits {
+        value = with_digit(value, *digit)?;
+    }
+    Some(value)
+}
+
+/// The value with one more digit behind it; none where it is above 2^32 − 1.
+fn with_digit(value: u32, digit: u8) -> Option<u32>
+    ensures exact { MatchOption result (2 ^ 32 ≤ 10 * value + (digit - 48)) (λ more. more ≡ 10 * value + (digit - 48)) }
+{
+    let digit = u32::from(digit.saturating_sub(b'0'));
+    value.checked_mul(10)?.checked_add(digit)
 }
 
 /// Digits, the first of which is not 0 where there are more.
@@ -215,4 +241,11 @@ pub fn sign(byte: u8) -> Token
         return Token::Or;
     }
     Token::Bad
+}
+
+/// The byte at this place, 0 past the end.
+pub fn byte_at(text: &[u8], at: usize) -> u8
+    ensures { result ≡ slice_index text.now at }
+{
+    text.get(at).copied().unwrap_or(0)
 }
