@@ -3,6 +3,7 @@ pub mod Accepting
 pub mod Concluding
 pub mod Ended
 pub mod Entered
+pub mod Fitted
 pub mod Left
 pub mod Paid
 pub mod Redoing

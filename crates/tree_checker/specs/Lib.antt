@@ -3,3 +3,4 @@ pub mod Faults
 pub mod Hand
 pub mod Walking
 pub mod Texts
+pub mod Told

@@ -6,6 +6,7 @@ mod conclusion;
 mod constraints;
 mod course;
 mod laws;
+mod leaving;
 mod nodes;
 mod reading;
 mod same;
