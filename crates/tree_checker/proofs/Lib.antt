@@ -1,6 +1,7 @@
 pub mod Accepted
 pub mod Accepting
 pub mod Concluding
+pub mod Dues
 pub mod Ended
 pub mod Entered
 pub mod Fitted

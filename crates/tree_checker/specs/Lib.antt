@@ -4,3 +4,4 @@ pub mod Hand
 pub mod Walking
 pub mod Texts
 pub mod Told
+pub mod Frames

@@ -1,10 +1,8 @@
 use Rattle.std.proofs.Common.{◌∙◌, ◌++◌, nat_eq, is_none, sym}
-use Rattle.open_branch.specs.Standing.{held, standing}
-use Rattle.node_steps.specs.Within.{IsWithin}
+use Rattle.open_branch.specs.Standing.{standing}
 use Rattle.proof_tree.specs.Proof.{node}
 use Rattle.proof_tree.specs.Walk.{fee, width}
 use Rattle.sequent.specs.Rules.{place}
-use Rattle.sequent.specs.Views.{sequent_of}
 use Rattle.sequent.specs.declared.member.Pick.TheVariants.{Close}
 use Rattle.tree_lines.specs.Lines.{last_lines}
 use Rattle.tree_checker.proofs.Entered.{first_true, node_left, node_unpaid, node_wrong, none_walked, second_true, walked_memory}

@@ -1,7 +1,5 @@
-use Rattle.std.proofs.Common.{◌≡◌, ◌∙◌, [], Some, refl, sym, ap, subst}
+use Rattle.std.proofs.Common.{◌≡◌, ◌∙◌, [], Some, refl, sym, ap}
 use Rattle.node_steps.proofs.Keeping.{within_depth, within_room}
-use Rattle.proof_tree.specs.Walk.{redone}
-use Rattle.purse.specs.declared.log.Entry.{Entry}
 use Rattle.purse.specs.declared.log.ElimLog.{ElimLog}
 use Rattle.sequent.specs.Views.{sequent_of}
 use Rattle.sequent.specs.declared.member.Pick.TheVariants.{Close}

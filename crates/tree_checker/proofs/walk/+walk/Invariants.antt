@@ -1,4 +1,4 @@
-use Rattle.std.proofs.Common.{◌≡◌, ◌+◌, ◌*◌, ◌++◌, ℕ, List, length}
+use Rattle.std.proofs.Common.{◌≡◌, ◌+◌, ◌*◌, ◌++◌, List, length}
 use Rattle.open_branch.specs.Standing.{premises_from}
 use Rattle.proof_tree.specs.Proof.{Proofs}
 use Rattle.proof_tree.specs.Walk.{width}
