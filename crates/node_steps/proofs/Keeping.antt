@@ -140,16 +140,19 @@ at-length s i over used (holds p ts) k = omega arith
 at-length s i over used (fails p ts) k = omega arith
 at-length s i over used (differs p ts v) k = omega arith
 
-pub premises_few : (left : ℕ) (s : Sequent) (p : Pick) → IsWithin left s → length (premises_of s p) < 2 ^ 32
-premises_few left s p h = by (place p)
+pub premises_most : (left : ℕ) (s : Sequent) (p : Pick) → IsWithin left s → length (premises_of s p) ≤ most_nodes
+premises_most left s p h = by (place p)
   where
-    at : (i : ℕ) (o : Option Member) → slice_get s.members i ≡ o → length (premises_at s i o) < 2 ^ 32
+    at : (i : ℕ) (o : Option Member) → slice_get s.members i ≡ o → length (premises_at s i o) ≤ most_nodes
     at i None is = omega arith
-    at i (Some m) is = let n = at-length s i m.over m.used m.formula (all_at IsSmall s.members i m is h.small) in omega (arith, n)
+    at i (Some m) is = at-length s i m.over m.used m.formula (all_at IsSmall s.members i m is h.small)
 
-    by : (o : Option ℕ) → length (premises_by s o) < 2 ^ 32
+    by : (o : Option ℕ) → length (premises_by s o) ≤ most_nodes
     by None = omega arith
     by (Some i) = at i (slice_get s.members i) refl
+
+pub premises_few : (left : ℕ) (s : Sequent) (p : Pick) → IsWithin left s → length (premises_of s p) < 2 ^ 32
+premises_few left s p h = let most = premises_most left s p h in omega (arith, most)
 
 -- ---- what calls on a sequent ask
 pub within_room : (left : ℕ) (t : coded.Sequent) → IsWithin left (sequent_of t) → HasRoom t

@@ -6,6 +6,7 @@
 mod branch;
 mod choosing;
 mod entering;
+mod finding;
 mod principal;
 
 pub use branch::Branch;

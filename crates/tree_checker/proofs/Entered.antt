@@ -1,5 +1,5 @@
 -- How the walk enters a node.
-use Rattle.std.proofs.Common.{◌≡◌, ◌∙◌, ℕ, ◌+◌, ◌≤◌, Bool, true, false, ◌&&◌, nat_eq, List, [], ◌∷◌, ◌++◌, length, append_assoc, Option, Some, None, Result, Ok, Err, IsErrAnd, refl, sym, ap, subst, arith}
+use Rattle.std.proofs.Common.{◌≡◌, ◌∙◌, ℕ, suc, ◌+◌, Bool, true, false, ◌&&◌, nat_eq, List, [], ◌∷◌, ◌++◌, length, append_assoc, Option, Some, None, Result, Ok, Err, IsErrAnd, refl, sym, ap, subst, arith}
 use Rattle.std.proofs.lemmas.Bool.Decides.{Decides-eqb}
 use Rattle.purse.specs.declared.fault.StepFault.{StepFault}
 use Rattle.purse.specs.declared.fault.StepFault.TheVariants.{Memory}
@@ -13,21 +13,20 @@ use Rattle.sequent.specs.declared.member.Pick.{Pick}
 use Rattle.sequent.specs.Rules.{applies, premises_of}
 use Rattle.sequent.specs.Sequent.{Sequent}
 use Rattle.proof_tree.specs.Proves.{rule_of}
-use Rattle.proof_tree.specs.Proof.{Proof, Proofs, node}
+use Rattle.proof_tree.specs.Proof.{Proof, Proofs, no_proof, and_proof, node}
 use Rattle.proof_tree.specs.Walk.{all_walked, fee, fits, left_at, nodes_in, on_some, walked, width}
 use Rattle.tree_lines.specs.declared.lines.TextLine.{TextLine}
 use Rattle.tree_lines.specs.declared.lines.TextLine.TheVariants as w
-use Rattle.tree_lines.specs.Lines.{last_lines, lines, lines_all}
-use Rattle.tree_lines.specs.Owed.{Shallow}
-use Rattle.tree_text.specs.Shaped.{IsShapedNode}
+use Rattle.tree_lines.specs.Lines.{last_lines}
 use Rattle.tree_checker.specs.declared.course.Course.{Course}
 use Rattle.tree_checker.specs.Hand.{at_node}
+use Rattle.tree_checker.specs.Told.{HasLevels, HaveLevels, told_all, told_lines, told_width}
 use Rattle.tree_checker.specs.Walking.{HasLeft, HasWalked, HaveWalked, IfGiven}
 use Rattle.tree_checker.proofs.Paid.{if_err}
 
 -- ---- a node
-pub no_level : (j left : ℕ) (x : Proof) → left ≡ 0 → j + left ≡ 2001 → IsShapedNode Shallow j x → ⊥
-no_level j left (node p ns es d) none level shaped = let most : j ≤ 2000 = shaped.0 in omega (arith, none, level, most)
+pub no_level : (left : ℕ) (x : Proof) → left ≡ 0 → HasLevels left x → ⊥
+no_level left x none levels = subst (λ k. HasLevels k x) none levels
 
 pub second_true : (a b : Bool) → (a && b) ≡ true → b ≡ true
 second_true true b h = h
@@ -103,18 +102,24 @@ abbrev pub ReadsRow : (List TextLine → Type 0) → Option (Pick × ℕ) → (L
 ReadsRow Coming o Next = (p : Pick) (k : ℕ) (ls : List TextLine) → Coming (w.Row p k ∷ ls) → (o ≡ Some (p, k)) × Next ls
 
 -- the node of a proof, where a row has come and the walk went on from there
-pub after_row : (Coming Next Behind : List TextLine → Type 0) (s t : Sequent) (rule : Pick) (count j left : ℕ) (o : Option (Pick × ℕ)) {old new : Funds} {from to : Course} {r : Result (Option (List (List Literal))) StepFault} → s ≡ t → o ≡ Some (rule, count) → ReadsRow Coming o Next
-    → ((ns : Proofs) (es : List Entry) (d : List (List Literal)) (ls : List TextLine) → j + left ≡ 2000 → IsShapedNode Shallow j (node rule ns es d) → count ≡ width ns → Next (lines_all ns ++ (last_lines rule es d ++ ls))
+pub after_row : (Coming Next Behind : List TextLine → Type 0) (s t : Sequent) (rule : Pick) (count left : ℕ) (o : Option (Pick × ℕ)) {old new : Funds} {from to : Course} {r : Result (Option (List (List Literal))) StepFault} → s ≡ t → o ≡ Some (rule, count) → ReadsRow Coming o Next
+    → ((ns : Proofs) (es : List Entry) (d : List (List Literal)) (ls : List TextLine) → HaveLevels left ns → count ≡ told_width rule (width ns) es → Next (told_all ns ++ (last_lines rule es d ++ ls))
     → HasWalked s (node rule ns es d) (Behind ls) old from r new to)
-    → (x : Proof) (ls : List TextLine) → j + left ≡ 2000 → IsShapedNode Shallow j x → Coming (lines x ++ ls) → HasWalked t x (Behind ls) old from r new to × (rule ≡ rule_of x)
-after_row Coming Next Behind s t rule count j left o {old} {new} {from} {to} {r} same some reads walk (node p ns es d) ls level shaped coming =
-    let row = reads p (width ns) ((lines_all ns ++ last_lines p es d) ++ ls) coming in
-    let is = same_row (rule, count) (p, width ns) (sym some ∙ row.0) in
-    let behind : Next (lines_all ns ++ (last_lines p es d ++ ls)) = subst Next (append_assoc (lines_all ns) (last_lines p es d) ls) row.1 in
+    → (k : ℕ) (x : Proof) (ls : List TextLine) → k ≡ suc left → HasLevels k x → Coming (told_lines x ++ ls) → HasWalked t x (Behind ls) old from r new to × (rule ≡ rule_of x)
+after_row Coming Next Behind s t rule count left o {old} {new} {from} {to} {r} same some reads walk k (node p ns es d) ls level levels coming =
+    let row = reads p (told_width p (width ns) es) ((told_all ns ++ last_lines p es d) ++ ls) coming in
+    let is = same_row (rule, count) (p, told_width p (width ns) es) (sym some ∙ row.0) in
+    let behind : Next (told_all ns ++ (last_lines p es d ++ ls)) = subst Next (append_assoc (told_all ns) (last_lines p es d) ls) row.1 in
+    let below : HaveLevels left ns = subst (λ m. HasLevels m (node p ns es d)) level levels in
     let here : HasWalked s (node rule ns es d) (Behind ls) old from r new to =
-    walk ns es d ls level (subst (λ q. IsShapedNode Shallow j (node q ns es d)) (sym is.0) shaped) is.1 (subst (λ q. Next (lines_all ns ++ (last_lines q es d ++ ls))) (sym is.0) behind) in
+    walk ns es d ls below (subst (λ q. count ≡ told_width q (width ns) es) (sym is.0) is.1) (subst (λ q. Next (told_all ns ++ (last_lines q es d ++ ls))) (sym is.0) behind) in
     (subst (λ z. HasWalked z (node p ns es d) (Behind ls) old from r new to) same (subst (λ q. HasWalked s (node q ns es d) (Behind ls) old from r new to) is.0 here), is.0)
 
 -- want of memory before anything was done
 pub walked_memory : (s : Sequent) (x : Proof) {Behind : Type 0} {a : Funds} {c d : Course} (r : Result (Option (List (List Literal))) StepFault) → IsErrAnd r (λ y. y ≡ Memory) → HasWalked s x Behind a c r a d
 walked_memory s x r err = record { work = follow_memory r err; behind = if_err _ _ r err }
+
+-- a leaf that is closed has no premises to walk
+pub none_walked : (Coming : List TextLine → Type 0) (ls : List TextLine) (ns : Proofs) {a : Funds} {c : Course} → width ns ≡ 0 → Coming (told_all ns ++ ls) → HaveWalked [] ns (Coming ls) a c (Ok (Some [])) a c
+none_walked Coming ls no_proof none coming = record { work = follow_just (Some []) (Some []) refl; behind = (refl, omega arith, coming) }
+none_walked Coming ls (and_proof n ns) none coming = absurd (omega (arith, none))

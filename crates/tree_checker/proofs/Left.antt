@@ -1,5 +1,5 @@
 -- How the walk leaves a node.
-use Rattle.std.proofs.Common.{◌≡◌, ℕ, Bool, true, false, cond, List, [], Option, Some, None, Result, Ok, Err, IsErrAnd, refl, sym, ap, subst}
+use Rattle.std.proofs.Common.{◌≡◌, ℕ, Bool, true, false, cond, List, [], Option, Some, None, Result, Ok, Err, IfSome, IsErrAnd, refl, sym, ap, subst, ◌∙◌}
 use Rattle.purse.specs.declared.fault.StepFault.{StepFault}
 use Rattle.purse.specs.declared.fault.StepFault.TheVariants.{Memory}
 use Rattle.purse.specs.declared.log.ElimLog.{ElimLog}
@@ -15,27 +15,22 @@ use Rattle.proof_tree.proofs.Walking.{same_so}
 use Rattle.tree_checker.specs.declared.course.Course.{Course}
 use Rattle.tree_checker.specs.Hand.{at_node}
 use Rattle.tree_checker.specs.Walking.{HasLeft, IfGiven, IsLogOf}
+use Rattle.tree_checker.proofs.Paid.{if_err}
 
 -- ---- leaving a node
-pub confirm_cut : (s : Sequent) (p : Pick) (ds : List (List (List Literal))) (es : List Entry) (d : List (List Literal)) {a b : Funds} {n : ℕ} {e : StepFault} (r : Result (Option (List (List Literal))) StepFault)
-    → Followed at_node (redone s p ds es) a n (Err e) b n → IsErrAnd r (λ x. x ≡ e) → Followed at_node (next (redone s p ds es) (on_some (confirmed d))) a n r b n
-confirm_cut s p ds es d r h is = follow_err (redone s p ds es) (on_some (confirmed d)) r is h
-
-pub confirm_none : (s : Sequent) (p : Pick) (ds : List (List (List Literal))) (es : List Entry) (d : List (List Literal)) {a b : Funds} {n : ℕ}
-    → Followed at_node (redone s p ds es) a n (Ok None) b n → Followed at_node (next (redone s p ds es) (on_some (confirmed d))) a n (Ok None) b n
-confirm_none s p ds es d h = follow_ok (redone s p ds es) (on_some (confirmed d)) h (follow_just None None refl)
-
 confirmed_by : (d c : List (List Literal)) (t : Bool) (o : Option (List (List Literal))) {b : Funds} {n : ℕ} → is_same c d ≡ t → o ≡ cond t (Some d) None → Followed at_node (confirmed d c) b n (Ok o) b n
 confirmed_by d c true o {b} {n} same is = rw same (follow_just (Some d) o is)
 confirmed_by d c false o {b} {n} same is = rw same (follow_just None o is)
 
-pub confirm_other : (s : Sequent) (p : Pick) (ds : List (List (List Literal))) (es : List Entry) (d c : List (List Literal)) {a b : Funds} {n : ℕ} → is_same c d ≡ false
-    → Followed at_node (redone s p ds es) a n (Ok (Some c)) b n → Followed at_node (next (redone s p ds es) (on_some (confirmed d))) a n (Ok None) b n
-confirm_other s p ds es d c same h = follow_ok (redone s p ds es) (on_some (confirmed d)) h (confirmed_by d c false None same refl)
+-- what was made again, beside what the node gives
+pub confirm_same : (d c : List (List Literal)) {o : Option (List (List Literal))} (b : Funds) (n : ℕ) → o ≡ Some c → is_same c d ≡ true → Followed at_node (on_some (confirmed d) o) b n (Ok (Some c)) b n
+confirm_same d c b n is same = rw is (confirmed_by d c true (Some c) same (ap (λ (z : List (List Literal)). Some z) (same_so c d same)))
 
-pub confirm_same : (s : Sequent) (p : Pick) (ds : List (List (List Literal))) (es : List Entry) (d c : List (List Literal)) {a b : Funds} {n : ℕ} → is_same c d ≡ true
-    → Followed at_node (redone s p ds es) a n (Ok (Some c)) b n → Followed at_node (next (redone s p ds es) (on_some (confirmed d))) a n (Ok (Some c)) b n
-confirm_same s p ds es d c same h = follow_ok (redone s p ds es) (on_some (confirmed d)) h (confirmed_by d c true (Some c) same (ap (λ (z : List (List Literal)). Some z) (same_so c d same)))
+pub confirm_other : (d c : List (List Literal)) {o : Option (List (List Literal))} (b : Funds) (n : ℕ) → o ≡ Some c → is_same c d ≡ false → Followed at_node (on_some (confirmed d) o) b n (Ok None) b n
+confirm_other d c b n is same = rw is (confirmed_by d c false None same refl)
+
+pub confirm_none : (d : List (List Literal)) {o : Option (List (List Literal))} (b : Funds) (n : ℕ) → o ≡ None → Followed at_node (on_some (confirmed d) o) b n (Ok None) b n
+confirm_none d b n is = rw is (follow_just None None refl)
 
 -- the log that came is that of the node
 pub log_is : (e : Bool) (log : ElimLog) (es : List Entry) → (e ≡ true → log.entries ≡ es) → (e ≡ false → es ≡ []) → IsLogOf e log es
@@ -48,11 +43,19 @@ left_memory n s p es d ds (Ok o) same h = absurd h
 left_memory n s p es d ds {Behind} {a} {b} {from} {to} (Err e) same h =
     subst (λ (z : Funds). HasLeft n s p es d ds Behind a from (Err e) z to) (sym same) (let r : Result (Option (List (List Literal))) StepFault = Err e in record { work = follow_memory r h; behind = tt })
 
-pub left_with : (n : ℕ) (s : Sequent) (p : Pick) (es : List Entry) (d : List (List Literal)) (ds : List (List (List Literal))) {Behind : Type 0} {a b : Funds} {from to : Course} (r : Result (Option (List (List Literal))) StepFault)
-    → to.hand ≡ at_node from.hand (back n) → Followed at_node (next (redone s p ds es) (on_some (confirmed d))) a to.hand r b to.hand → IfGiven r (λ c. c ≡ d) → Behind → HasLeft n s p es d ds Behind a from r b to
-left_with n s p es d ds {Behind} r hand work same behind = record { work = follow_note (back n) (λ _. next (redone s p ds es) (on_some (confirmed d))) hand work; behind = both r same }
+pub left_cut : (n : ℕ) (s : Sequent) (p : Pick) (es : List Entry) (d : List (List Literal)) (ds : List (List (List Literal))) {Behind : Type 0} {a b : Funds} {from to : Course} {e : StepFault} (r : Result (Option (List (List Literal))) StepFault)
+    → to.hand ≡ at_node from.hand (back n) → Followed at_node (redone s p ds es) a to.hand (Err e) b to.hand → IsErrAnd r (λ x. x ≡ e) → HasLeft n s p es d ds Behind a from r b to
+left_cut n s p es d ds r hand work is = record { work = follow_note (back n) (λ _. next (redone s p ds es) (on_some (confirmed d))) hand (follow_err (redone s p ds es) (on_some (confirmed d)) r is work); behind = if_err _ _ r is }
+
+pub left_with : (n : ℕ) (s : Sequent) (p : Pick) (es : List Entry) (d e : List (List Literal)) (ds : List (List (List Literal))) {Behind : Type 0} {a b : Funds} {from to : Course} {made : Option (List (List Literal))} (o : Option (List (List Literal)))
+    → to.hand ≡ at_node from.hand (back n) → e ≡ d → Followed at_node (redone s p ds es) a to.hand (Ok made) b to.hand → Followed at_node (on_some (confirmed e) made) b to.hand (Ok o) b to.hand → IfSome o (λ c. c ≡ e) → Behind
+    → HasLeft n s p es d ds Behind a from (Ok o) b to
+left_with n s p es d e ds {Behind} {b = b} {to = to} {made} o hand same work told is behind = record {
+  work = follow_note (back n) (λ _. next (redone s p ds es) (on_some (confirmed d))) hand
+      (follow_ok (redone s p ds es) (on_some (confirmed d)) work (subst (λ z. Followed at_node (on_some (confirmed z) made) b to.hand (Ok o) b to.hand) same told));
+  behind = both o is;
+}
   where
-    both : (q : Result (Option (List (List Literal))) StepFault) → IfGiven q (λ c. c ≡ d) → IfGiven q (λ c. (c ≡ d) × Behind)
-    both (Ok (Some c)) h = (h, behind)
-    both (Ok None) h = tt
-    both (Err e) h = tt
+    both : (q : Option (List (List Literal))) → IfSome q (λ c. c ≡ e) → IfGiven (Ok q) (λ c. (c ≡ d) × Behind)
+    both (Some c) h = (h ∙ same, behind)
+    both None h = tt

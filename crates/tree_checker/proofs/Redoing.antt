@@ -21,7 +21,7 @@ use Rattle.elim_check.specs.declared.fault.LogFault.{LogFault}
 use Rattle.elim_check.specs.declared.fault.LogFault.TheVariants as log_fault
 use Rattle.proof_tree.specs.Rules.{every_by_log}
 use Rattle.proof_tree.specs.Walk.{in_new_log}
-use Rattle.tree_checker.specs.Hand.{at_node, if_none_left, outcome}
+use Rattle.tree_checker.specs.Hand.{at_node, outcome}
 
 -- ---- the notes of a log leave the node at hand
 
@@ -52,21 +52,16 @@ log_followed m log {a} {b} t n h is = subst (λ r. Followed at_node (by_whole_lo
 
 -- ---- work without a log
 
-left_so : {A : Type 0} (v : A) (log : List Entry) → if_none_left v log ≡ used_up (Some (rest v log))
-left_so v [] = refl
-left_so v (e ∷ log) = refl
+pub unlogged_ok : {A : Type 0} (w : Traced A) {a b : Funds} {v : A} (n : ℕ) → Charged w a (Ok v) b → Followed at_node (by_whole_log (reads_none w) []) a n (Ok (Some v)) b n
+unlogged_ok w {v = v} n h =
+    follow_ok (reads_none w []) (λ o. just (used_up o)) (follow_ok w (λ x. just (Some (rest x []))) (follow_unnoted (Ok v) h) (follow_just (Some (rest v [])) (Some (rest v [])) refl))
+    (follow_just (used_up (Some (rest v []))) (Some v) refl)
 
-pub unlogged_ok : {A : Type 0} (w : Traced A) (log : List Entry) {a b : Funds} {v : A} {o : Option A} (n : ℕ) → Charged w a (Ok v) b → o ≡ if_none_left v log
-    → Followed at_node (by_whole_log (reads_none w) log) a n (Ok o) b n
-unlogged_ok w log {v = v} {o} n h is =
-    follow_ok (reads_none w log) (λ o. just (used_up o)) (follow_ok w (λ x. just (Some (rest x log))) (follow_unnoted (Ok v) h) (follow_just (Some (rest v log)) (Some (rest v log)) refl))
-    (follow_just (used_up (Some (rest v log))) o (is ∙ left_so v log))
+pub unlogged_just : {A : Type 0} (x v : A) (b : Funds) (n : ℕ) → v ≡ x → Followed at_node (by_whole_log (reads_none (just x)) []) b n (Ok (Some v)) b n
+unlogged_just x v b n same = unlogged_ok (just x) n (then_just x v same)
 
-pub unlogged_just : {A : Type 0} (x v : A) (log : List Entry) {o : Option A} (b : Funds) (n : ℕ) → v ≡ x → o ≡ if_none_left v log → Followed at_node (by_whole_log (reads_none (just x)) log) b n (Ok o) b n
-unlogged_just x v log b n same is = unlogged_ok (just x) log n (then_just x v same) is
-
-pub unlogged_err : {A : Type 0} (w : Traced A) (log : List Entry) {a b : Funds} {e : StepFault} (n : ℕ) → Charged w a (Err e) b → Followed at_node (by_whole_log (reads_none w) log) a n (Err e) b n
-unlogged_err {A} w log {e = e} n h = let r : Result A StepFault = Err e in follow_fault (reads_none w log) (λ o. just (used_up o)) (follow_fault w (λ x. just (Some (rest x log))) (follow_unnoted r h))
+pub unlogged_err : {A : Type 0} (w : Traced A) {a b : Funds} {e : StepFault} (n : ℕ) → Charged w a (Err e) b → Followed at_node (by_whole_log (reads_none w) []) a n (Err e) b n
+unlogged_err {A} w {e = e} n h = let r : Result A StepFault = Err e in follow_fault (reads_none w []) (λ o. just (used_up o)) (follow_fault w (λ x. just (Some (rest x []))) (follow_unnoted r h))
 
 -- ---- the work in a log of its own
 pub in_its_log : {A : Type 0} (w : Traced A) {a b : Funds} (r : Result A StepFault) (n : ℕ) → Followed at_node w a n r b n → Followed at_node (in_new_log w) a n r b n

@@ -1,6 +1,5 @@
 -- Where a walk over a proof is, and how it says what a checked log answers.
-use Rattle.std.specs.Prelude.{ℕ, List, [], ◌∷◌, Option, Some, None, Result, Ok, Err}
-use Rattle.purse.specs.declared.log.Entry as log
+use Rattle.std.specs.Prelude.{ℕ, Option, Some, None, Result, Ok, Err}
 use Rattle.purse.specs.Trace.{Mark, entry, new_log, round, enter, back}
 use Rattle.purse.specs.declared.fault.StepFault.{StepFault}
 use Rattle.purse.specs.declared.fault.StepFault.TheVariants as step
@@ -22,8 +21,3 @@ outcome (Err (Entry n)) = Ok None
 outcome (Err (Cost n)) = Err step.Steps
 outcome (Err (Range n p)) = Err (step.Overflow p)
 outcome (Err Memory) = Err step.Memory
-
--- the value, where no entry is left
-abbrev pub if_none_left : {A : Type 0} → A → List log.Entry → Option A
-if_none_left v [] = Some v
-if_none_left v (e ∷ es) = None

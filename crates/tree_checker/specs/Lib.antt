@@ -3,3 +3,5 @@ pub mod Faults
 pub mod Hand
 pub mod Walking
 pub mod Texts
+pub mod Told
+pub mod Frames

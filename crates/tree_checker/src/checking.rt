@@ -3,10 +3,13 @@
 ghost use Rattle.formula.specs.Form.{IsFormOver};
 ghost use Rattle.formula.specs.Sizes as sizes;
 ghost use Rattle.formula.specs.Tree.{form};
+ghost use Rattle.open_branch.specs.Standing.{standing};
 ghost use Rattle.proof_tree.specs.Proof.{Proof};
+ghost use Rattle.proof_tree.specs.Proves as proves;
 ghost use Rattle.proof_tree.specs.declared.node.Conclusion as tree;
-ghost use Rattle.std.specs.Prelude.{◌≡◌, ◌++◌, ◌∷◌, ◌≤◌, []};
+ghost use Rattle.std.specs.Prelude.{◌≡◌, ◌++◌, ◌∷◌, ◌≤◌, [], IfOk};
 ghost use Rattle.tree_checker.specs.Answering.{ChecksAs, HasChecked, HasConcluded, answer_at};
+ghost use Rattle.tree_checker.specs.Told.{HasLevels, told_lines};
 ghost use Rattle.tree_checker.specs.Walking.{IsPaid};
 ghost use Rattle.tree_lines.specs.Lines as text;
 ghost use Rattle.tree_lines.specs.Owed.{Shallow};
@@ -19,7 +22,8 @@ use crate::reading::{read_end, read_row};
 use crate::walk::enter;
 use clause_set::Dnf;
 use formula::Core;
-use linear_term::Place;
+use linear_term::{Memory, Place};
+use open_branch::Branch;
 use proof_stream::ProofLines;
 use proof_tree::Verdict;
 use purse::{Purse, StepFault};
@@ -64,6 +68,24 @@ pub fn check_lines<L: ProofLines>(
     requires charges { charges ≤ 1000000000 }
     ensures { (x : Proof) (c : tree.Conclusion) → IsShapedNode Shallow 1 x → L.coming lines.old (text.lines x ++ w.End c ∷ []) → ChecksAs (form root.now) constants x c charges result }
 {
+    check_told(alloc, root, constants, charges, lines)
+}
+
+/// The same of the lines in which a walk is told of any proof of at most 2,000 levels.
+pub(crate) fn check_told<L: ProofLines>(
+    alloc: Global,
+    root: &Core,
+    constants: u32,
+    charges: u64,
+    lines: &mut L,
+) -> Result<Checked, CheckFault>
+    requires over { IsFormOver constants (form root.now) }
+    requires size { sizes.size (form root.now) ≤ 1000000 }
+    requires depth { sizes.depth (form root.now) ≤ 2000 }
+    requires constants { constants ≤ 1000 }
+    requires charges { charges ≤ 1000000000 }
+    ensures { (x : Proof) (c : tree.Conclusion) → HasLevels 2000 x → L.coming lines.old (told_lines x ++ w.End c ∷ []) → ChecksAs (form root.now) constants x c charges result }
+{
     let mut course = Course::new();
     let mut purse = Purse::new(charges);
     let ended = walk_proof(alloc, root, constants, lines, &mut course, &mut purse);
@@ -83,6 +105,14 @@ fn answer(hand: u64, ended: Result<Option<Checked>, StepFault>) -> Result<Checke
     }
 }
 
+/// The branch at the root.
+fn at_root(alloc: Global, root: &Core, constants: u32) -> Result<Branch, Memory>
+    ensures { IfOk result (λ b. standing b ≡ proves.start (form root.now) constants) }
+{
+    let s = start(alloc, root, constants)?;
+    Branch::at(alloc, s)
+}
+
 /// The walk over the tree, and then the conclusion.
 fn walk_proof<L: ProofLines>(
     alloc: Global,
@@ -98,12 +128,21 @@ fn walk_proof<L: ProofLines>(
     requires constants { constants ≤ 1000 }
     requires first { course.old.nodes ≡ 0 }
     requires paid { IsPaid course.old purse.old }
-    ensures { (x : Proof) (c : tree.Conclusion) → IsShapedNode Shallow 1 x → L.coming lines.old (text.lines x ++ w.End c ∷ [])
+    ensures { (x : Proof) (c : tree.Conclusion) → HasLevels 2000 x → L.coming lines.old (told_lines x ++ w.End c ∷ [])
         → HasChecked (form root.now) constants x c purse.old course.old.hand result purse.new course.new }
 {
-    let s = start(alloc, root, constants)?;
+    let mut branch = at_root(alloc, root, constants)?;
     match read_row(alloc, lines)? {
-        Some((rule, count)) => match enter(alloc, lines, &s, rule, count, 1999, course, purse)? {
+        Some((rule, count)) => match enter(
+            alloc,
+            lines,
+            &mut branch,
+            rule,
+            count,
+            1999,
+            course,
+            purse,
+        )? {
             Some(d) => end(alloc, root, constants, rule, d, lines, course, purse),
             None => Ok(None),
         },

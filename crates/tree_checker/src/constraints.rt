@@ -1,24 +1,29 @@
 // The constraint of a node, made again of those of its premises by the log that the proof gives.
 
 ghost use Rattle.clause_set.specs.Dnfs.{top};
-ghost use Rattle.clause_set.specs.declared.literal.Literal.{Literal};
 ghost use Rattle.formula.specs.Sizes.{depth};
 ghost use Rattle.elim_rules.specs.Logs.{by_whole_log, name_by_log, reads_none};
 ghost use Rattle.pred_unify.specs.Pairs.{closing_of};
-ghost use Rattle.proof_tree.specs.Rules.{conjoined, constraint_by, every_by_log, first_given};
-ghost use Rattle.proof_tree.specs.Walk.{redone};
-ghost use Rattle.purse.specs.Followed.{Followed};
-ghost use Rattle.purse.specs.Trace.{Funds, Traced, just};
+ghost use Rattle.open_branch.specs.Standing.{rule_at, standing};
+ghost use Rattle.proof_tree.specs.Rules.{conjoined, every_by_log, first_given};
+ghost use Rattle.proof_tree.specs.Walk.{eliminates, redone};
+ghost use Rattle.purse.specs.Followed.{Followed, Later};
+ghost use Rattle.purse.specs.Trace.{Funds, just};
+ghost use Rattle.purse.specs.declared.log.Entry.{Entry};
 ghost use Rattle.sequent.specs.Views.{HasRoom, sequent_of};
-ghost use Rattle.std.specs.Prelude.{◌≡◌, ◌+◌, ◌≤◌, ◌^◌, [], List, ℕ};
-ghost use Rattle.tree_checker.specs.Hand.{at_node, if_none_left, outcome};
+ghost use Rattle.sequent.specs.declared.member.Pick.TheVariants as pick;
+ghost use Rattle.std.specs.Prelude.{◌≡◌, ◌+◌, ◌<◌, ◌≤◌, ◌^◌, [], List, ℕ};
+ghost use Rattle.tree_checker.specs.Hand.{at_node, outcome};
+ghost use Rattle.tree_checker.specs.Walking.{IsLogOf};
 
 use clause_set::Dnf;
 use elim_check::{LogFault, check_exists, check_forall, check_log};
-use node_steps::{conjoined, first};
+use node_steps::conjoined;
+use open_branch::{Branch, Principal};
 use pred_unify::closing;
 use purse::{ElimLog, Purse, StepFault};
-use sequent::{Pick, Sequent};
+use sequent::{Sequent, Shape};
+use sqlite_items::Items;
 use std::alloc::Global;
 
 /// The answer about a log, as a walk over a proof has it.
@@ -34,81 +39,97 @@ pub fn outcome(answer: Result<Dnf, LogFault>) -> Result<Option<Dnf>, StepFault>
     }
 }
 
-/// A constraint that was made without a log: nothing where there is an entry.
-fn without_entry(made: Dnf, log: &ElimLog) -> Option<Dnf>
-    ensures { result ≡ if_none_left made log.now.entries }
+/// The first constraint, taken out of them; false where there is none.
+fn first_of(alloc: Global, given: Items<Dnf>) -> Dnf
+    ensures { result ≡ first_given given }
 {
-    match log.entries.as_slice() {
-        [] => Some(made),
-        _ => None,
+    let mut rest = given;
+    if rest.is_empty() {
+        Dnf::bottom(alloc)
+    } else {
+        rest.remove(0)
     }
 }
 
 /// The constraint of trivial.
 #[tactic(auto, using(purse::proofs::Following::follow_memory, crate::proofs::Redoing::unlogged_just))]
-fn trivial(alloc: Global, log: &ElimLog) -> Result<Option<Dnf>, StepFault>
-    ensures { (b : Funds) (n : ℕ) → Followed at_node (by_whole_log (reads_none (just top)) log.now.entries) b n result b n }
+fn trivial(alloc: Global) -> Result<Option<Dnf>, StepFault>
+    ensures { (b : Funds) (n : ℕ) → Followed at_node (by_whole_log (reads_none (just top)) []) b n result b n }
 {
-    let all = Dnf::top(alloc)?;
-    Ok(without_entry(all, log))
+    Ok(Some(Dnf::top(alloc)?))
 }
 
 /// The constraint of alpha: that of the premise.
-#[tactic(auto, using(purse::proofs::Following::follow_memory, crate::proofs::Redoing::unlogged_just))]
-fn alpha(alloc: Global, ds: &[Dnf], log: &ElimLog) -> Result<Option<Dnf>, StepFault>
-    ensures { (b : Funds) (n : ℕ) → Followed at_node (by_whole_log (reads_none (just (first_given ds.now))) log.now.entries) b n result b n }
+#[tactic(auto, using(crate::proofs::Redoing::unlogged_just))]
+fn alpha(alloc: Global, given: Items<Dnf>) -> Result<Option<Dnf>, StepFault>
+    ensures { (b : Funds) (n : ℕ) → Followed at_node (by_whole_log (reads_none (just (first_given given))) []) b n result b n }
 {
-    let d = first(alloc, ds)?;
-    Ok(without_entry(d, log))
+    Ok(Some(first_of(alloc, given)))
 }
 
 /// The constraint of beta: that of each premise.
 #[tactic(auto, using(purse::proofs::Following::follow_memory, crate::proofs::Redoing::unlogged_ok, crate::proofs::Redoing::unlogged_err))]
-fn beta(
-    alloc: Global,
-    ds: &[Dnf],
-    log: &ElimLog,
-    purse: &mut Purse,
-) -> Result<Option<Dnf>, StepFault>
-    ensures { (n : ℕ) → Followed at_node (by_whole_log (reads_none (conjoined ds.now top)) log.now.entries) purse.old n result purse.new n }
+fn beta(alloc: Global, given: &[Dnf], purse: &mut Purse) -> Result<Option<Dnf>, StepFault>
+    ensures { (n : ℕ) → Followed at_node (by_whole_log (reads_none (conjoined given.now top)) []) purse.old n result purse.new n }
 {
-    let all = conjoined(alloc, ds, purse)?;
-    Ok(without_entry(all, log))
+    Ok(Some(conjoined(alloc, given, purse)?))
 }
 
-/// The constraint of delta: that of the premise, for every value of the new constant.
-#[tactic(auto, using(purse::proofs::Following::follow_memory, crate::proofs::Redoing::log_followed))]
+/// The constraint of delta: that of the premise, for every value of the new constant, which comes after so many.
 fn delta(
     alloc: Global,
-    s: &Sequent,
-    ds: &[Dnf],
+    count: u32,
+    given: Items<Dnf>,
     log: &ElimLog,
     purse: &mut Purse,
 ) -> Result<Option<Dnf>, StepFault>
-    requires room { HasRoom s.now }
-    ensures { (n : ℕ) → Followed at_node (by_whole_log (every_by_log s.now.count (first_given ds.now)) log.now.entries) purse.old n result purse.new n }
+    requires room { count + 1 < 2 ^ 32 }
+    ensures { (n : ℕ) → Followed at_node (by_whole_log (every_by_log count (first_given given)) log.now.entries) purse.old n result purse.new n }
 {
-    let d = first(alloc, ds)?;
-    outcome(check_forall(alloc, &d, s.count + 1, log, purse))
+    let d = first_of(alloc, given);
+    outcome(check_forall(alloc, &d, count + 1, log, purse))
 }
 
-/// The constraint of gamma: that of the premise, for some value of the new constant.
-#[tactic(auto, using(purse::proofs::Following::follow_memory, crate::proofs::Redoing::log_followed))]
+/// The constraint of gamma: that of the premise, for some value of the new constant, which comes after so many.
 fn gamma(
     alloc: Global,
-    s: &Sequent,
-    ds: &[Dnf],
+    count: u32,
+    given: Items<Dnf>,
     log: &ElimLog,
     purse: &mut Purse,
 ) -> Result<Option<Dnf>, StepFault>
-    ensures { (n : ℕ) → Followed at_node (by_whole_log (name_by_log s.now.count (first_given ds.now)) log.now.entries) purse.old n result purse.new n }
+    ensures { (n : ℕ) → Followed at_node (by_whole_log (name_by_log count (first_given given)) log.now.entries) purse.old n result purse.new n }
 {
-    let d = first(alloc, ds)?;
-    outcome(check_exists(alloc, &d, s.count, log, purse))
+    let d = first_of(alloc, given);
+    outcome(check_exists(alloc, &d, count, log, purse))
 }
 
-/// The constraint of a leaf that is closed: its closing formula without quantifiers.
-fn close(
+/// The constraint of the rule with this principal, made again of those of its premises; by the log, where the rule eliminates.
+pub fn redo(
+    alloc: Global,
+    branch: &Branch,
+    principal: &Principal,
+    given: Items<Dnf>,
+    log: &ElimLog,
+    purse: &mut Purse,
+) -> Result<Option<Dnf>, StepFault>
+    requires room { (standing branch.now).count + 1 < 2 ^ 32 }
+    requires funds { purse.old.spent ≤ purse.old.budget }
+    ensures work { (es : List Entry) (n : ℕ) → IsLogOf (eliminates (rule_at principal.now.shape principal.now.index)) log.now es
+        → Followed at_node (redone (standing branch.now) (rule_at principal.now.shape principal.now.index) given es) purse.old n result purse.new n }
+    ensures later { Later purse.old purse.new }
+{
+    match principal.shape {
+        Shape::Trivial => trivial(alloc),
+        Shape::Alpha => alpha(alloc, given),
+        Shape::Delta => delta(alloc, branch.count(), given, log, purse),
+        Shape::Beta => beta(alloc, given.as_slice(), purse),
+        Shape::Gamma => gamma(alloc, branch.count(), given, log, purse),
+    }
+}
+
+/// The constraint of a leaf that is closed, made again by a log: its closing formula without quantifiers.
+pub fn redo_leaf(
     alloc: Global,
     s: &Sequent,
     log: &ElimLog,
@@ -116,34 +137,12 @@ fn close(
 ) -> Result<Option<Dnf>, StepFault>
     requires room { HasRoom s.now }
     requires depth { s.now.count + depth (closing_of (sequent_of s.now)).value ≤ 2 ^ 32 }
-    ensures { (n : ℕ) → Followed at_node (by_whole_log (constraint_by (sequent_of s.now) Pick.Close []) log.now.entries) purse.old n result purse.new n }
+    requires funds { purse.old.spent ≤ purse.old.budget }
+    ensures work { (n : ℕ) → Followed at_node (redone (sequent_of s.now) pick.Close [] log.now.entries) purse.old n result purse.new n }
+    ensures later { Later purse.old purse.new }
 {
     match closing(alloc, s) {
         Ok(f) => outcome(check_log(alloc, &f, s.count, log, purse)),
         Err(fault) => Err(StepFault::from(fault)),
-    }
-}
-
-/// The constraint of a rule, made again of those of its premises by a log: nothing where an entry is missing, names no rule that
-/// applies or is left over.
-pub fn redo(
-    alloc: Global,
-    s: &Sequent,
-    rule: Pick,
-    given: &[Dnf],
-    log: &ElimLog,
-    purse: &mut Purse,
-) -> Result<Option<Dnf>, StepFault>
-    requires room { HasRoom s.now }
-    requires depth { s.now.count + depth (closing_of (sequent_of s.now)).value ≤ 2 ^ 32 }
-    ensures { (n : ℕ) → Followed at_node (redone (sequent_of s.now) rule given.now log.now.entries) purse.old n result purse.new n }
-{
-    match rule {
-        Pick::Trivial(_) => trivial(alloc, log),
-        Pick::Alpha(_) => alpha(alloc, given, log),
-        Pick::Delta(_) => delta(alloc, s, given, log, purse),
-        Pick::Beta(_) => beta(alloc, given, log, purse),
-        Pick::Gamma(_) => gamma(alloc, s, given, log, purse),
-        Pick::Close => close(alloc, s, log, purse),
     }
 }

@@ -1,17 +1,14 @@
-// What is asked of a node before its premises are: its rule applies, its premises are as many as the rule has, and its charge.
+// What is asked of a node before its premises are: which rule it takes, and its charge.
 
-ghost use Rattle.proof_tree.specs.Proof.{Proofs};
+ghost use Rattle.open_branch.specs.Standing.{IsPrincipal, rule_at, standing};
 ghost use Rattle.proof_tree.specs.Walk as walk;
-ghost use Rattle.proof_tree.specs.Walk.{width};
 ghost use Rattle.purse.specs.Trace.{capped};
-ghost use Rattle.purse.specs.declared.log.Entry.{Entry};
-ghost use Rattle.sequent.specs.Rules.{premises_of};
-ghost use Rattle.sequent.specs.Views.{sequent_of};
-ghost use Rattle.std.specs.Prelude.{◌≡◌, ◌<◌, ◌^◌, [], false, length, List, Some};
+ghost use Rattle.sequent.specs.Rules.{place};
+ghost use Rattle.std.specs.Prelude.{◌≡◌, ◌&&◌, is_none, nat_eq};
 
 use formula::size;
-use node_steps::closing_fee;
-use sequent::{Pick, Sequent, applies, width};
+use open_branch::{Branch, Principal};
+use sequent::Pick;
 
 /// Whether the rule eliminates, so that its node has a log.
 pub fn eliminates(rule: Pick) -> bool
@@ -23,32 +20,22 @@ pub fn eliminates(rule: Pick) -> bool
     }
 }
 
-/// Whether the rule applies and has so many premises.
-pub fn fits(s: &Sequent, rule: Pick, premises: u32) -> bool
-    requires few { length (premises_of (sequent_of s.now) rule) < 2 ^ 32 }
-    ensures { (ns : Proofs) (es : List Entry) → premises ≡ width ns → (walk.eliminates rule ≡ false → es ≡ []) → result ≡ walk.fits (sequent_of s.now) rule ns es }
-{
-    applies(s, rule) && premises == width(s, rule)
-}
-
-/// The charge of a node whose principal stands at this place: 1 and its size.
-fn principal_fee(s: &Sequent, place: u32) -> u64
-    ensures { result ≡ capped (walk.fee_by (sequent_of s.now) (Some place)) }
-{
-    match s.members.get(place as usize) {
-        None => 1,
-        Some(m) => size(&m.formula).saturating_add(1),
-    }
-}
-
-/// The charge of a node.
-pub fn fee(s: &Sequent, rule: Pick) -> u64
-    ensures { result ≡ capped (walk.fee (sequent_of s.now) rule) }
+/// Whether the node is a leaf that is closed: its rule has no principal, and it has no premises.
+pub fn is_leaf(rule: Pick, premises: u32) -> bool
+    ensures { result ≡ (is_none (place rule) && nat_eq premises 0) }
 {
     match rule {
-        Pick::Trivial(i) | Pick::Alpha(i) | Pick::Delta(i) | Pick::Beta(i) | Pick::Gamma(i) => {
-            principal_fee(s, i)
+        Pick::Close => premises == 0,
+        Pick::Trivial(_) | Pick::Alpha(_) | Pick::Delta(_) | Pick::Beta(_) | Pick::Gamma(_) => {
+            false
         }
-        Pick::Close => closing_fee(s),
     }
+}
+
+/// The charge of a node whose rule has this principal: 1 and its size.
+pub fn principal_fee(branch: &Branch, principal: &Principal) -> u64
+    requires { IsPrincipal branch.now principal.now }
+    ensures { result ≡ capped (walk.fee (standing branch.now) (rule_at principal.now.shape principal.now.index)) }
+{
+    size(&branch.get(principal).formula).saturating_add(1)
 }

@@ -28,8 +28,23 @@ pub fn read_row<L: ProofLines>(alloc: Global, lines: &mut L) -> Result<Option<(P
     }
 }
 
+/// The constraint of a node, behind its premises, once its log has come where its rule has one.
+pub fn read_last<L: ProofLines>(
+    alloc: Global,
+    lines: &mut L,
+    rule: Pick,
+) -> Result<Option<Items<Items<Literal>>>, Memory>
+    ensures { (es : List Entry) (d : List (List Literal)) (ls : List TextLine) → L.coming lines.old (last_lines rule es d ++ ls)
+        → IfOk result (λ o. (o ≡ Some d) × L.coming lines.new ls × (eliminates rule ≡ true → (L.log_of lines.new).entries ≡ es)) }
+{
+    if !read_log(alloc, lines, rule)? {
+        return Ok(None);
+    }
+    read_gives(alloc, lines)
+}
+
 /// Whether the log came, where the rule has one.
-pub fn read_log<L: ProofLines>(alloc: Global, lines: &mut L, rule: Pick) -> Result<bool, Memory>
+fn read_log<L: ProofLines>(alloc: Global, lines: &mut L, rule: Pick) -> Result<bool, Memory>
     ensures { (es : List Entry) (d : List (List Literal)) (ls : List TextLine) → L.coming lines.old (last_lines rule es d ++ ls)
         → IfOk result (λ b. (b ≡ true) × L.coming lines.new (w.Gives d ∷ ls) × (eliminates rule ≡ true → (L.log_of lines.new).entries ≡ es)) }
 {
@@ -43,7 +58,7 @@ pub fn read_log<L: ProofLines>(alloc: Global, lines: &mut L, rule: Pick) -> Resu
 }
 
 /// A node's constraint.
-pub fn read_gives<L: ProofLines>(
+fn read_gives<L: ProofLines>(
     alloc: Global,
     lines: &mut L,
 ) -> Result<Option<Items<Items<Literal>>>, Memory>
