@@ -1,5 +1,5 @@
 // Every token of a printed proof left out, doubled and changed in turn. The places of `Syntax` are also those of a reader of the
-// grammar that was written apart, in another language.
+// grammar that was written apart, in another language; the rows at nodes are the program's own answers, held fast.
 
 use crate::runs::ends_over;
 use std::alloc::Global;

@@ -33,37 +33,51 @@ fn asks(
     Ok(())
 }
 
+// The outside with a source that fails at these calls and gives so many bytes a read.
+fn reading(source_fails: &[u64], source_most: u64) -> Outside<'_> {
+    Outside {
+        source_fails,
+        source_most,
+        sink_fails: &[],
+        sink_most: 3,
+    }
+}
+
 #[test]
 fn reads_that_fail_end_a_run(rt: HostRuntime) -> Result<(), Fail> {
-    let spaces = vec![in rt.alloc(); b' '; 1_048_577]?;
-    let solve: &[&str] = &["solve", "f"];
-    let check: &[&str] = &["check", "f", "g"];
-    let long = spaces.as_slice();
-    let rows: [(&[&str], &[u8], &[u64], u64, (u8, &str)); 9] = [
-        (solve, UNIFIED, &[0], u64::MAX, (6, "")),
-        (solve, UNIFIED, &[1], u64::MAX, (6, "")),
-        (solve, UNIFIED, &[2], u64::MAX, (6, "")),
-        (solve, UNIFIED, &[3], u64::MAX, (0, ANSWER)),
-        (solve, UNIFIED, &[], 1, (0, ANSWER)),
-        (check, UNIFIED, &[5], u64::MAX, (6, "")),
-        (check, b"", &[2], u64::MAX, (6, "")),
-        (solve, long, &[17], u64::MAX, (6, "")),
-        (
-            solve,
-            long,
-            &[18],
-            u64::MAX,
-            (9, "refused: file too long\n"),
-        ),
+    let rows: [(&[&str], &[u8], &[u64], u64, (u8, &str)); 7] = [
+        (&["solve", "f"], UNIFIED, &[0], u64::MAX, (6, "")),
+        (&["solve", "f"], UNIFIED, &[1], u64::MAX, (6, "")),
+        (&["solve", "f"], UNIFIED, &[2], u64::MAX, (6, "")),
+        (&["solve", "f"], UNIFIED, &[3], u64::MAX, (0, ANSWER)),
+        (&["solve", "f"], UNIFIED, &[], 1, (0, ANSWER)),
+        (&["check", "f", "g"], UNIFIED, &[5], u64::MAX, (6, "")),
+        (&["check", "f", "g"], b"", &[2], u64::MAX, (6, "")),
     ];
     for (words, f, source_fails, source_most, answer) in rows {
-        let outside = Outside {
-            source_fails,
-            source_most,
-            sink_fails: &[],
-            sink_most: 3,
-        };
+        let outside = reading(source_fails, source_most);
         asks(&rt, rt.alloc(), words, f, &outside, answer)?;
+    }
+    Ok(())
+}
+
+#[test]
+fn a_long_file_is_read_to_its_limit(rt: HostRuntime) -> Result<(), Fail> {
+    let spaces = vec![in rt.alloc(); b' '; 1_048_577]?;
+    let rows: [(&[u64], (u8, &str)); 2] = [
+        (&[17], (6, "")),
+        (&[18], (9, "refused: file too long\n")),
+    ];
+    for (source_fails, answer) in rows {
+        let outside = reading(source_fails, u64::MAX);
+        asks(
+            &rt,
+            rt.alloc(),
+            &["solve", "f"],
+            spaces.as_slice(),
+            &outside,
+            answer,
+        )?;
     }
     Ok(())
 }
