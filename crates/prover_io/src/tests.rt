@@ -61,14 +61,14 @@ fn fails_at_the_calls_that_it_is_told(rt: HostRuntime) -> Result<(), Fail> {
 
 #[test]
 fn gives_pieces(rt: HostRuntime) -> Result<(), Fail> {
-    let mut files = source(rt.alloc(), &[4])?.with_most(2);
-    files.begin("f")?;
-    let mut buffer = [0u8; 4];
-    for (piece, count) in [("he", 2), ("ll", 2), ("o", 1)] {
-        assert_eq!(rt; files.read(&mut buffer), Ok(count), "at {piece}");
-        assert_eq!(rt; buffer[..count], *piece.as_bytes(), "at {piece}");
+    for (failing, fails) in [(3, true), (4, true), (5, false)] {
+        let mut files = source(rt.alloc(), &[failing])?.with_most(2);
+        let answer = read_all(rt.alloc(), &mut files, "f", 5);
+        assert_eq!(rt; answer.is_err(), fails, "at call {failing}");
     }
-    assert_eq!(rt; files.read(&mut buffer), Err(Failed));
+    let mut files = source(rt.alloc(), &[])?.with_most(2);
+    let whole = read_all(rt.alloc(), &mut files, "f", 5)?;
+    assert_eq!(rt; whole.as_slice(), b"hello".as_slice());
     Ok(())
 }
 
