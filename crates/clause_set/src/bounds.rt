@@ -17,7 +17,7 @@ pub(crate) fn negated(alloc: Global, pairs: &[(u32, i128)]) -> Result<Vec<(u32, 
     requires { All (λ p. InRange p.1) pairs.now }
     ensures { IfOk result (λ v. v.items ≡ negated pairs.now) }
 {
-    let mut out = Vec::new(alloc);
+    let mut out = Vec::with_capacity(alloc, pairs.len())?;
     for pair in pairs {
         out.push((pair.0, -pair.1))?;
     }

@@ -39,16 +39,6 @@ fn put_bound(table: &mut Table, p: Vec<(u32, i128)>, k: i128) -> Result<(), Memo
     Ok(())
 }
 
-fn copied(alloc: Global, pairs: &[(u32, i128)]) -> Result<Vec<(u32, i128)>, Memory>
-    ensures { IfOk result (λ v. v.items ≡ pairs.now) }
-{
-    let mut out = Vec::new(alloc);
-    for pair in pairs {
-        out.push(*pair)?;
-    }
-    Ok(out)
-}
-
 /// Puts both bounds of t = 0 into a table.
 #[tactic(auto, using(crate::proofs::Terms::terms))]
 fn put_equation(alloc: Global, table: &mut Table, t: &Term) -> Result<(), Memory>
@@ -57,7 +47,7 @@ fn put_equation(alloc: Global, table: &mut Table, t: &Term) -> Result<(), Memory
     t.know_normal();
     let opposite = negated(alloc, t.pairs())?;
     let same = same_pairs(t.pairs(), opposite.as_slice());
-    put_bound(table, copied(alloc, t.pairs())?, t.constant())?;
+    put_bound(table, Vec::from_slice(alloc, t.pairs())?, t.constant())?;
     if same {
         return Ok(());
     }
@@ -74,7 +64,7 @@ fn put_literal(alloc: Global, table: &mut Table, l: &Literal) -> Result<(), Memo
     l.term().know_normal();
     match l {
         Literal::Eq(t) => put_equation(alloc, table, t),
-        Literal::Geq(t) => put_bound(table, copied(alloc, t.pairs())?, t.constant()),
+        Literal::Geq(t) => put_bound(table, Vec::from_slice(alloc, t.pairs())?, t.constant()),
         Literal::Div(_, _) => Ok(()),
         Literal::NDiv(_, _) => Ok(()),
     }
