@@ -73,6 +73,20 @@ pub put-least : (B : List (ℕ × ℤ) → Option ℤ) (p q : List (ℕ × ℤ))
     → cond (same_pairs q p) (least (B p) (Some k)) (B q) ≡ least (B q) (cond (same_pairs p q) (Some k) None)
 put-least B p q k = put_by B p q k (same_pairs q p) (same_pairs p q) refl refl
 
+-- the lesser of a bound and of what stood at p, put there, and the same put over another number
+pub put-lesser : (B : List (ℕ × ℤ) → Option ℤ) (p q : List (ℕ × ℤ)) (k n : ℤ) (now : Option ℤ) → Some n ≡ least (B p) (Some k) → now ≡ cond (same_pairs q p) (Some n) (B q)
+    → now ≡ least (B q) (cond (same_pairs p q) (Some k) None)
+put-lesser B p q k n now lesser e = e ∙ ap (λ z. cond (same_pairs q p) z (B q)) lesser ∙ put-least B p q k
+
+cond-over : {X : Type 0} (b : Bool) (x y z : X) → cond b x (cond b y z) ≡ cond b x z
+cond-over true x y z = refl
+cond-over false x y z = refl
+
+pub put-over : (B : List (ℕ × ℤ) → Option ℤ) (p q : List (ℕ × ℤ)) (k n : ℤ) (first now : Option ℤ) → Some n ≡ least (B p) (Some k) → first ≡ cond (same_pairs q p) (Some k) (B q)
+    → now ≡ cond (same_pairs q p) (Some n) first → now ≡ least (B q) (cond (same_pairs p q) (Some k) None)
+put-over B p q k n first now lesser e f =
+    put-lesser B p q k n now lesser (f ∙ ap (λ z. cond (same_pairs q p) (Some n) z) e ∙ cond-over (same_pairs q p) (Some n) (Some k) (B q))
+
 -- the two bounds of an equation, one after the other
 two_by : (a : Option ℤ) (j k : ℤ) (x y : Bool) → (x ≡ true → y ≡ true → ⊥)
     → least (least a (cond x (Some j) None)) (cond y (Some k) None) ≡ least a (cond x (Some j) (cond y (Some k) None))

@@ -30,12 +30,23 @@ fn lesser(held: Option<i128>, k: i128) -> i128
     }
 }
 
-/// Puts the bound p + k ≥ 0 into a table of the least bounds.
-fn put_bound(table: &mut Table, p: Vec<(u32, i128)>, k: i128) -> Result<(), Memory>
-    ensures { OnOk result ((q : List (ℕ × ℤ)) → bound_at table.new q ≡ least (bound_at table.old q) (cond (same_pairs p.items q) (Some k) None)) }
+/// Puts k at p into a table, and says which number stood there.
+fn put_at(table: &mut Table, p: Vec<(u32, i128)>, k: i128) -> Result<Option<i128>, Memory>
+    ensures held { IfOk result (λ held. held ≡ bound_at table.old p.items) }
+    ensures put { OnOk result ((q : List (ℕ × ℤ)) → bound_at table.new q ≡ cond (same_pairs q p.items) (Some k) (bound_at table.old q)) }
 {
-    let bound = lesser(bound_at(table, p.as_slice()), k);
-    table.insert(p, bound)?;
+    Ok(table.insert(p, k)?)
+}
+
+/// Puts the bound p + k ≥ 0 into a table of the least bounds: a lesser one that stood there is put back.
+fn put_bound(alloc: Global, table: &mut Table, p: &[(u32, i128)], k: i128) -> Result<(), Memory>
+    ensures { OnOk result ((q : List (ℕ × ℤ)) → bound_at table.new q ≡ least (bound_at table.old q) (cond (same_pairs p.now q) (Some k) None)) }
+{
+    let held = put_at(table, Vec::from_slice(alloc, p)?, k)?;
+    let bound = lesser(held, k);
+    if bound != k {
+        put_at(table, Vec::from_slice(alloc, p)?, bound)?;
+    }
     Ok(())
 }
 
@@ -47,11 +58,11 @@ fn put_equation(alloc: Global, table: &mut Table, t: &Term) -> Result<(), Memory
     t.know_normal();
     let opposite = negated(alloc, t.pairs())?;
     let same = same_pairs(t.pairs(), opposite.as_slice());
-    put_bound(table, Vec::from_slice(alloc, t.pairs())?, t.constant())?;
+    put_bound(alloc, table, t.pairs(), t.constant())?;
     if same {
         return Ok(());
     }
-    put_bound(table, opposite, opposite_of(t.constant()))?;
+    put_bound(alloc, table, opposite.as_slice(), opposite_of(t.constant()))?;
     Ok(())
 }
 
@@ -64,7 +75,7 @@ fn put_literal(alloc: Global, table: &mut Table, l: &Literal) -> Result<(), Memo
     l.term().know_normal();
     match l {
         Literal::Eq(t) => put_equation(alloc, table, t),
-        Literal::Geq(t) => put_bound(table, Vec::from_slice(alloc, t.pairs())?, t.constant()),
+        Literal::Geq(t) => put_bound(alloc, table, t.pairs(), t.constant()),
         Literal::Div(_, _) => Ok(()),
         Literal::NDiv(_, _) => Ok(()),
     }

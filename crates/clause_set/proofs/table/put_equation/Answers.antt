@@ -12,7 +12,7 @@ returns-then-same c = λ q.
     let fits : SFits w128 c.constant.result = search rules in
     let s : same_pairs c.args.t.now.pairs (negated c.args.t.now.pairs) ≡ true = search rules in
     equation-same (bound_at c.args.table.now q) _ c.args.t.now.pairs q c.args.t.now.constant (neg_ℤ c.args.t.now.constant) s
-    (first-bound (bound_at c.args.table.now q) _ c.args.t.now.pairs _ q c.args.t.now.constant _ (c.in_ok-from_slice.ensures.items ∙ c.pairs-3.ensures) (to_z-of_z fits ∙ c.constant.ensures.exact) (c.in_ok-put_bound.ensures q))
+    (first-bound (bound_at c.args.table.now q) _ c.args.t.now.pairs _ q c.args.t.now.constant _ c.pairs-3.ensures (to_z-of_z fits ∙ c.constant.ensures.exact) (c.in_ok-put_bound.ensures q))
 
 pub returns : goal.returns
 returns c = λ q.
@@ -21,6 +21,6 @@ returns c = λ q.
     let fits_3 : SFits w128 c.opposite_of.result = search rules in
     let s : same_pairs c.args.t.now.pairs (negated c.args.t.now.pairs) ≡ false = search rules in
     equation-apart (bound_at c.args.table.now q) _ _ c.args.t.now.pairs q c.args.t.now.constant (neg_ℤ c.args.t.now.constant) s
-    (first-bound (bound_at c.args.table.now q) _ c.args.t.now.pairs _ q c.args.t.now.constant _ (c.in_ok-from_slice.ensures.items ∙ c.pairs-3.ensures) (to_z-of_z fits ∙ c.constant.ensures.exact) (c.in_ok-put_bound.ensures q))
-    (first-bound (bound_at c.put_bound.new.table q) _ (negated c.args.t.now.pairs) _ q (neg_ℤ c.args.t.now.constant) _ (c.in_ok-opposite.ensures ∙ ap negated c.pairs.ensures)
+    (first-bound (bound_at c.args.table.now q) _ c.args.t.now.pairs _ q c.args.t.now.constant _ c.pairs-3.ensures (to_z-of_z fits ∙ c.constant.ensures.exact) (c.in_ok-put_bound.ensures q))
+    (first-bound (bound_at c.put_bound.new.table q) _ (negated c.args.t.now.pairs) _ q (neg_ℤ c.args.t.now.constant) _ (c.as_slice-2.ensures.value ∙ c.in_ok-opposite.ensures ∙ ap negated c.pairs.ensures)
     (to_z-of_z fits_3 ∙ c.opposite_of.ensures ∙ ap neg_ℤ (to_z-of_z fits_2 ∙ c.constant-2.ensures.exact)) (c.in_ok-put_bound-2.ensures q))
