@@ -1,6 +1,5 @@
-use Rattle.std.proofs.Common.{◌≡◌, ◌∙◌, ap, sym, to_z, to_z-of_z, ℕ, ℤ, List, drop}
+use Rattle.std.proofs.Common.{◌∙◌, ap, sym, to_z, to_z-of_z, ℕ, ℤ, List, drop}
 use mir.Syntax.{w128}
-use mir.Val.{SFits}
 use Rattle.clause_set.specs.Normal.{gcd_with}
 use Rattle.clause_set.proofs.Primitive.{gcd_with-one}
 use Rattle.clause_set.proofs.normal_form.gcd_with.Goals as goal

@@ -1,8 +1,6 @@
-use Rattle.std.proofs.Common.{rules, ◌∙◌, ap, cond, Some, to_z-of_z}
-use mir.Syntax.{w128}
+use Rattle.std.proofs.Common.{◌∙◌, ap}
 use Rattle.std.specs.Map.{lookup}
 use Rattle.clause_set.specs.Clauses.{same_pairs}
-use Rattle.clause_set.specs.Table.{bound_at}
 use Rattle.clause_set.proofs.Tables.{lookup-put}
 use Rattle.clause_set.proofs.table.put_at.Goals as goal
 
@@ -10,4 +8,3 @@ pub returns-clause-put : goal.returns-clause-put
 returns-clause-put c = λ q.
     ap (λ es. lookup (λ k. same_pairs q k.items) es) c.in_ok-insert.ensures.entries
     ∙ lookup-put (λ k. k.items) q c.args.p _ c.args.table.now.entries
-    ∙ ap (λ z. cond (same_pairs q c.args.p.items) (Some z) (bound_at c.args.table.now q)) (to_z-of_z c.ranges.k)
