@@ -8,6 +8,7 @@ pub mod Quotients
 pub mod Orders
 pub mod ClauseTruth
 pub mod Divisors
+pub mod Ends
 pub mod Weights
 pub mod Charges
 pub mod Covers

@@ -39,6 +39,12 @@ divisor_of_one g h d =
     let le : (pos 1 *ℤ g) ≤ℤ (q *ℤ g) = mul_le_right (pos 1) q g h one in
     by_lt_z (pos 0) g (λ more. omega (arith, ints, le, d.is, more)) (λ none. absurd (let z : g ≡ pos 0 = omega (arith, ints, none, h) in omega (arith, ints, d.is, ap (λ y. q *ℤ y) z)))
 
+-- a divisor that is 1 already stays 1
+pub gcd_with-one : (ps : List (ℕ × ℤ)) → gcd_with (pos 1) ps ≡ pos 1
+gcd_with-one ps =
+    let more : pos 0 <ℤ gcd_with (pos 1) ps = gcd_with-positive (pos 1) ps (omega (arith, ints)) in
+    divisor_of_one (gcd_with (pos 1) ps) (omega (arith, ints, more)) (gcd_with-divides (pos 1) ps)
+
 -- what divides g and all coefficients divides their greatest common divisor
 gcd_with-greatest : (h g : ℤ) (ps : List (ℕ × ℤ)) → Divides h g → AllByRecursion (λ p. Divides h p.1) ps → Divides h (gcd_with g ps)
 gcd_with-greatest h g [] d all = d

@@ -10,12 +10,13 @@ use Rattle.linear_term.specs.Order.{pair_cmp}
 use Rattle.std.proofs.Math.ListN.{drop_of_length-le}
 use Rattle.clause_set.specs.declared.literal.Literal.{Literal}
 use Rattle.clause_set.specs.Clauses.{same_pairs, least, slack_of, slack}
-use Rattle.clause_set.specs.Normal.{negated}
+use Rattle.clause_set.specs.Normal.{leads_negative, negated}
 use Rattle.clause_set.specs.declared.literal.Literal.TheVariants.{Eq, Geq, Div, NDiv}
 use Rattle.clause_set.specs.Literals.{term_of}
 use Rattle.linear_term.specs.Range.{InRange}
 use Rattle.linear_term.proofs.Totals.{by_test}
-use Rattle.clause_set.specs.Table.{bound_at}
+use Rattle.clause_set.specs.declared.table.Ends.{Ends}
+use Rattle.clause_set.specs.Table.{bound_at, end_of, led}
 use Rattle.clause_set.proofs.Slack.{least_none, slack_step}
 use Rattle.clause_set.proofs.Terms.{negated-negated, neg_in_range}
 use Rattle.clause_set.proofs.Orders.{same_pairs-equal, same_pairs-refl}
@@ -60,18 +61,6 @@ module _ {V X : Type 0} (f : V → List (ℕ × ℤ)) (q : List (ℕ × ℤ)) wh
 
 pub same_pairs-sym : (p q : List (ℕ × ℤ)) → same_pairs p q ≡ true → same_pairs q p ≡ true
 same_pairs-sym p q h = ap (λ z. same_pairs z p) (sym (same_pairs-equal p q h)) ∙ same_pairs-refl p
-
-put_by : (B : List (ℕ × ℤ) → Option ℤ) (p q : List (ℕ × ℤ)) (k : ℤ) (a b : Bool) → same_pairs q p ≡ a → same_pairs p q ≡ b
-    → cond a (least (B p) (Some k)) (B q) ≡ least (B q) (cond b (Some k) None)
-put_by B p q k true true e f = ap (λ z. least (B z) (Some k)) (same_pairs-equal p q f)
-put_by B p q k true false e f = let z : true ≡ false = sym (same_pairs-sym q p e) ∙ f in absurd cc
-put_by B p q k false true e f = let z : true ≡ false = sym (same_pairs-sym p q f) ∙ e in absurd cc
-put_by B p q k false false e f = sym (least_none (B q))
-
--- a bound put at p is one more bound of p, and of nothing else
-pub put-least : (B : List (ℕ × ℤ) → Option ℤ) (p q : List (ℕ × ℤ)) (k : ℤ)
-    → cond (same_pairs q p) (least (B p) (Some k)) (B q) ≡ least (B q) (cond (same_pairs p q) (Some k) None)
-put-least B p q k = put_by B p q k (same_pairs q p) (same_pairs p q) refl refl
 
 -- the two bounds of an equation, one after the other
 two_by : (a : Option ℤ) (j k : ℤ) (x y : Bool) → (x ≡ true → y ≡ true → ⊥)
@@ -138,17 +127,17 @@ slack_of-range (Div d t) h q = tt
 slack_of-range (NDiv d t) h q = tt
 
 -- the table m has the bounds of the literals before i
-pub record Tabled {A : Type 0} (ls : List Literal) (i : ℕ) (m : BTreeMap (Vec (ℕ × ℤ) A) ℤ) : Type 0 where
+pub record Tabled {A : Type 0} (ls : List Literal) (i : ℕ) (m : BTreeMap (Vec (ℕ × ℤ) A) Ends) : Type 0 where
   pub is : (q : List (ℕ × ℤ)) → least (bound_at m q) (slack (drop i ls) q) ≡ slack ls q
   pub range : (q : List (ℕ × ℤ)) → IfSome (bound_at m q) (λ k. InRange k)
 
-pub tabled_none : {A : Type 0} (ls : List Literal) (m : BTreeMap (Vec (ℕ × ℤ) A) ℤ) → m.entries ≡ [] → Tabled ls 0 m
+pub tabled_none : {A : Type 0} (ls : List Literal) (m : BTreeMap (Vec (ℕ × ℤ) A) Ends) → m.entries ≡ [] → Tabled ls 0 m
 tabled_none ls m e = record {
-  is = λ q. ap (λ es. least (lookup (λ k. same_pairs q k.items) es) (slack ls q)) e;
-  range = λ q. subst (λ es. IfSome (lookup (λ k. same_pairs q k.items) es) (λ k. InRange k)) (sym e) tt;
+  is = λ q. ap (λ es. least (end_of (leads_negative q) (lookup (λ k. same_pairs (led q) k.items) es)) (slack ls q)) e;
+  range = λ q. subst (λ es. IfSome (end_of (leads_negative q) (lookup (λ k. same_pairs (led q) k.items) es)) (λ k. InRange k)) (sym e) tt;
 }
 
-pub tabled_more : {A : Type 0} (ls : List Literal) (i : ℕ) (l : Literal) (m n : BTreeMap (Vec (ℕ × ℤ) A) ℤ) → i < length ls → l ≡ get_or ls i l
+pub tabled_more : {A : Type 0} (ls : List Literal) (i : ℕ) (l : Literal) (m n : BTreeMap (Vec (ℕ × ℤ) A) Ends) → i < length ls → l ≡ get_or ls i l
     → ((q : List (ℕ × ℤ)) → bound_at n q ≡ least (bound_at m q) (slack_of l q))
     → ((q : List (ℕ × ℤ)) → IfSome (slack_of l q) (λ k. InRange k)) → Tabled ls i m → Tabled ls (i + 1) n
 tabled_more ls i l m n lt is put r h = record {
@@ -156,11 +145,11 @@ tabled_more ls i l m n lt is put r h = record {
   range = λ q. subst (λ z. IfSome z (λ k. InRange k)) (sym (put q)) (least-range (bound_at m q) (slack_of l q) (h.range q) (r q));
 }
 
-pub tabled_all : {A : Type 0} (ls : List Literal) (i : ℕ) (m : BTreeMap (Vec (ℕ × ℤ) A) ℤ) → length ls ≤ i → Tabled ls i m
+pub tabled_all : {A : Type 0} (ls : List Literal) (i : ℕ) (m : BTreeMap (Vec (ℕ × ℤ) A) Ends) → length ls ≤ i → Tabled ls i m
     → (q : List (ℕ × ℤ)) → bound_at m q ≡ slack ls q
 tabled_all ls i m le h = λ q. sym (least_none (bound_at m q)) ∙ ap (λ z. least (bound_at m q) (slack z q)) (sym (drop_of_length-le ls le)) ∙ h.is q
 
-pub tabled_range : {A : Type 0} (ls : List Literal) (i : ℕ) (m : BTreeMap (Vec (ℕ × ℤ) A) ℤ) → Tabled ls i m
+pub tabled_range : {A : Type 0} (ls : List Literal) (i : ℕ) (m : BTreeMap (Vec (ℕ × ℤ) A) Ends) → Tabled ls i m
     → (q : List (ℕ × ℤ)) → IfSome (bound_at m q) (λ k. InRange k)
 tabled_range ls i m h = h.range
 

@@ -8,7 +8,7 @@ ghost use Rattle.linear_term.specs.Range.{InRange};
 ghost use Rattle.std.specs.Prelude.{◌≡◌, ◌↔◌, ◌+ℤ◌, pos, int_lt, neg_ℤ, All, IfOk, IfSome, IsTrue, List, ℕ, ℤ};
 
 use super::literal::Literal;
-use super::table::{Table, bound_at};
+use super::table::{Table, bounds_at};
 use linear_term::{Memory, Term};
 use std::alloc::Global;
 
@@ -17,7 +17,7 @@ pub(crate) fn negated(alloc: Global, pairs: &[(u32, i128)]) -> Result<Vec<(u32, 
     requires { All (λ p. InRange p.1) pairs.now }
     ensures { IfOk result (λ v. v.items ≡ negated pairs.now) }
 {
-    let mut out = Vec::new(alloc);
+    let mut out = Vec::with_capacity(alloc, pairs.len())?;
     for pair in pairs {
         out.push((pair.0, -pair.1))?;
     }
@@ -181,7 +181,7 @@ pub(crate) fn opposite_of(k: i128) -> i128
     -k
 }
 
-fn leads_negative(pairs: &[(u32, i128)]) -> bool
+pub(crate) fn leads_negative(pairs: &[(u32, i128)]) -> bool
     ensures { result ≡ leads_negative pairs.now }
 {
     let Some((first, _)) = pairs.split_first() else {
@@ -204,15 +204,14 @@ fn tightened_bound(
     ensures { IfOk result (λ o. o ≡ tight_or_void literals.now (Literal.Geq t.now)) }
 {
     t.know_normal();
-    let n = negated(alloc, t.pairs())?;
-    let low = bound_at(table, t.pairs());
-    let high = bound_at(table, n.as_slice());
+    let (low, high) = bounds_at(alloc, table, t)?;
     if is_negative(low, high) {
         return Ok(None);
     }
     let constant = constant_of(low, t);
     if is_zero(low, high) {
-        let point = turned(alloc, t.pairs(), n.as_slice(), constant)?;
+        let opposite = negated(alloc, t.pairs())?;
+        let point = turned(alloc, t.pairs(), opposite.as_slice(), constant)?;
         return Ok(Some(Literal::Eq(point)));
     }
     Ok(Some(Literal::Geq(Term::of(alloc, t.pairs(), constant)?)))
@@ -231,8 +230,8 @@ fn kept_equation(
     ensures { IfOk result (λ o. o ≡ tight_or_void literals.now (Literal.Eq t.now)) }
 {
     t.know_normal();
-    let n = negated(alloc, t.pairs())?;
-    if is_negative(bound_at(table, t.pairs()), bound_at(table, n.as_slice())) {
+    let (own, opposite) = bounds_at(alloc, table, t)?;
+    if is_negative(own, opposite) {
         return Ok(None);
     }
     Ok(Some(Literal::Eq(t.copy()?)))

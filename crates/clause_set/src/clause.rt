@@ -10,7 +10,7 @@ ghost use Rattle.std.specs.Prelude.{◌≡◌, ◌<◌, ◌++◌, All, cond, IfO
 use super::compact::compact;
 use super::literal::{Literal, Norm};
 use super::normal_form::normalized;
-use super::order::{Ordered, compare_slices};
+use super::order::{Ordered, compare_slices, room_for};
 use linear_term::Memory;
 use sqlite_items::Items;
 use std::alloc::Global;
@@ -89,7 +89,7 @@ fn normal_literals(alloc: Global, ls: &[Literal]) -> Result<Option<Items<Literal
     requires { All HasDivisor ls.now }
     ensures { IfOk result (λ answer. answer ≡ cond (list_any (λ l. is_false (normal_of l)) ls.now) None (Some (flat_map (λ l. literals_of (normal_of l)) ls.now))) }
 {
-    let mut out = Items::new(alloc);
+    let mut out = room_for(alloc, ls.len())?;
     for l in ls {
         let n = normalized(alloc, l)?;
         if is_false(&n) {
@@ -171,7 +171,7 @@ fn clause_literals(alloc: Global, ls: &[Literal]) -> Result<Option<Items<Literal
 pub fn copy_literals(alloc: Global, ls: &[Literal]) -> Result<Items<Literal>, Memory>
     ensures { IfOk result (λ copy. copy ≡ ls.now) }
 {
-    let mut out = Items::new(alloc);
+    let mut out = room_for(alloc, ls.len())?;
     for l in ls {
         out.push(l.copy()?)?;
     }

@@ -9,7 +9,7 @@ ghost use Rattle.std.specs.List.{list_any};
 
 use super::bounds;
 use super::literal::Literal;
-use super::order::sort_once;
+use super::order::{room_for, sort_once};
 use super::table::{Table, table_of};
 use linear_term::Memory;
 use sqlite_items::Items;
@@ -26,7 +26,7 @@ fn all_tightened(
     requires range { (q : List (ℕ × ℤ)) → IfSome (bound_at table.now q) (λ k. InRange k) }
     ensures { IfOk result (λ o. o ≡ cond (list_any (is_void literals.now) literals.now) None (Some (map (tightened literals.now) literals.now))) }
 {
-    let mut out = Items::new(alloc);
+    let mut out = room_for(alloc, literals.len())?;
     for literal in literals {
         let Some(tight) = bounds::tightened(alloc, table, literals, literal)? else {
             return Ok(None);

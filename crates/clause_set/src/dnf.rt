@@ -13,7 +13,7 @@ ghost use Rattle.std.specs.Prelude.{◌≡◌, ◌≢◌, ◌<◌, ◌++◌, ◌
 use super::clause::{Clause, copy_literals};
 use super::covering::uncovered;
 use super::literal::Literal;
-use super::order::sort_once;
+use super::order::{room_for, sort_once};
 use super::weight::{conjunction_charge, disjunction_charge, negation_charge, tidying_charge};
 use linear_term::{Memory, Term};
 use purse::{Purse, StepFault};
@@ -147,7 +147,7 @@ fn tidied(alloc: Global, cs: Items<Clause>) -> Result<Items<Clause>, Memory>
 fn copy_clauses(alloc: Global, cs: &[Clause]) -> Result<Items<Clause>, Memory>
     ensures { IfOk result (λ copy. copy ≡ cs.now) }
 {
-    let mut out = Items::new(alloc);
+    let mut out = room_for(alloc, cs.len())?;
     for c in cs {
         out.push(c.copy(alloc)?)?;
     }
@@ -221,7 +221,7 @@ fn joined(alloc: Global, a: &[Clause], b: &[Clause]) -> Result<Items<Clause>, Me
 fn joined_with(alloc: Global, c: &Clause, d: &[Clause]) -> Result<Items<Clause>, Memory>
     ensures { IfOk result (λ all. all ≡ joined_with c.now d.now) }
 {
-    let mut out = Items::new(alloc);
+    let mut out = room_for(alloc, d.len())?;
     for e in d {
         push_joined(alloc, c, e, &mut out)?;
     }
@@ -236,8 +236,10 @@ fn push_joined(alloc: Global, c: &Clause, e: &Clause, out: &mut Items<Clause>) -
     e.know_clause();
     let mut literals = copy_literals(alloc, c.literals())?;
     literals.append(copy_literals(alloc, e.literals())?)?;
-    out.append(found(alloc, Clause::of(alloc, literals)?)?)?;
-    Ok(())
+    match Clause::of(alloc, literals)? {
+        Some(clause) => Ok(out.push(clause)?),
+        None => Ok(()),
+    }
 }
 
 /// The clause alone; none where there is none.

@@ -22,6 +22,9 @@ fn gcd_with(g: i128, pairs: &[(u32, i128)]) -> i128
 {
     let mut found = g;
     for pair in pairs {
+        if found == 1 {
+            return 1;
+        }
         found = gcd(found, pair.1);
     }
     found
@@ -41,7 +44,7 @@ fn divided(alloc: Global, g: i128, pairs: &[(u32, i128)]) -> Result<Vec<(u32, i1
     requires coefficients { All (λ p. InRange p.1) pairs.now }
     ensures { IfOk result (λ v. v.items ≡ divided g pairs.now) }
 {
-    let mut out = Vec::new(alloc);
+    let mut out = Vec::with_capacity(alloc, pairs.len())?;
     for pair in pairs {
         out.push((pair.0, floor_div(pair.1, g)))?;
     }
@@ -70,7 +73,7 @@ fn residues(alloc: Global, d: i128, pairs: &[(u32, i128)]) -> Result<Vec<(u32, i
     requires { pos 0 <ℤ d }
     ensures { IfOk result (λ v. v.items ≡ residues d pairs.now) }
 {
-    let mut out = Vec::new(alloc);
+    let mut out = Vec::with_capacity(alloc, pairs.len())?;
     for pair in pairs {
         push_residue(d, pair, &mut out)?;
     }

@@ -75,6 +75,7 @@ impl<T: Drop> From<AllocFailed<T>> for TermFault {
 
 impl Place {
     /// The number m·a + n·b, or Overflow with this place where it leaves the range. Numbers of 64 bits go a short way.
+    #[inline]
     #[tactic(auto, using(crate::proofs::Small::small), unfolding(crate::specs::Range::stays))]
     pub fn value(&self) -> Result<i128, TermFault>
         ensures exact { IfOk result (λ k. k ≡ (self.now.m *ℤ self.now.a) +ℤ (self.now.n *ℤ self.now.b)) }
@@ -89,6 +90,8 @@ impl Place {
     }
 
     /// The same for numbers of any size.
+    #[cold]
+    #[inline(never)]
     #[tactic(auto, unfolding(crate::specs::Range::stays))]
     fn wide_value(&self) -> Result<i128, TermFault>
         ensures exact { IfOk result (λ k. k ≡ (self.now.m *ℤ self.now.a) +ℤ (self.now.n *ℤ self.now.b)) }
@@ -110,6 +113,7 @@ impl Place {
 }
 
 /// a·b for sizes below 2^63.
+#[inline]
 #[tactic(auto, using(crate::proofs::Small::small))]
 fn small_product(a: i128, b: i128) -> i128
     requires left { unsigned_abs a < 2 ^ 63 }
@@ -117,10 +121,20 @@ fn small_product(a: i128, b: i128) -> i128
     ensures exact { result ≡ a *ℤ b }
     ensures small { unsigned_abs result < 2 ^ 126 }
 {
-    a * b
+    i128::from(narrow(a)) * i128::from(narrow(b))
+}
+
+/// The same number in 64 bits: a product of two such ones is one instruction.
+#[inline]
+fn narrow(n: i128) -> i64
+    requires { unsigned_abs n < 2 ^ 63 }
+    ensures { result ≡ n }
+{
+    n as i64
 }
 
 /// Whether |n| is below 2^63: two products of such numbers, and their sum, are in the range.
+#[inline]
 fn is_small(n: i128) -> bool
     ensures { IsTrue result → unsigned_abs n < 2 ^ 63 }
 {

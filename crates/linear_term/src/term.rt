@@ -6,7 +6,7 @@ ghost use Rattle.linear_term.specs.Combination.{combination, raw_numbers};
 ghost use Rattle.linear_term.specs.Order.{linear_cmp};
 ghost use Rattle.std.specs.Prelude.{◌≡◌, ◌<◌, IfOk, IfErr, OnErr, OnOk, length, slice_get, Some, true, option_copied, find, filter, not, nat_eq};
 
-use crate::merge::Factors;
+use crate::merge::{Factors, Pairs, room_for};
 use crate::range::{Memory, Place, TermFault};
 use smallvec::SmallVec;
 use std::alloc::Global;
@@ -16,7 +16,7 @@ use std::marker::Model;
 /// A linear term: names with coefficients, and a constant. Contracts see it as a `Linear`: the names rise, no
 /// coefficient is 0, and all numbers are in the range of coefficients.
 pub struct Term {
-    pairs: SmallVec<(u32, i128), 4>,
+    pairs: Pairs,
     constant: i128,
 }
 
@@ -196,7 +196,7 @@ impl Factors {
         ensures overflow { IfErr result (λ fault. IsCause fault (raw_numbers self.now.m s.now self.now.n t.now)) }
     {
         let constant = self.constants(s, t).value()?;
-        let mut pairs = SmallVec::new(*s.pairs.allocator());
+        let mut pairs = room_for(*s.pairs.allocator(), names_of_sum(s, t))?;
         self.merge(s.pairs.as_slice(), t.pairs.as_slice(), &mut pairs)?;
         Ok(Term { pairs, constant })
     }
@@ -214,20 +214,21 @@ impl Factors {
     }
 }
 
+/// How many names a sum of both has, or about as many: most have names of one of them, and a new one.
+fn names_of_sum(s: &Term, t: &Term) -> usize {
+    s.len().max(t.len()).saturating_add(1)
+}
+
 fn pair_of(pairs: &[(u32, i128)], x: u32) -> Option<&(u32, i128)>
     ensures { option_copied result ≡ find (λ p. nat_eq p.0 x) pairs.now }
 {
     pairs.iter().find(|pair| pair.0 == x)
 }
 
-fn pairs_without(
-    alloc: Global,
-    pairs: &[(u32, i128)],
-    x: u32,
-) -> Result<SmallVec<(u32, i128), 4>, Memory>
+fn pairs_without(alloc: Global, pairs: &[(u32, i128)], x: u32) -> Result<Pairs, Memory>
     ensures { IfOk result (λ kept. kept.items ≡ filter (λ p. not (nat_eq p.0 x)) pairs.now) }
 {
-    let mut kept = SmallVec::new(alloc);
+    let mut kept = room_for(alloc, pairs.len())?;
     for pair in pairs {
         if pair.0 != x {
             kept.push(*pair)?;

@@ -15,7 +15,7 @@ same c =
     let left = c.as_slice.ensures ∙ ap (λ (t : Linear). t.pairs) c.s.view_is in
     let right = c.as_slice-2.ensures ∙ ap (λ (t : Linear). t.pairs) c.t.view_is in
     combination-is _ _ _ _ _ _
-    (c.in_ok-merge.ensures.exact ∙ rw (c.new-pairs.ensures.items, left, right) refl)
+    (c.in_ok-merge.ensures.exact ∙ rw (c.in_ok-pairs.ensures, left, right) refl)
     (c.in_ok-constant.ensures.exact ∙ rw c.constants.ensures refl)
 
 pub invariant_of-result : goal.invariant_of-result
