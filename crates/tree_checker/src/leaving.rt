@@ -51,7 +51,8 @@ fn confirmed(made: Option<Dnf>, gives: &[Items<Literal>]) -> Option<Dnf>
     }
 }
 
-/// Leaves a node whose premises gave these constraints.
+/// Leaves a node whose premises gave these constraints. A frame of its own, which the walk's frames below it do not hold.
+#[inline(never)]
 pub fn leave<L: ProofLines>(
     alloc: Global,
     lines: &mut L,
@@ -106,7 +107,8 @@ fn leave_leaf<L: ProofLines>(
     }
 }
 
-/// Checks a node for whose rule there is no principal: a leaf that is closed.
+/// Checks a node for whose rule there is no principal: a leaf that is closed. A frame of its own, as that of `leave`.
+#[inline(never)]
 pub fn close<L: ProofLines>(
     alloc: Global,
     lines: &mut L,
