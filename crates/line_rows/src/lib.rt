@@ -5,3 +5,6 @@
 mod files;
 #[cfg(test)]
 mod lines;
+mod telling;
+#[cfg(test)]
+mod trees;
