@@ -4,7 +4,7 @@ ghost use Rattle.clause_set.specs.Literals.{HasDivisor};
 ghost use Rattle.std.specs.Prelude.{All, IfOk};
 
 use super::eliminations::{Whole, eliminations};
-use clause_set::{Clause, Dnf, Literal, and};
+use clause_set::{Clause, Dnf, Literal, and, copy_literals};
 use linear_term::Term;
 use omega_elim::{is_bounded, project};
 use purse::{Purse, StepFault};
@@ -22,6 +22,8 @@ pub enum Kernel {
     Tidy(u16),
     /// The shadow of this many lower and as many upper bounds of a name, over 8 names.
     Shadow(u16),
+    /// The clause of the literals of two clauses with this many each, which are in form.
+    Join(u16),
     /// The elimination of this many names.
     Eliminate(Whole, u16),
 }
@@ -33,6 +35,7 @@ pub fn run(alloc: Global, kernel: Kernel, times: u32) -> Result<u64, StepFault> 
         Kernel::And(size) => conjoin(alloc, size, times),
         Kernel::Tidy(size) => tidy(alloc, size, times),
         Kernel::Shadow(size) => shadow(alloc, size, times),
+        Kernel::Join(size) => join(alloc, size, times),
         Kernel::Eliminate(whole, names) => eliminations(alloc, whole, names, times),
     }
 }
@@ -89,9 +92,15 @@ fn monomials(d: &Dnf) -> u64 {
 fn clause_monomials(clauses: &[Clause]) -> u64 {
     let mut count: u64 = 0;
     for clause in clauses {
-        for literal in clause.literals() {
-            count = count.saturating_add(literal.term().len() as u64);
-        }
+        count = count.saturating_add(literal_monomials(clause.literals()));
+    }
+    count
+}
+
+fn literal_monomials(literals: &[Literal]) -> u64 {
+    let mut count: u64 = 0;
+    for literal in literals {
+        count = count.saturating_add(literal.term().len() as u64);
     }
     count
 }
@@ -160,6 +169,54 @@ fn shadow(alloc: Global, size: u16, times: u32) -> Result<u64, StepFault> {
     for _ in 0..times {
         let (_, found) = project(alloc, &c, 0, &mut purse)?;
         written = written.saturating_add(clause_monomials(found.as_slice()));
+    }
+    Ok(written)
+}
+
+/// x_i + 3·x_(i + 1) + 1 ≥ 0.
+fn joint(alloc: Global, i: u32) -> Result<Literal, StepFault>
+    ensures { IfOk result HasDivisor }
+{
+    let next = Term::name(alloc, i.saturating_add(1));
+    let sum = Term::combine(1, &Term::name(alloc, i), 3, &next)?;
+    let term = Term::combine(1, &sum, 1, &Term::number(alloc, 1))?;
+    Ok(Literal::Geq(term))
+}
+
+/// This many literals, of every other name from `first` on.
+#[tactic(auto, using(performed_rules::proofs::Results::pushing))]
+fn joints(alloc: Global, first: u32, size: u16) -> Result<Items<Literal>, StepFault>
+    ensures { IfOk result (λ ls. All HasDivisor ls) }
+{
+    let mut out = Items::new(alloc);
+    for i in 0..size {
+        let place = u32::from(i).saturating_mul(2);
+        out.push(joint(alloc, first.saturating_add(place))?)?;
+    }
+    Ok(out)
+}
+
+fn joined(alloc: Global, c: &Clause, d: &Clause) -> Result<u64, StepFault> {
+    c.know_clause();
+    d.know_clause();
+    let mut literals = copy_literals(alloc, c.literals())?;
+    literals.append(copy_literals(alloc, d.literals())?)?;
+    match Clause::of(alloc, literals)? {
+        Some(both) => Ok(literal_monomials(both.literals())),
+        None => Ok(0),
+    }
+}
+
+fn join(alloc: Global, size: u16, times: u32) -> Result<u64, StepFault> {
+    let mut written: u64 = 0;
+    let Some(even) = Clause::of(alloc, joints(alloc, 0, size)?)? else {
+        return Ok(written);
+    };
+    let Some(odd) = Clause::of(alloc, joints(alloc, 1, size)?)? else {
+        return Ok(written);
+    };
+    for _ in 0..times {
+        written = written.saturating_add(joined(alloc, &even, &odd)?);
     }
     Ok(written)
 }

@@ -35,6 +35,7 @@ fn named(rt: &HostRuntime) -> Option<(Kernel, u32)> {
         "and" => Kernel::And(size),
         "tidy" => Kernel::Tidy(size),
         "shadow" => Kernel::Shadow(size),
+        "join" => Kernel::Join(size),
         "gap" => Kernel::Eliminate(Whole::Gap, size),
         "nested" => Kernel::Eliminate(Whole::Nested, size),
         "chain" => Kernel::Eliminate(Whole::Chain, size),

@@ -1,9 +1,9 @@
 // Calls for the tests of trees: what a check of a tree answers about one formula.
 
-ghost use Rattle.formula.specs.Form.{and_form, disjunction, existential, holds, no_form};
+ghost use Rattle.formula.specs.Form.{and_form, conjunction, disjunction, existential, holds, no_form};
 ghost use Rattle.formula.specs.Tree.{form};
 ghost use Rattle.linear_term.specs.Linear.{name};
-ghost use Rattle.std.specs.Prelude.{◌≡◌, ◌∷◌, [], IfOk};
+ghost use Rattle.std.specs.Prelude.{◌≡◌, ◌⊎◌, ◌∷◌, [], IfOk};
 
 use formula::Core;
 use linear_term::{Memory, Term};
@@ -37,9 +37,16 @@ fn somewhere(alloc: Global) -> Result<Core, Memory>
     Ok(Core::Exists(Boxed::new(alloc, Core::Or(members))?))
 }
 
+/// The formula that is true: a conjunction of nothing.
+fn truth(alloc: Global) -> Core
+    ensures { form result ≡ conjunction no_form }
+{
+    Core::And(Items::new(alloc))
+}
+
 /// The answer to a tree and a formula.
 fn answer_to(alloc: Global, root: &Core, tree: &Tree) -> Told
-    requires { form root.now ≡ existential (disjunction (and_form (holds 0 (name 0 ∷ [])) no_form)) }
+    requires { (form root.now ≡ existential (disjunction (and_form (holds 0 (name 0 ∷ [])) no_form))) ⊎ (form root.now ≡ conjunction no_form) }
 {
     if tree.charges > 1_000_000_000 {
         return Told::Unread;
@@ -61,6 +68,14 @@ pub(crate) fn told_of_tree(alloc: Global, tree: &Tree) -> Told {
     match somewhere(alloc) {
         Ok(root) => answer_to(alloc, &root, tree),
         Err(_) => Told::Memory,
+    }
+}
+
+/// The answer to the tree of a proof's text, of the formula that is true.
+pub(crate) fn told_of_truth(alloc: Global, text: &str) -> Told {
+    match read_tree(alloc, text.as_bytes()) {
+        Ok(tree) => answer_to(alloc, &truth(alloc), &tree),
+        Err(_) => Told::Unread,
     }
 }
 

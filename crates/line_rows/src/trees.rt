@@ -1,6 +1,6 @@
 // Trees in memory that are checked: those of proofs' texts, and one that no text can say.
 
-use crate::telling::{Told, told_of_text, told_of_tree};
+use crate::telling::{Told, told_of_text, told_of_tree, told_of_truth};
 use purse::Entry;
 use std::alloc::{AllocError, Global};
 use tree_reading::read_tree;
@@ -69,6 +69,23 @@ fn trees_are_checked(rt: HostRuntime) -> Result<(), AllocError> {
         let text = proof(rt.alloc(), charges, lines)?;
         assert_eq!(rt;
             told_of_text(rt.alloc(), text.as_str()),
+            is,
+            "of {charges} {lines}"
+        );
+    }
+    Ok(())
+}
+
+#[test]
+fn a_tree_is_accepted(rt: HostRuntime) -> Result<(), AllocError> {
+    for (charges, lines, is) in [
+        ("2", "trivial 0\ngives true\nsolution\n", Told::Valid),
+        ("1", "trivial 0\ngives true\nsolution\n", Told::Cost(0)),
+        ("2", "trivial 0\ngives false\nsolution\n", Told::Node(0)),
+    ] {
+        let text = proof(rt.alloc(), charges, lines)?;
+        assert_eq!(rt;
+            told_of_truth(rt.alloc(), text.as_str()),
             is,
             "of {charges} {lines}"
         );

@@ -14,6 +14,7 @@ use Rattle.pri_tokens.specs.Lexemes.{starts_name, is_name_byte}
 use Rattle.pri_tokens.specs.Kinds.{is_name, is_one_of, words}
 use Rattle.pri_tokens.specs.Written.{IsIdentifier}
 use Rattle.pri_typing.specs.declared.problem.Problem.{Problem}
+use Rattle.pri_typing.specs.declared.problem.Symbol.{Symbol}
 use Rattle.pri_typing.specs.WellFormed.{HasIdentifiers, names_of_symbols}
 use Rattle.pri_printer.specs.Summands.{Summand, alone, times, Signed, constant, monomial, summands}
 use Rattle.pri_printer.specs.Quotient.{quotient_name, quotient_number}
@@ -31,16 +32,15 @@ glyph_inner u d = by u (nat_lt d 10)
     by true false = grind (arith, nat_tests)
     by false false = grind (arith, nat_tests)
 
+either_inner : (v : Bool) (xs ys : List ℕ) → AreInner xs → AreInner ys → AreInner (cond v xs ys)
+either_inner true xs ys h k = h
+either_inner false xs ys h k = k
+
 digits_inner : (k n : ℕ) (acc : List ℕ) → AreInner acc → AreInner (digits_onto k 10 false n acc)
 digits_inner zero n acc h = h
-digits_inner (suc k) n acc h = by (n / 10 == 0)
-  where
-    more : AreInner (digit_glyph false (n % 10) ∷ acc)
-    more = (glyph_inner false (n % 10), h)
-
-    by : (v : Bool) → AreInner (cond v (digit_glyph false (n % 10) ∷ acc) (digits_onto k 10 false (n / 10) (digit_glyph false (n % 10) ∷ acc)))
-    by true = more
-    by false = digits_inner k (n / 10) (digit_glyph false (n % 10) ∷ acc) more
+digits_inner (suc k) n acc h =
+    let more : AreInner (digit_glyph false (n % 10) ∷ acc) = (glyph_inner false (n % 10), h) in
+    either_inner (n / 10 == 0) (digit_glyph false (n % 10) ∷ acc) (digits_onto k 10 false (n / 10) (digit_glyph false (n % 10) ∷ acc)) more (digits_inner k (n / 10) (digit_glyph false (n % 10) ∷ acc) more)
 
 decimal_inner : (n : ℕ) → AreInner (decimal n)
 unfolding digits
@@ -78,8 +78,10 @@ front_names : (xs ys : List (List ℕ)) → AreNames (xs ++ ys) → AreNames xs
 front_names [] ys h = tt
 front_names (x ∷ xs) ys h = (h.0, front_names xs ys h.1)
 
-symbols_inner : (p : Problem) → HasIdentifiers p → AreNames (names_of_symbols p)
-symbols_inner p h = identifiers_inner (names_of_symbols p) (recursion_from_All IsIdentifier (names_of_symbols p) h)
+constants_inner : (p : Problem) → HasIdentifiers p → AreNames (constants_of p)
+constants_inner p h =
+    let F = map (λ (y : Symbol). y.name) p.functions in let Q = map (λ (y : Symbol). y.name) p.predicates in
+    front_names (constants_of p) F (front_names (constants_of p ++ F) Q (identifiers_inner (names_of_symbols p) (recursion_from_All IsIdentifier (names_of_symbols p) h)))
 
 indexed : (names : List (List ℕ)) (x : ℕ) → AreNames names → AreInner (slice_index_or names x [])
 indexed [] x h = tt
@@ -87,10 +89,6 @@ indexed (y ∷ names) zero h = h.0
 indexed (y ∷ names) (suc x) h = indexed names x h.1
 
 -- ---- terms
-
-either_inner : (v : Bool) (xs ys : List ℕ) → AreInner xs → AreInner ys → AreInner (cond v xs ys)
-either_inner true xs ys h k = h
-either_inner false xs ys h k = k
 
 summand_inner : (names : List (List ℕ)) (s : Summand) → AreNames names → AreInner (summand_text names s)
 summand_inner names (alone n) h = decimal_inner n
@@ -149,7 +147,7 @@ form_inner names k (c ∷ cs) h i =
 -- the text of a normal form of a problem has no line feed
 pub dnf_inner : (p : Problem) (d : List (List Literal)) → HasIdentifiers p → AreInner (dnf_text p d)
 dnf_inner p d h =
-    form_inner (constants_of p) (quotient_name (quotient_number p)) d (front_names (constants_of p) _ (symbols_inner p h))
+    form_inner (constants_of p) (quotient_name (quotient_number p)) d (constants_inner p h)
     (inner_append (codes "k") (decimal (quotient_number p)) (refl, tt) (decimal_inner (quotient_number p)))
 
 -- ---- values
@@ -172,4 +170,4 @@ listed_inner (u ∷ us) h = inner_append u (behind_each (codes ", ") us) h.0 (co
 
 -- the text of a solution has no line feed
 pub solution_inner : (p : Problem) (vs : List ℤ) → HasIdentifiers p → AreInner (solution_text p vs)
-solution_inner p vs h = listed_inner (value_texts p.existentials vs) (values_inner p.existentials vs (front_names p.existentials p.universals (front_names (constants_of p) _ (symbols_inner p h))))
+solution_inner p vs h = listed_inner (value_texts p.existentials vs) (values_inner p.existentials vs (front_names p.existentials p.universals (constants_inner p h)))
