@@ -1,9 +1,9 @@
 // Calls for the tests of trees: what a check of a tree answers about one formula.
 
-ghost use Rattle.formula.specs.Form.{and_form, conjunction, disjunction, existential, holds, no_form};
+ghost use Rattle.formula.specs.Form.{and_form, conjunction, disjunction, existential, fails, holds, no_form};
 ghost use Rattle.formula.specs.Tree.{form};
-ghost use Rattle.linear_term.specs.Linear.{name};
-ghost use Rattle.std.specs.Prelude.{◌≡◌, ◌⊎◌, ◌∷◌, [], IfOk};
+ghost use Rattle.linear_term.specs.Linear.{name, number};
+ghost use Rattle.std.specs.Prelude.{◌≡◌, ◌⊎◌, ◌∷◌, [], pos, IfOk};
 
 use formula::Core;
 use linear_term::{Memory, Term};
@@ -44,14 +44,30 @@ fn truth(alloc: Global) -> Core
     Core::And(Items::new(alloc))
 }
 
-/// The answer to a tree and a formula.
-fn answer_to(alloc: Global, root: &Core, tree: &Tree) -> Told
-    requires { (form root.now ≡ existential (disjunction (and_form (holds 0 (name 0 ∷ [])) no_form))) ⊎ (form root.now ≡ conjunction no_form) }
+/// Predicate 0 fails at 3, or it holds at the constant.
+#[tactic(auto, using(formula::proofs::Building::formed))]
+fn unified(alloc: Global) -> Result<Core, Memory>
+    ensures { IfOk result (λ f. form f ≡ disjunction (and_form (fails 0 (number (pos 3) ∷ [])) (and_form (holds 0 (name 0 ∷ [])) no_form))) }
+{
+    let mut three = Items::new(alloc);
+    three.push(Term::number(alloc, 3))?;
+    let mut constant = Items::new(alloc);
+    constant.push(Term::name(alloc, 0))?;
+    let mut members = Items::new(alloc);
+    members.push(Core::NotPred(0, three))?;
+    members.push(Core::Pred(0, constant))?;
+    Ok(Core::Or(members))
+}
+
+/// The answer to a tree and a formula over so many constants.
+fn answer_to(alloc: Global, root: &Core, constants: u32, tree: &Tree) -> Told
+    requires { ((constants ≡ 0) × (form root.now ≡ existential (disjunction (and_form (holds 0 (name 0 ∷ [])) no_form)))) ⊎ ((constants ≡ 0) × (form root.now ≡ conjunction no_form))
+        ⊎ ((constants ≡ 1) × (form root.now ≡ disjunction (and_form (fails 0 (number (pos 3) ∷ [])) (and_form (holds 0 (name 0 ∷ [])) no_form)))) }
 {
     if tree.charges > 1_000_000_000 {
         return Told::Unread;
     }
-    match check(alloc, root, 0, tree) {
+    match check(alloc, root, constants, tree) {
         Ok(checked) => match checked.verdict {
             Verdict::Valid(_) => Told::Valid,
             Verdict::Invalid => Told::Invalid,
@@ -66,15 +82,26 @@ fn answer_to(alloc: Global, root: &Core, tree: &Tree) -> Told
 /// The answer to a tree.
 pub(crate) fn told_of_tree(alloc: Global, tree: &Tree) -> Told {
     match somewhere(alloc) {
-        Ok(root) => answer_to(alloc, &root, tree),
+        Ok(root) => answer_to(alloc, &root, 0, tree),
         Err(_) => Told::Memory,
+    }
+}
+
+/// The answer to the tree of a proof's text, of the formula that predicate 0 fails at 3 or holds at the constant.
+pub(crate) fn told_of_unified(alloc: Global, text: &str) -> Told {
+    let Ok(root) = unified(alloc) else {
+        return Told::Memory;
+    };
+    match read_tree(alloc, text.as_bytes()) {
+        Ok(tree) => answer_to(alloc, &root, 1, &tree),
+        Err(_) => Told::Unread,
     }
 }
 
 /// The answer to the tree of a proof's text, of the formula that is true.
 pub(crate) fn told_of_truth(alloc: Global, text: &str) -> Told {
     match read_tree(alloc, text.as_bytes()) {
-        Ok(tree) => answer_to(alloc, &truth(alloc), &tree),
+        Ok(tree) => answer_to(alloc, &truth(alloc), 0, &tree),
         Err(_) => Told::Unread,
     }
 }

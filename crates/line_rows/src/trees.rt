@@ -1,6 +1,6 @@
 // Trees in memory that are checked: those of proofs' texts, and one that no text can say.
 
-use crate::telling::{Told, told_of_text, told_of_tree, told_of_truth};
+use crate::telling::{Told, told_of_text, told_of_tree, told_of_truth, told_of_unified};
 use purse::Entry;
 use std::alloc::{AllocError, Global};
 use tree_reading::read_tree;
@@ -88,6 +88,28 @@ fn a_tree_is_accepted(rt: HostRuntime) -> Result<(), AllocError> {
             told_of_truth(rt.alloc(), text.as_str()),
             is,
             "of {charges} {lines}"
+        );
+    }
+    Ok(())
+}
+
+#[test]
+fn a_tree_with_a_constant_is_accepted(rt: HostRuntime) -> Result<(), AllocError> {
+    for (charges, gives, values, is) in [
+        ("18", "c0 - 3 = 0", "3", Told::Valid),
+        ("18", "c0 - 4 = 0", "3", Told::Node(1)),
+        ("17", "c0 - 3 = 0", "3", Told::Cost(1)),
+        ("18", "c0 - 3 = 0", "4", Told::Node(2)),
+    ] {
+        let mut lines = String::from_str(rt.alloc(), "alpha 0\nclose\nlog\ngives ")?;
+        for part in [gives, "\ngives c0 - 3 = 0\nsolution ", values, "\n"] {
+            lines.push_str(part)?;
+        }
+        let text = proof(rt.alloc(), charges, lines.as_str())?;
+        assert_eq!(rt;
+            told_of_unified(rt.alloc(), text.as_str()),
+            is,
+            "of {charges} {gives} {values}"
         );
     }
     Ok(())
