@@ -15,11 +15,11 @@ use Rattle.tree_lines.specs.declared.text.Fault.{Fault}
 use Rattle.tree_lines.specs.declared.text.Fault.TheVariants as f
 use Rattle.tree_lines.specs.Lines.{tokens_of, last_lines, lines, lines_all, proof_lines}
 use Rattle.tree_lines.specs.Owed.{IsWhole, start, Any, Shallow}
+use Rattle.tree_text.specs.Expansion.{expansion}
 use Rattle.tree_text.specs.Shaped.{IsShapedNode, AreShapedNodes, IsShaped, Holds}
 use Rattle.tree_text.specs.Refusals.{IsRefusedText, RefusesText}
 use Rattle.tree_text.proofs.Deep.{none_deep}
 use Rattle.tree_text.proofs.Leading.{leads_any, same_lines}
-use Rattle.tree_text.proofs.Trees.{proof_pays}
 use Rattle.proof_lines.specs.Body.{body}
 use Rattle.proof_lines.specs.Refused.{RefusesFile}
 use Rattle.proof_lines.specs.declared.refusal.ProofRefusal.{ProofRefusal}
@@ -74,11 +74,8 @@ one_by j n m x y c d s u e =
 
 pub holds_one : (bytes : List ℕ) (n m : ℕ) (x y : Proof) (c d : Conclusion) → Holds bytes n x c → Holds bytes m y d → (n ≡ m) × (x ≡ y) × (c ≡ d)
 holds_one bytes n m x y c d h k =
-    one_by 1 n m x y c d h.shaped.root k.shaped.root
-    (one (IsWhole Any start) tokens_of texts_apart (proof_lines n x c) (proof_lines m y d) bytes [] [] (leads_any start [] (proof_lines n x c) (proof_pays n x c h.shaped)) (leads_any start [] (proof_lines m y d) (proof_pays m y d k.shaped)) h.cut k.cut).0
-
-whole_text : (n : ℕ) (x : Proof) (c : Conclusion) → IsShaped n x c → IsWhole Any start (proof_lines n x c)
-whole_text n x c s = leads_any start [] (proof_lines n x c) (proof_pays n x c s)
+    let same = one (IsWhole Any start) tokens_of texts_apart h.lines k.lines bytes [] [] (leads_any start [] h.lines h.whole) (leads_any start [] k.lines k.whole) h.cut k.cut in
+    one_by 1 n m x y c d h.shaped.root k.shaped.root (sym h.is ∙ ap expansion same.0 ∙ k.is)
 
 no_whole : (ls ms : List TextLine) (bytes back : List ℕ) (q : IsRefusedText bytes back) → IsWhole Any start ls → Cuts (tokens_of ls) bytes [] → IsWhole Any start ms → tokens_of ms ≡ q.first.front → ⊥
 no_whole ls ms bytes back q i p j e =
@@ -86,12 +83,12 @@ no_whole ls ms bytes back q i p j e =
 
 not_syntax : (bytes : List ℕ) (n : ℕ) (x : Proof) (c : Conclusion) (left : ℕ) → Holds bytes n x c → RefusesText bytes (f.Syntax left) → ⊥
 not_syntax bytes n x c left h q =
-    let ls = proof_lines n x c in let i = whole_text n x c h.shaped in
-    not_refused (IsWhole Any start) tokens_of texts_apart ls bytes [] left i h.cut
-    (record { back = q.0; first = q.2.first; inside = λ ms j e. no_whole ls ms bytes q.0 q.2 i h.cut j e; place = q.1 })
+    let i = leads_any start [] h.lines h.whole in
+    not_refused (IsWhole Any start) tokens_of texts_apart h.lines bytes [] left i h.cut
+    (record { back = q.0; first = q.2.first; inside = λ ms j e. no_whole h.lines ms bytes q.0 q.2 i h.cut j e; place = q.1 })
 
 not_deep : (bytes : List ℕ) (n : ℕ) (x : Proof) (c : Conclusion) (left : ℕ) → Holds bytes n x c → RefusesText bytes (f.Deep left) → ⊥
-not_deep bytes n x c left h q = none_deep (proof_lines n x c) bytes [] (proof_pays n x c h.shaped) h.cut q.0 q.2
+not_deep bytes n x c left h q = none_deep h.lines bytes [] h.whole h.cut q.0 q.2
 
 -- bytes that hold a proof are not refused
 pub held_by_text : (bytes : List ℕ) (n : ℕ) (x : Proof) (c : Conclusion) (fault : Fault) → Holds bytes n x c → RefusesText bytes fault → fault ≡ f.Memory

@@ -8,7 +8,6 @@ ghost use Rattle.std.specs.Prelude.{◌≡◌, IfErr, IfOk, MatchOption};
 ghost use Rattle.tree_lines.specs.Lines.{line_text};
 ghost use Rattle.tree_lines.specs.Owed.{Pays, Shallow};
 ghost use Rattle.tree_text.specs.Refusals.{RefusesText};
-ghost use Rattle.tree_text.specs.Walks.{IsInner};
 
 use crate::file::body;
 use crate::refusal::{ProofRefusal, in_file};
@@ -19,15 +18,20 @@ use purse::ElimLog;
 use sqlite_items::Items;
 use std::alloc::Global;
 use tree_lines::{Fault, Owed, TextLine, line_for};
-use tree_text::{Walk, check_text, opening};
+use tree_text::{Walk, check_text};
 
-/// The lines of a proof's text that are still to come, the log that came last, and the conclusion once it has come.
+/// The lines of a proof's text that are still to come, its parts, the log that came last, and the conclusion once it has come.
 #[derive(Drop)]
 pub struct Lines<'a> {
     rest: &'a [u8],
     walk: Walk,
     charges: u64,
-    log: ElimLog,
+    /// The logs that the text writes once.
+    parts: Items<ElimLog>,
+    /// The part that the last log uses, where it uses one.
+    used: Option<u32>,
+    /// The last log that was written where it stands.
+    own: ElimLog,
     conclusion: Conclusion,
 }
 
@@ -44,20 +48,22 @@ fn owed_line(alloc: Global, owed: Owed, text: &[u8]) -> Result<Option<(TextLine,
 }
 
 impl<'a> Lines<'a> {
+    ghost use Rattle.proof_lines.specs.Coming.{ended, IsFull, log_said, meant};
     ghost use Rattle.proof_stream.specs.Told.{KeepsLog, Tells};
 
     /// Reads the whole text of a proof once, and keeps no tree of it.
     fn of_text(alloc: Global, text: &'a [u8]) -> Result<Lines<'a>, Fault>
-        ensures found { IfOk result (λ s. HoldsAll text.now s.charges s.walk s.rest.now) }
+        ensures found { IfOk result (λ s. HoldsAll text.now s.charges s.parts s.walk s.rest.now) }
         ensures refused { IfErr result (RefusesText text.now) }
     {
-        let _amount = check_text(alloc, text)?;
-        let (charges, rest) = opening(text)?;
+        let (opening, rest) = check_text(alloc, text)?;
         Ok(Lines {
             rest,
-            walk: Walk::new(alloc),
-            charges,
-            log: ElimLog {
+            walk: Walk::new(alloc, opening.parts.len()),
+            charges: opening.charges,
+            parts: opening.parts,
+            used: None,
+            own: ElimLog {
                 entries: Items::new(alloc),
             },
             conclusion: Conclusion::Solution(Items::new(alloc)),
@@ -66,7 +72,7 @@ impl<'a> Lines<'a> {
 
     /// Reads the whole proof of a file once, and keeps no tree of it.
     pub fn new(alloc: Global, bytes: &'a [u8]) -> Result<Lines<'a>, ProofRefusal>
-        ensures found { IfOk result (λ s. HoldsAll (body bytes.now) s.charges s.walk s.rest.now) }
+        ensures found { IfOk result (λ s. HoldsAll (body bytes.now) s.charges s.parts s.walk s.rest.now) }
         ensures refused { IfErr result (RefusesFile bytes.now) }
     {
         match Lines::of_text(alloc, body(bytes)) {
@@ -82,17 +88,39 @@ impl<'a> Lines<'a> {
         self.charges
     }
 
+    /// The line with the entries of its part, where it is a conclusion that uses one.
+    fn in_full(&self, alloc: Global, line: TextLine) -> Result<TextLine, Memory>
+        ensures { IfOk result (λ l. l ≡ ended self.now.parts line) }
+    {
+        let TextLine::EndOf(part) = line else {
+            return Ok(line);
+        };
+        let log = match self.parts.as_slice().get(part as usize) {
+            Some(log) => log.copy(alloc)?,
+            None => ElimLog {
+                entries: Items::new(alloc),
+            },
+        };
+        Ok(TextLine::End(Conclusion::Nothing(log)))
+    }
+
     /// What a line tells; a log and a conclusion are kept.
     fn told(&mut self, line: TextLine) -> Option<Line>
-        ensures told { IsInner line → Tells result self.new.log self.new.conclusion line }
-        ensures log { KeepsLog result self.old.log self.new.log }
+        ensures told { IsFull self.old.parts line → Tells result (log_said self.new.parts self.new.used self.new.own) self.new.conclusion (meant self.old.parts line) }
+        ensures log { KeepsLog result (log_said self.old.parts self.old.used self.old.own) (log_said self.new.parts self.new.used self.new.own) }
+        ensures parts { self.new.parts ≡ self.old.parts }
         ensures walk { self.new.walk ≡ self.old.walk }
         ensures rest { self.new.rest ≡ self.old.rest }
     {
         match line {
             TextLine::Row(rule, count) => Some(Line::Row(rule, count)),
             TextLine::Log(log) => {
-                self.log = log;
+                self.used = None;
+                self.own = log;
+                Some(Line::Log)
+            }
+            TextLine::LogOf(part) => {
+                self.used = Some(part);
                 Some(Line::Log)
             }
             TextLine::Gives(clauses) => Some(Line::Gives(clauses)),
@@ -100,27 +128,27 @@ impl<'a> Lines<'a> {
                 self.conclusion = conclusion;
                 Some(Line::End)
             }
-            TextLine::Head(_) | TextLine::Charges(_) => None,
+            _ => None,
         }
     }
 }
 
 impl<'a> ProofLines for Lines<'a> {
-    ghost use Rattle.proof_lines.specs.Coming.{Coming};
+    ghost use Rattle.proof_lines.specs.Coming.{Coming, log_said};
     ghost use Rattle.proof_stream.specs.Told.{KeepsLog, Tells};
     ghost use Rattle.std.specs.Prelude.{◌≡◌, ◌∷◌, [], IfErr, IfOk, List, None};
     ghost use Rattle.tree_lines.specs.declared.lines.TextLine.{TextLine};
 
-    ghost coming = { λ s ls. Coming s.walk s.rest.now ls };
+    ghost coming = { λ s ls. Coming s.parts s.walk s.rest.now ls };
 
-    ghost log_of = { λ s. s.log };
+    ghost log_of = { λ s. log_said s.parts s.used s.own };
 
     ghost end_of = { λ s. s.conclusion };
 
     fn next(&mut self, alloc: Global) -> Result<Option<Line>, Memory>
-        ensures line { (l : TextLine) (ls : List TextLine) → Coming self.old.walk self.old.rest.now (l ∷ ls) → IfOk result (λ x. Tells x self.new.log self.new.conclusion l × Coming self.new.walk self.new.rest.now ls) }
-        ensures log { IfOk result (λ x. KeepsLog x self.old.log self.new.log) }
-        ensures end { Coming self.old.walk self.old.rest.now [] → IfOk result (λ x. x ≡ None) }
+        ensures line { (l : TextLine) (ls : List TextLine) → Coming self.old.parts self.old.walk self.old.rest.now (l ∷ ls) → IfOk result (λ x. Tells x (log_said self.new.parts self.new.used self.new.own) self.new.conclusion l × Coming self.new.parts self.new.walk self.new.rest.now ls) }
+        ensures log { IfOk result (λ x. KeepsLog x (log_said self.old.parts self.old.used self.old.own) (log_said self.new.parts self.new.used self.new.own)) }
+        ensures end { Coming self.old.parts self.old.walk self.old.rest.now [] → IfOk result (λ x. x ≡ None) }
         ensures memory { IfErr result (λ _. self.new ≡ self.old) }
     {
         let Some(owed) = self.walk.owed() else {
@@ -129,15 +157,22 @@ impl<'a> ProofLines for Lines<'a> {
         let Some((line, behind)) = owed_line(alloc, owed, self.rest)? else {
             return Ok(None);
         };
-        self.walk.pay(owed, &line)?;
+        let full = self.in_full(alloc, line)?;
+        self.walk.pay(owed, &full)?;
         self.rest = behind;
-        Ok(self.told(line))
+        Ok(self.told(full))
     }
 
     fn log(&self) -> &ElimLog
-        ensures { result.now ≡ self.now.log }
+        ensures { result.now ≡ log_said self.now.parts self.now.used self.now.own }
     {
-        &self.log
+        let Some(part) = self.used else {
+            return &self.own;
+        };
+        self.parts
+            .as_slice()
+            .get(part as usize)
+            .unwrap_or(&self.own)
     }
 
     fn conclusion(&self) -> &Conclusion

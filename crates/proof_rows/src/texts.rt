@@ -15,7 +15,7 @@ enum Answer {
 
 fn verdict(alloc: Global, text: &str) -> Answer {
     match check_text(alloc, text.as_bytes()) {
-        Ok(charges) => Answer::Charges(charges),
+        Ok((opening, _lines)) => Answer::Charges(opening.charges),
         Err(Fault::Syntax(left)) => Answer::Syntax(text.len().saturating_sub(left)),
         Err(Fault::Deep(left)) => Answer::Deep(text.len().saturating_sub(left)),
         Err(Fault::Memory) => Answer::Memory,
@@ -49,10 +49,60 @@ fn texts_are_proofs_or_refused(rt: HostRuntime) -> Result<(), AllocError> {
             "princess-proof 1\ncharges 7\nbeta 0 0\n",
             Answer::Syntax(34),
         ),
-        ("princess-proof 2\ncharges 7\n", Answer::Syntax(15)),
+        ("princess-proof 3\ncharges 7\n", Answer::Syntax(15)),
+        ("princess-proof 2\ncharges 7\n", Answer::Syntax(17)),
+        (
+            "princess-proof 1\ncharges 7\nclose\nlog u0\ngives false\nnone\n",
+            Answer::Syntax(37),
+        ),
         ("", Answer::Syntax(0)),
     ] {
         assert_eq!(rt; verdict(rt.alloc(), text), is, "at {text}");
+    }
+    Ok(())
+}
+
+// Texts of the second format behind their first line, which has 17 bytes.
+#[test]
+fn parts_are_written_once_and_used(rt: HostRuntime) -> Result<(), AllocError> {
+    for (lines, is) in [
+        (
+            "parts 1\npart e0\ncharges 100\nclose\nlog u0\ngives true\nsolution\n",
+            Answer::Charges(100),
+        ),
+        (
+            "parts 1\npart e0\ncharges 100\nclose\nlog u1\ngives true\nsolution\n",
+            Answer::Syntax(55),
+        ),
+        (
+            "parts 1\npart e0\ncharges 100\nclose\nlog u00\ngives true\nsolution\n",
+            Answer::Syntax(55),
+        ),
+        (
+            "parts 1\npart e0\ncharges 100\nclose\nlog u0 e1\ngives true\nsolution\n",
+            Answer::Syntax(57),
+        ),
+        (
+            "parts 1\npart e0\ncharges 100\nclose\nlog e1 u0\ngives true\nsolution\n",
+            Answer::Syntax(58),
+        ),
+        (
+            "parts 0\ncharges 9\nclose\nlog e0 o\ngives false\nnone x\n",
+            Answer::Charges(9),
+        ),
+        (
+            "parts 2\npart d\npart x o\ncharges 9\nclose\nlog\ngives false\nnone u1\n",
+            Answer::Charges(9),
+        ),
+        ("parts 2\npart d\ncharges 9\n", Answer::Syntax(32)),
+        ("parts 1\npart\ncharges 9\n", Answer::Syntax(29)),
+        ("parts 1\npart u0\ncharges 9\n", Answer::Syntax(30)),
+        ("parts 01\npart e0\n", Answer::Syntax(23)),
+        ("parts 4294967296\n", Answer::Syntax(23)),
+    ] {
+        let mut text = String::from_str(rt.alloc(), "princess-proof 2\n")?;
+        text.push_str(lines)?;
+        assert_eq!(rt; verdict(rt.alloc(), text.as_str()), is, "at {lines}");
     }
     Ok(())
 }

@@ -6,21 +6,21 @@ use Rattle.proof_text.specs.Lines.{AnyEntries, entries_text, numbered_text}
 use Rattle.proof_text.specs.Reading.{Cuts, IsFirstRefusal, IsRefusedAt, IsApart}
 use Rattle.proof_text.proofs.Cutting.{some_same}
 
-abbrev token_of : Piece → Token
+abbrev pub token_of : Piece → Token
 token_of p = p.token
 
 abbrev len_of : Piece → ℕ
 len_of p = p.len
 
 -- one cut goes on as the other
-abbrev Meets : List Token → List Token → List ℕ → List ℕ → Type 0
+abbrev pub Meets : List Token → List Token → List ℕ → List ℕ → Type 0
 Meets xs ys r s = ((u : List Token) × (xs ≡ ys ++ u) × Cuts u s r) ⊎ ((u : List Token) × (ys ≡ xs ++ u) × Cuts u r s)
 
 meets_more : (x y : Token) (xs ys : List Token) (r s : List ℕ) → x ≡ y → Meets xs ys r s → Meets (x ∷ xs) (y ∷ ys) r s
 meets_more x y xs ys r s e (inl q) = inl (q.0, (let h = q.1 in cc), q.2)
 meets_more x y xs ys r s e (inr q) = inr (q.0, (let h = q.1 in cc), q.2)
 
-meets : (xs ys : List Token) (bytes r s : List ℕ) → Cuts xs bytes r → Cuts ys bytes s → Meets xs ys r s
+pub meets : (xs ys : List Token) (bytes r s : List ℕ) → Cuts xs bytes r → Cuts ys bytes s → Meets xs ys r s
 meets [] ys bytes r s p q = inr (ys, refl, subst (λ b. Cuts ys b s) p q)
 meets (x ∷ xs) [] bytes r s p q = inl (x ∷ xs, refl, subst (λ b. Cuts (x ∷ xs) b r) q p)
 meets (x ∷ xs) (y ∷ ys) bytes r s p q =

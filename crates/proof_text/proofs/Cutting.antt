@@ -17,6 +17,7 @@ token_ranged : (x : Token) → IsToken x → IsRanged x
 token_ranged t.Bad h = absurd h
 token_ranged (t.Number n) h = h
 token_ranged (t.Name x) h = h
+token_ranged (t.Use i) h = h
 token_ranged (t.Step e) h = h
 token_ranged _ h = tt
 

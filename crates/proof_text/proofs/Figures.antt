@@ -30,6 +30,7 @@ figure_is w h =
     ∙ skip w (codes "true") t.True _ h refl ∙ skip w (codes "false") t.False _ h refl ∙ skip w (codes "divides") t.Divides _ h refl
     ∙ skip w (codes "notdivides") t.NotDivides _ h refl ∙ skip w (codes "trivial") t.Trivial _ h refl ∙ skip w (codes "alpha") t.Alpha _ h refl
     ∙ skip w (codes "beta") t.Beta _ h refl ∙ skip w (codes "delta") t.Delta _ h refl ∙ skip w (codes "gamma") t.Gamma _ h refl ∙ skip w (codes "close") t.Close _ h refl
+    ∙ skip w (codes "parts") t.Parts _ h refl ∙ skip w (codes "part") t.Part _ h refl
 
 second_has : (w : List ℕ) → is_ascii_digit (slice_index w 1) ≡ true → has_digit w ≡ true
 second_has [] h = absurd (cc)

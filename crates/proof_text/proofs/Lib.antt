@@ -15,3 +15,4 @@ pub mod Spaced
 pub mod ItemLines
 pub mod Integers
 pub mod CountedLines
+pub mod PartLines

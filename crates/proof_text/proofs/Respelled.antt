@@ -133,7 +133,7 @@ some_digit (d ∷ ds) h = ap (λ v. v || has_digit ds) (left_true (is_ascii_digi
 figure_number : (w : List ℕ) (n : ℕ) → Numeral w → numeral_of (2 ^ 127) w ≡ Some n → figure_of w ≡ t.Number n
 figure_number [] n h e = let s = h.some in absurd (omega arith)
 figure_number (d ∷ ds) n h e =
-    ap (λ v. if v then token_or_bad t.Number (numeral_of (2 ^ 127) (d ∷ ds)) else (if d == 99 then token_or_bad t.Name (index_of ds) else token_or_bad t.Step (Rattle.proof_text.specs.Words.entry_of d ds)))
+    ap (λ v. if v then token_or_bad t.Number (numeral_of (2 ^ 127) (d ∷ ds)) else (if d == 99 then token_or_bad t.Name (index_of ds) else (if d == 117 then token_or_bad t.Use (index_of ds) else token_or_bad t.Step (Rattle.proof_text.specs.Words.entry_of d ds))))
     (left_true (is_ascii_digit d) (list_all is_ascii_digit ds) h.digits) ∙ ap (token_or_bad t.Number) e
 
 number_back : (n : ℕ) (rest : List ℕ) → n < 2 ^ 127 → EndsWord rest → Back (decimal n) (t.Number n) rest
@@ -197,6 +197,8 @@ keyword_back w rest x some all n is word h = word_back w rest x some all n is (h
 
 token_back : (x : Token) (rest : List ℕ) → IsToken x → Follows x rest → Back (spelling x) x rest
 token_back t.PrincessProof rest f h = joined_back 112 (codes "rincess") 45 (codes "proof") rest t.PrincessProof refl refl refl refl refl (h refl)
+token_back t.Parts rest f h = keyword_back (codes "parts") rest t.Parts (omega arith) refl refl refl refl h
+token_back t.Part rest f h = keyword_back (codes "part") rest t.Part (omega arith) refl refl refl refl h
 token_back t.Charges rest f h = keyword_back (codes "charges") rest t.Charges (omega arith) refl refl refl refl h
 token_back t.Trivial rest f h = keyword_back (codes "trivial") rest t.Trivial (omega arith) refl refl refl refl h
 token_back t.Alpha rest f h = keyword_back (codes "alpha") rest t.Alpha (omega arith) refl refl refl refl h
@@ -214,6 +216,7 @@ token_back t.Divides rest f h = keyword_back (codes "divides") rest t.Divides (o
 token_back t.NotDivides rest f h = keyword_back (codes "notdivides") rest t.NotDivides (omega arith) refl refl refl refl h
 token_back (t.Number n) rest f h = number_back n rest f (h refl)
 token_back (t.Name x) rest f h = lettered_back 99 x rest (t.Name x) f refl refl (λ q. ap (token_or_bad t.Name) q) (h refl)
+token_back (t.Use i) rest f h = lettered_back 117 i rest (t.Use i) f refl refl (λ q. ap (token_or_bad t.Use) q) (h refl)
 token_back (t.Step s) rest f h = entry_back s rest f (h refl)
 token_back t.Equal rest f h = refl
 token_back t.AtLeast rest f h = refl

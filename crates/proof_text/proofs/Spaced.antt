@@ -7,7 +7,7 @@ use Rattle.purse.specs.declared.log.Entry.{Entry}
 use Rattle.proof_text.specs.declared.tokens.Token.{Token}
 use Rattle.proof_text.specs.declared.tokens.Token.TheVariants as t
 use Rattle.proof_text.specs.Spellings.{IsEntry, IsToken, is_sign, NextIsSign, AreSpaced}
-use Rattle.proof_text.specs.Lines.{numbered_text, head_text, charges_text, entries_text, log_text, none_text, value_text, values_text, solution_text, AreValues, counted_text}
+use Rattle.proof_text.specs.Lines.{numbered_text, head_text, parts_text, part_text, use_text, charges_text, entries_text, log_text, none_text, value_text, values_text, solution_text, AreValues, counted_text}
 
 pub sign_spaced : (x : Token) (xs : List Token) → IsToken x → is_sign x ≡ true → AreSpaced xs → AreSpaced (x ∷ xs)
 sign_spaced x xs f s a = (f, λ h. absurd (false≢true (sym h ∙ s)), a)
@@ -43,9 +43,24 @@ entries_next : (es : List Entry) → NextIsSign (entries_text es)
 entries_next [] = refl
 entries_next (s ∷ es) = refl
 
-entries_spaced : (es : List Entry) → AllByRecursion IsEntry es → AreSpaced (entries_text es)
+pub entries_spaced : (es : List Entry) → AllByRecursion IsEntry es → AreSpaced (entries_text es)
 entries_spaced [] a = end_spaced
 entries_spaced (s ∷ es) a = sign_spaced t.Blank (t.Step s ∷ entries_text es) tt refl (word_spaced (t.Step s) (entries_text es) a.0 (entries_next es) (entries_spaced es a.1))
+
+pub parts_spaced : (n : ℕ) → n < 2 ^ 127 → AreSpaced (parts_text n)
+parts_spaced n h = word_spaced t.Parts (numbered_text n) tt refl (numbered_spaced n h)
+
+pub part_spaced : (es : List Entry) → AllByRecursion IsEntry es → AreSpaced (part_text es)
+part_spaced es a = word_spaced t.Part (entries_text es) tt (entries_next es) (entries_spaced es a)
+
+use_spaced : (i : ℕ) → i < 2 ^ 32 → AreSpaced (use_text i)
+use_spaced i h = sign_spaced t.Blank (t.Use i ∷ t.LineFeed ∷ []) tt refl (word_spaced (t.Use i) (t.LineFeed ∷ []) h refl end_spaced)
+
+pub log_use_spaced : (i : ℕ) → i < 2 ^ 32 → AreSpaced (t.Log ∷ use_text i)
+log_use_spaced i h = word_spaced t.Log (use_text i) tt refl (use_spaced i h)
+
+pub none_use_spaced : (i : ℕ) → i < 2 ^ 32 → AreSpaced (t.Nothing ∷ use_text i)
+none_use_spaced i h = word_spaced t.Nothing (use_text i) tt refl (use_spaced i h)
 
 pub log_spaced : (es : List Entry) → AllByRecursion IsEntry es → AreSpaced (log_text es)
 log_spaced es a = word_spaced t.Log (entries_text es) tt (entries_next es) (entries_spaced es a)

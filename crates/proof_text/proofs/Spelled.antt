@@ -15,7 +15,7 @@ use Rattle.purse.specs.declared.log.Entry.TheVariants as e
 use Rattle.proof_text.specs.declared.tokens.Token.{Token}
 use Rattle.proof_text.specs.declared.tokens.Token.TheVariants as t
 use Rattle.proof_text.specs.declared.scanner.Piece.{Piece}
-use Rattle.proof_text.specs.Words.{is_empty, numeral_of, index_of, merge_with, merge_behind, merge_of, entry_of, token_or_bad, figure_of, row_word_of, word_of, sign_of}
+use Rattle.proof_text.specs.Words.{is_empty, numeral_of, index_of, merge_with, merge_behind, merge_of, entry_of, token_or_bad, figure_of, part_word_of, row_word_of, word_of, sign_of}
 use Rattle.proof_text.specs.Scanning.{is_word_byte, word_len, piece_of}
 use Rattle.proof_text.specs.Spellings.{IsEntry, IsToken, entry_spelling, spelling}
 use Rattle.proof_text.proofs.Numerals.{numeral_spelled}
@@ -77,25 +77,31 @@ number_spelled : (w : List ℕ) (o : Option ℕ) → numeral_of (2 ^ 127) w ≡ 
 number_spelled w None q = inl refl
 number_spelled w (Some n) q = inr (numeral_spelled (2 ^ 127) w n (omega arith) q)
 
-name_spelled : (b : ℕ) (bs : List ℕ) (o : Option ℕ) → (b == 99) ≡ true → index_of bs ≡ o → Spelled (b ∷ bs) (token_or_bad t.Name o)
-name_spelled b bs None h q = inl refl
-name_spelled b bs (Some x) h q =
-    let n = numeral_spelled (2 ^ 32) bs x (omega arith) q in
-    inr (ap (λ z. z ∷ bs) (eqb-true b 99 h) ∙ ap (λ z. 99 ∷ z) n.0, n.1)
+-- a letter and an index
+lettered_spelled : (b c : ℕ) (bs : List ℕ) (make : ℕ → Token) → ((i : ℕ) → spelling (make i) ≡ c ∷ decimal i) → ((i : ℕ) → i < 2 ^ 32 → IsToken (make i)) → (b == c) ≡ true
+    → (o : Option ℕ) → index_of bs ≡ o → Spelled (b ∷ bs) (token_or_bad make o)
+lettered_spelled b c bs make law fits h None q = inl refl
+lettered_spelled b c bs make law fits h (Some i) q =
+    let n = numeral_spelled (2 ^ 32) bs i (omega arith) q in
+    inr (ap (λ z. z ∷ bs) (eqb-true b c h) ∙ ap (λ z. c ∷ z) n.0 ∙ sym (law i), fits i n.1)
 
 figure_spelled : (w : List ℕ) → Spelled w (figure_of w)
 figure_spelled [] = inl refl
 figure_spelled (b ∷ bs) = if_begins (Spelled (b ∷ bs)) (is_ascii_digit b) _ _ (λ h. number_spelled (b ∷ bs) (numeral_of (2 ^ 127) (b ∷ bs)) refl)
-    (λ _. if_begins (Spelled (b ∷ bs)) (b == 99) _ _ (λ h. name_spelled b bs (index_of bs) h refl)
-    (λ _. step_spelled (b ∷ bs) (entry_of b bs) (entry_spelled b bs)))
+    (λ _. if_begins (Spelled (b ∷ bs)) (b == 99) _ _ (λ h. lettered_spelled b 99 bs t.Name (λ i. refl) (λ i f. f) h (index_of bs) refl)
+    (λ _. if_begins (Spelled (b ∷ bs)) (b == 117) _ _ (λ h. lettered_spelled b 117 bs t.Use (λ i. refl) (λ i f. f) h (index_of bs) refl)
+    (λ _. step_spelled (b ∷ bs) (entry_of b bs) (entry_spelled b bs))))
 
 keyword : (w s : List ℕ) (x y : Token) → s ≡ spelling x → IsToken x → Spelled w y → Spelled w (if bytes_eq w s then x else y)
 keyword w s x y q fits o = if_begins (Spelled w) (bytes_eq w s) x y (λ h. inr ((bytes_eq-Decides w s).0 h ∙ q, fits)) (λ _. o)
 
+part_word_spelled : (w : List ℕ) → Spelled w (part_word_of w)
+part_word_spelled w = keyword w (codes "parts") t.Parts _ refl tt (keyword w (codes "part") t.Part _ refl tt (figure_spelled w))
+
 row_word_spelled : (w : List ℕ) → Spelled w (row_word_of w)
 row_word_spelled w =
     keyword w (codes "trivial") t.Trivial _ refl tt (keyword w (codes "alpha") t.Alpha _ refl tt (keyword w (codes "beta") t.Beta _ refl tt
-    (keyword w (codes "delta") t.Delta _ refl tt (keyword w (codes "gamma") t.Gamma _ refl tt (keyword w (codes "close") t.Close _ refl tt (figure_spelled w))))))
+    (keyword w (codes "delta") t.Delta _ refl tt (keyword w (codes "gamma") t.Gamma _ refl tt (keyword w (codes "close") t.Close _ refl tt (part_word_spelled w))))))
 
 word_spelled : (w : List ℕ) → Spelled w (word_of w)
 word_spelled w =

@@ -1,10 +1,13 @@
 -- The lines of a proof that speak of no sequent, as tokens.
-use Rattle.std.specs.Prelude.{ℕ, ◌≤◌, ℤ, pos, int_lt, unsigned_abs, cond, List, [], ◌∷◌, ◌++◌, Option, Some, None}
+use Rattle.std.specs.Prelude.{ℕ, ◌≤◌, ◌<◌, ℤ, pos, int_lt, unsigned_abs, cond, List, [], ◌∷◌, ◌++◌, Option, Some, None}
 use Rattle.std.specs.List.{AllByRecursion}
 use Rattle.linear_term.specs.Range.{InRange}
 use Rattle.purse.specs.declared.log.Entry.{Entry}
 use Rattle.proof_text.specs.declared.tokens.Token.{Token}
 use Rattle.proof_text.specs.declared.tokens.Token.TheVariants as t
+use Rattle.proof_text.specs.declared.part_lines.SaidLog.{SaidLog}
+use Rattle.proof_text.specs.declared.part_lines.SaidLog.TheVariants as said
+use Rattle.proof_text.specs.Reading.{Cuts}
 
 -- a blank, a number and the end of the line
 abbrev pub numbered_text : ℕ → List Token
@@ -14,6 +17,10 @@ numbered_text n = t.Blank ∷ t.Number n ∷ t.LineFeed ∷ []
 abbrev pub head_text : ℕ → List Token
 head_text n = t.PrincessProof ∷ numbered_text n
 
+-- the line that says how many parts a text has
+abbrev pub parts_text : ℕ → List Token
+parts_text n = t.Parts ∷ numbered_text n
+
 -- the line that says for how many charges the proof is
 abbrev pub charges_text : ℕ → List Token
 charges_text n = t.Charges ∷ numbered_text n
@@ -22,9 +29,9 @@ charges_text n = t.Charges ∷ numbered_text n
 abbrev pub IsIn : ℕ → ℕ → ℕ → Type 0
 IsIn least most n = (least ≤ n) × (n ≤ most)
 
--- the formats of a proof: there is one
+-- the formats of a proof: in the second one a log that stands on several lines may be written once
 abbrev pub IsFormat : ℕ → Type 0
-IsFormat = IsIn 1 1
+IsFormat = IsIn 1 2
 
 -- a proof is for at most so many charges
 abbrev pub IsCharges : ℕ → Type 0
@@ -42,6 +49,33 @@ log_text es = t.Log ∷ entries_text es
 -- the conclusion that no values solve the problem, with the log that shows it
 abbrev pub none_text : List Entry → List Token
 none_text es = t.Nothing ∷ entries_text es
+
+-- a part of a text: entries that its logs may use
+abbrev pub part_text : List Entry → List Token
+part_text es = t.Part ∷ entries_text es
+
+-- a part has an entry
+abbrev pub IsPart : List Entry → Type 0
+IsPart [] = ⊥
+IsPart (s ∷ es) = Unit {0}
+
+-- the use of a part, in the place of entries
+abbrev pub use_text : ℕ → List Token
+use_text i = t.Blank ∷ t.Use i ∷ t.LineFeed ∷ []
+
+-- what stands behind the word of a line with a log
+abbrev pub said_text : SaidLog → List Token
+said_text (said.Entries log) = entries_text log.entries
+said_text (said.Part i) = use_text i
+
+-- a text of so many parts can say it
+abbrev pub IsSaid : ℕ → SaidLog → Type 0
+IsSaid parts (said.Entries log) = Unit {0}
+IsSaid parts (said.Part i) = i < parts
+
+-- no part of so many is used there
+abbrev pub HasNoUse : ℕ → List ℕ → Type 0
+HasNoUse parts bytes = (i : ℕ) (rest : List ℕ) → i < parts → Cuts (t.Blank ∷ t.Use i ∷ []) bytes rest → ⊥
 
 -- any list of entries stands in a log
 abbrev pub AnyEntries : List Entry → Type 0

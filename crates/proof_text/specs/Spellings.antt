@@ -20,6 +20,8 @@ entry_spelling e.Dark = codes "d"
 -- the one spelling of a token
 abbrev pub spelling : Token → List ℕ
 spelling t.PrincessProof = codes "princess-proof"
+spelling t.Parts = codes "parts"
+spelling t.Part = codes "part"
 spelling t.Charges = codes "charges"
 spelling t.Trivial = codes "trivial"
 spelling t.Alpha = codes "alpha"
@@ -37,6 +39,7 @@ spelling t.Divides = codes "divides"
 spelling t.NotDivides = codes "notdivides"
 spelling (t.Number n) = decimal n
 spelling (t.Name x) = 99 ∷ decimal x
+spelling (t.Use i) = 117 ∷ decimal i
 spelling (t.Step e) = entry_spelling e
 spelling t.Equal = codes "="
 spelling t.AtLeast = codes ">="
@@ -69,6 +72,7 @@ IsEntry _ = Unit {0}
 abbrev pub IsToken : Token → Type 0
 IsToken (t.Number n) = n < 2 ^ 127
 IsToken (t.Name x) = x < 2 ^ 32
+IsToken (t.Use i) = i < 2 ^ 32
 IsToken (t.Step e) = IsEntry e
 IsToken t.Bad = ⊥
 IsToken _ = Unit {0}
@@ -77,6 +81,7 @@ IsToken _ = Unit {0}
 abbrev pub IsRanged : Token → Type 0
 IsRanged (t.Number n) = n < 2 ^ 127
 IsRanged (t.Name x) = x < 2 ^ 32
+IsRanged (t.Use i) = i < 2 ^ 32
 IsRanged (t.Step e) = IsEntry e
 IsRanged _ = Unit {0}
 

@@ -56,15 +56,23 @@ abbrev pub token_or_bad : {A : Type 0} → (A → Token) → Option A → Token
 token_or_bad f None = t.Bad
 token_or_bad f (Some a) = f a
 
--- a number, a name or an entry
+-- a number, a name, the use of a part or an entry
 abbrev pub figure_of : List ℕ → Token
 figure_of [] = t.Bad
 figure_of (b ∷ bs) =
     if is_ascii_digit b then token_or_bad t.Number (numeral_of (2 ^ 127) (b ∷ bs)) else
     (if b == 99 then token_or_bad t.Name (index_of bs) else
-    token_or_bad t.Step (entry_of b bs))
+    (if b == 117 then token_or_bad t.Use (index_of bs) else
+    token_or_bad t.Step (entry_of b bs)))
 
--- the words that begin a row, and figures
+-- the words of the parts of a text, and figures
+abbrev pub part_word_of : List ℕ → Token
+part_word_of w =
+    if bytes_eq w (codes "parts") then t.Parts else
+    (if bytes_eq w (codes "part") then t.Part else
+    figure_of w)
+
+-- the words that begin a row, and others
 abbrev pub row_word_of : List ℕ → Token
 row_word_of w =
     if bytes_eq w (codes "trivial") then t.Trivial else
@@ -73,7 +81,7 @@ row_word_of w =
     (if bytes_eq w (codes "delta") then t.Delta else
     (if bytes_eq w (codes "gamma") then t.Gamma else
     (if bytes_eq w (codes "close") then t.Close else
-    figure_of w)))))
+    part_word_of w)))))
 
 -- the token that a word is
 abbrev pub word_of : List ℕ → Token

@@ -1,12 +1,13 @@
 // What the definition of tokens means for bytes.
 
-ghost use Rattle.proof_text.specs.Lines.{AnyEntries, AreValues, charges_text, head_text, IsCharges, IsFormat, log_text, none_text, solution_text};
+ghost use Rattle.proof_text.specs.Lines.{AnyEntries, AreValues, charges_text, head_text, IsCharges, IsFormat, log_text, none_text, part_text, parts_text, solution_text, use_text};
 ghost use Rattle.proof_text.specs.Reading.{Cuts, IsRefusedAt};
 ghost use Rattle.proof_text.specs.Spellings.{AreSpaced, IsEntry, IsGood, spelled};
 ghost use Rattle.proof_text.specs.declared.tokens.Token.{Token};
+ghost use Rattle.proof_text.specs.declared.tokens.Token.TheVariants as t;
 ghost use Rattle.purse.specs.declared.log.Entry.{Entry};
 ghost use Rattle.std.specs.List.{AllByRecursion};
-ghost use Rattle.std.specs.Prelude.{◌≡◌, ◌<◌, ◌^◌, ◌++◌, List, ℕ, ℤ};
+ghost use Rattle.std.specs.Prelude.{◌≡◌, ◌<◌, ◌^◌, ◌∷◌, ◌++◌, List, ℕ, ℤ};
 
 /// Bytes that begin with tokens of texts begin with the spellings of these, one behind another. So a token has one
 /// spelling, and what is read is written in one way.
@@ -52,6 +53,10 @@ pub fn cutting_law()
 pub fn written_law()
     ensures head { (n : ℕ) (rest : List ℕ) → n < 2 ^ 127 → Cuts (head_text n) (spelled (head_text n) ++ rest) rest }
     ensures charges { (n : ℕ) (rest : List ℕ) → n < 2 ^ 127 → Cuts (charges_text n) (spelled (charges_text n) ++ rest) rest }
+    ensures parts { (n : ℕ) (rest : List ℕ) → n < 2 ^ 127 → Cuts (parts_text n) (spelled (parts_text n) ++ rest) rest }
+    ensures part { (es : List Entry) (rest : List ℕ) → AllByRecursion IsEntry es → Cuts (part_text es) (spelled (part_text es) ++ rest) rest }
+    ensures log_use { (i : ℕ) (rest : List ℕ) → i < 2 ^ 32 → Cuts (t.Log ∷ use_text i) (spelled (t.Log ∷ use_text i) ++ rest) rest }
+    ensures none_use { (i : ℕ) (rest : List ℕ) → i < 2 ^ 32 → Cuts (t.Nothing ∷ use_text i) (spelled (t.Nothing ∷ use_text i) ++ rest) rest }
     ensures log { (es : List Entry) (rest : List ℕ) → AllByRecursion IsEntry es → Cuts (log_text es) (spelled (log_text es) ++ rest) rest }
     ensures none { (es : List Entry) (rest : List ℕ) → AllByRecursion IsEntry es → Cuts (none_text es) (spelled (none_text es) ++ rest) rest }
     ensures solution { (vs : List ℤ) (rest : List ℕ) → AreValues vs → Cuts (solution_text vs) (spelled (solution_text vs) ++ rest) rest }

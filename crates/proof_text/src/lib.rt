@@ -4,6 +4,7 @@
 mod laws;
 mod lines;
 mod numbers;
+mod part_lines;
 mod reading;
 mod scanner;
 mod single;
@@ -16,6 +17,7 @@ pub use laws::{
 };
 pub use lines::{charges, entries, head, log, none};
 pub use numbers::{counted, position, solution, value, values};
+pub use part_lines::{SaidLog, part, parts, said};
 pub use reading::{Refusal, next};
 pub use scanner::{Piece, first_piece};
 pub use single::{
@@ -23,4 +25,7 @@ pub use single::{
     number_between, proof_word, solution_word, value_start,
 };
 pub use tokens::Token;
-pub use writing::{put_number, write_charges, write_head, write_log, write_none};
+pub use writing::{
+    put_entries, put_number, write_charges, write_head, write_log, write_log_use, write_none, write_none_use,
+    write_part, write_parts,
+};

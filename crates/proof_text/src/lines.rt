@@ -71,7 +71,7 @@ pub fn head(text: &[u8]) -> Result<(u128, &[u8]), Refusal>
     ensures first { IfErr result (Refuses IsFormat head_text text.now) }
 {
     let inner = proof_word(text)?;
-    let (format, rest) = numbered(inner, 1, 1)?;
+    let (format, rest) = numbered(inner, 1, 2)?;
     Ok((format, rest))
 }
 

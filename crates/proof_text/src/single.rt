@@ -65,6 +65,34 @@ pub fn charges_word(text: &[u8]) -> Result<&[u8], Refusal>
     }
 }
 
+/// The text behind the word `parts`.
+pub fn parts_word(text: &[u8]) -> Result<&[u8], Refusal>
+    ensures found { IfOk result (λ rest. Cuts (t.Parts ∷ []) text.now rest.now) }
+    ensures lacks { IfErr result (Lacks (λ x. x ≡ t.Parts) text.now) }
+{
+    let Some((token, rest)) = next(text) else {
+        return Err(Refusal::Syntax(0));
+    };
+    match token {
+        Token::Parts => Ok(rest),
+        _ => Err(Refusal::Syntax(text.len())),
+    }
+}
+
+/// The text behind the word `part`.
+pub fn part_word(text: &[u8]) -> Result<&[u8], Refusal>
+    ensures found { IfOk result (λ rest. Cuts (t.Part ∷ []) text.now rest.now) }
+    ensures lacks { IfErr result (Lacks (λ x. x ≡ t.Part) text.now) }
+{
+    let Some((token, rest)) = next(text) else {
+        return Err(Refusal::Syntax(0));
+    };
+    match token {
+        Token::Part => Ok(rest),
+        _ => Err(Refusal::Syntax(text.len())),
+    }
+}
+
 /// The text behind the word `log`.
 pub fn log_word(text: &[u8]) -> Result<&[u8], Refusal>
     ensures found { IfOk result (λ rest. Cuts (t.Log ∷ []) text.now rest.now) }

@@ -7,6 +7,8 @@ use purse::Entry;
 pub enum Token {
     /// `princess-proof`, which begins a proof.
     PrincessProof,
+    Parts,
+    Part,
     Charges,
     Trivial,
     Alpha,
@@ -27,6 +29,8 @@ pub enum Token {
     Number(u128),
     /// The constant with this number: `c` and the number.
     Name(u32),
+    /// The part of a text with this number: `u` and the number.
+    Use(u32),
     /// An entry of a log.
     Step(Entry),
     Equal,

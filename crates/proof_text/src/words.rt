@@ -1,7 +1,7 @@
 // Which token a word is.
 
 ghost use Rattle.pri_tokens.specs.Numerals.{decimal_value};
-ghost use Rattle.proof_text.specs.Words.{entry_of, figure_of, is_numeral, merge_of, numeral_of, row_word_of, sign_of, word_of};
+ghost use Rattle.proof_text.specs.Words.{entry_of, figure_of, is_numeral, merge_of, numeral_of, part_word_of, row_word_of, sign_of, word_of};
 ghost use Rattle.std.specs.Char.{is_ascii_digit};
 ghost use Rattle.std.specs.List.{list_all, prefix_len};
 ghost use Rattle.std.specs.Prelude.{◌≡◌, ◌≤◌, ◌<◌, ◌+◌, ◌-◌, ◌*◌, ◌^◌, length, slice_index, MatchOption};
@@ -51,7 +51,7 @@ pub fn word(text: &[u8]) -> Token
     row_word(text)
 }
 
-/// The token of a word that begins a row, or of a number, a name or an entry.
+/// The token of a word that begins a row, or of another.
 fn row_word(text: &[u8]) -> Token
     ensures { result ≡ row_word_of text.now }
 {
@@ -73,10 +73,23 @@ fn row_word(text: &[u8]) -> Token
     if text == b"close".as_slice() {
         return Token::Close;
     }
+    part_word(text)
+}
+
+/// The token of a word that speaks of the parts of a text, or of a number, a name, the use of a part or an entry.
+fn part_word(text: &[u8]) -> Token
+    ensures { result ≡ part_word_of text.now }
+{
+    if text == b"parts".as_slice() {
+        return Token::Parts;
+    }
+    if text == b"part".as_slice() {
+        return Token::Part;
+    }
     figure(text)
 }
 
-/// The token of a number, a name or an entry.
+/// The token of a number, a name, the use of a part or an entry.
 fn figure(text: &[u8]) -> Token
     ensures { result ≡ figure_of text.now }
 {
@@ -93,6 +106,12 @@ fn figure(text: &[u8]) -> Token
     if first == b'c' {
         return match index(rest) {
             Some(x) => Token::Name(x),
+            None => Token::Bad,
+        };
+    }
+    if first == b'u' {
+        return match index(rest) {
+            Some(i) => Token::Use(i),
             None => Token::Bad,
         };
     }

@@ -1,9 +1,10 @@
 // The lines of a proof that speak of no sequent, written.
 
-ghost use Rattle.proof_text.specs.Lines.{charges_text, entries_text, head_text, log_text, none_text};
+ghost use Rattle.proof_text.specs.Lines.{charges_text, entries_text, head_text, log_text, none_text, part_text, parts_text, use_text};
 ghost use Rattle.proof_text.specs.Spellings.{entry_spelling, spelled};
+ghost use Rattle.proof_text.specs.declared.tokens.Token.TheVariants as t;
 ghost use Rattle.std.specs.Fmt.{decimal};
-ghost use Rattle.std.specs.Prelude.{◌≡◌, ◌++◌, OnOk};
+ghost use Rattle.std.specs.Prelude.{◌≡◌, ◌∷◌, ◌++◌, OnOk};
 
 use linear_term::Memory;
 use purse::Entry;
@@ -47,7 +48,7 @@ fn put_entry(alloc: Global, step: Entry, out: &mut Vec<u8>) -> Result<(), Memory
 }
 
 /// Puts entries, each behind a blank, and the end of the line behind a text.
-fn put_entries(alloc: Global, entries: &[Entry], out: &mut Vec<u8>) -> Result<(), Memory>
+pub fn put_entries(alloc: Global, entries: &[Entry], out: &mut Vec<u8>) -> Result<(), Memory>
     ensures { OnOk result (out.new.items ≡ out.old.items ++ spelled (entries_text entries.now)) }
 {
     for step in entries {
@@ -73,6 +74,45 @@ pub fn write_none(alloc: Global, entries: &[Entry], out: &mut Vec<u8>) -> Result
     ensures { OnOk result (out.new.items ≡ out.old.items ++ spelled (none_text entries.now)) }
 {
     out.extend_from_slice(b"none")?;
+    put_entries(alloc, entries, out)
+}
+
+/// Writes the line `log` that uses this part.
+#[tactic(auto, using(crate::proofs::Written::numbered))]
+pub fn write_log_use(alloc: Global, part: u32, out: &mut Vec<u8>) -> Result<(), Memory>
+    ensures { OnOk result (out.new.items ≡ out.old.items ++ spelled (t.Log ∷ use_text part)) }
+{
+    put_number(alloc, b"log u", u128::from(part), out)?;
+    out.extend_from_slice(b"\n")?;
+    Ok(())
+}
+
+/// Writes the line `none` that uses this part.
+#[tactic(auto, using(crate::proofs::Written::numbered))]
+pub fn write_none_use(alloc: Global, part: u32, out: &mut Vec<u8>) -> Result<(), Memory>
+    ensures { OnOk result (out.new.items ≡ out.old.items ++ spelled (t.Nothing ∷ use_text part)) }
+{
+    put_number(alloc, b"none u", u128::from(part), out)?;
+    out.extend_from_slice(b"\n")?;
+    Ok(())
+}
+
+/// Writes the line `parts`.
+#[tactic(auto, using(crate::proofs::Written::numbered))]
+pub fn write_parts(alloc: Global, count: u32, out: &mut Vec<u8>) -> Result<(), Memory>
+    ensures { OnOk result (out.new.items ≡ out.old.items ++ spelled (parts_text count)) }
+{
+    put_number(alloc, b"parts ", u128::from(count), out)?;
+    out.extend_from_slice(b"\n")?;
+    Ok(())
+}
+
+/// Writes the line `part` with these entries.
+#[tactic(auto, using(crate::proofs::Written::behind_word))]
+pub fn write_part(alloc: Global, entries: &[Entry], out: &mut Vec<u8>) -> Result<(), Memory>
+    ensures { OnOk result (out.new.items ≡ out.old.items ++ spelled (part_text entries.now)) }
+{
+    out.extend_from_slice(b"part")?;
     put_entries(alloc, entries, out)
 }
 

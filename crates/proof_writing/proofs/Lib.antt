@@ -4,3 +4,6 @@ pub mod Nodes
 pub mod Known
 pub mod Readable
 pub mod Reread
+pub mod Tallying
+pub mod GoodLines
+pub mod Shortening

@@ -5,9 +5,10 @@ mod given;
 mod knowing;
 mod laws;
 mod rows;
+mod sharing;
 mod text;
 
 pub use given::write_given;
 pub use knowing::know_typed;
 pub use laws::text_law;
-pub use text::write_tree;
+pub use text::{write_short, write_tree};

@@ -1,5 +1,6 @@
 -- The proof that a file holds, checked.
 use Rattle.std.proofs.Common.{◌≡◌, ◌∷◌, ◌++◌, ◌≤◌, [], ℕ, List, Result, Ok, Err, sym, subst}
+use Rattle.purse.specs.declared.log.ElimLog.{ElimLog}
 use Rattle.formula.specs.Form.{Form}
 use Rattle.proof_tree.specs.declared.node.Conclusion.{Conclusion}
 use Rattle.proof_tree.specs.Proof.{Proof}
@@ -28,9 +29,9 @@ judged_told f n bytes (Err (fault.Cost m)) j = j
 judged_told f n bytes (Err fault.Memory) j = tt
 
 -- what is checked is the proof that the file holds
-pub held_checked : (f : Form) (n : ℕ) (charges amount : ℕ) (walk : Walk) (rest : List ℕ) (r : Result Checked CheckFault) (t : Result Checked TextFault) → amount ≡ charges → t ≡ told_as r
-    → ((x : Proof) (c : Conclusion) → IsShapedNode Shallow 1 x → Coming walk rest (lines x ++ w.End c ∷ []) → ChecksAs f n x c amount r) → (bytes : List ℕ) → HoldsAll (body bytes) charges walk rest → ChecksText f n bytes t
-held_checked f n charges amount walk rest r t same is checks bytes h =
+pub held_checked : (f : Form) (n : ℕ) (charges amount : ℕ) (ps : List ElimLog) (walk : Walk) (rest : List ℕ) (r : Result Checked CheckFault) (t : Result Checked TextFault) → amount ≡ charges → t ≡ told_as r
+    → ((x : Proof) (c : Conclusion) → IsShapedNode Shallow 1 x → Coming ps walk rest (lines x ++ w.End c ∷ []) → ChecksAs f n x c amount r) → (bytes : List ℕ) → HoldsAll (body bytes) charges ps walk rest → ChecksText f n bytes t
+held_checked f n charges amount ps walk rest r t same is checks bytes h =
     subst (ChecksText f n bytes) (sym is)
     (judged_told f n bytes r (charges, h.0, h.1, h.2, subst (λ k. ChecksAs f n h.0 h.1 k r) same (checks h.0 h.1 (h.2).shaped.root h.3)))
 
@@ -41,5 +42,5 @@ file_refused f n bytes (refusal.Deep at) e is h = subst (λ z. ChecksText f n by
 file_refused f n bytes refusal.Memory e is h = subst (λ z. ChecksText f n bytes (Err z)) (sym is) tt
 
 -- the charges of a proof that a text holds
-pub held_charges : (text : List ℕ) (charges : ℕ) (walk : Walk) (rest : List ℕ) → HoldsAll text charges walk rest → charges ≤ 1000000000
-held_charges text charges walk rest h = (h.2).shaped.charges.1
+pub held_charges : (text : List ℕ) (charges : ℕ) (ps : List ElimLog) (walk : Walk) (rest : List ℕ) → HoldsAll text charges ps walk rest → charges ≤ 1000000000
+held_charges text charges ps walk rest h = (h.2).shaped.charges.1

@@ -58,7 +58,7 @@ fn check_held(
     requires depth { depth (form root.now) ≤ 2000 }
     requires constants { constants ≤ 1000 }
     requires charges { lines.old.charges ≤ 1000000000 }
-    ensures { (bytes : List ℕ) → HoldsAll (body bytes) lines.old.charges lines.old.walk lines.old.rest.now → ChecksText (form root.now) constants bytes result }
+    ensures { (bytes : List ℕ) → HoldsAll (body bytes) lines.old.charges lines.old.parts lines.old.walk lines.old.rest.now → ChecksText (form root.now) constants bytes result }
 {
     let charges = lines.charges();
     told(check_lines(alloc, root, constants, charges, lines))

@@ -1,16 +1,14 @@
 -- No line that pays for what is owed begins another one.
 use Rattle.std.proofs.Common.{ℕ, ◌≡◌, List, [], ◌∷◌, ◌++◌, refl, sym, ap, subst, ◌∙◌}
-use Rattle.purse.specs.declared.log.Entry.{Entry}
 use Rattle.linear_term.specs.Range.{InRange}
 use Rattle.sequent.specs.declared.member.Pick.{Pick}
 use Rattle.sequent.specs.declared.member.Pick.TheVariants as pick
-use Rattle.proof_tree.specs.declared.node.Conclusion.{Conclusion}
-use Rattle.proof_tree.specs.declared.node.Conclusion.TheVariants.{Solution, Nothing}
 use Rattle.proof_text.specs.declared.tokens.Token.{Token}
 use Rattle.proof_text.specs.declared.tokens.Token.TheVariants as t
-use Rattle.proof_text.specs.Lines.{numbered_text, counted_text, head_text, charges_text, entries_text, log_text, values_text, value_text, AnyEntries, AreValues, IsFormat, IsCharges, IsPosition}
+use Rattle.proof_text.specs.Lines.{numbered_text, counted_text, head_text, parts_text, part_text, charges_text, said_text, value_text, IsFormat, IsPart, IsCharges, IsPosition, IsSaid}
 use Rattle.proof_text.specs.Reading.{IsApart}
-use Rattle.proof_text.proofs.Apart.{behind_apart, entries_apart, numbered_apart}
+use Rattle.proof_text.proofs.Apart.{behind_apart, numbered_apart}
+use Rattle.proof_text.proofs.PartLines.{part_apart, said_apart}
 use Rattle.proof_text.proofs.ItemLines.{list_apart}
 use Rattle.proof_text.proofs.Integers.{value_apart}
 use Rattle.given_text.specs.Text.{AreClauses, gives_text}
@@ -19,10 +17,10 @@ use Rattle.tree_lines.specs.declared.lines.TextLine.{TextLine}
 use Rattle.tree_lines.specs.declared.lines.TextLine.TheVariants as w
 use Rattle.tree_lines.specs.declared.lines.Owed.{Owed}
 use Rattle.tree_lines.specs.declared.lines.Owed.TheVariants as o
-use Rattle.tree_lines.specs.Lines.{row_text, conclusion_text, line_text}
-use Rattle.tree_lines.specs.Owed.{Any, HasWidth, IsConclusion, Pays}
+use Rattle.tree_lines.specs.Lines.{row_text, line_text}
+use Rattle.tree_lines.specs.Owed.{Any, HasWidth, Pays}
 use Rattle.tree_lines.specs.Rows.{IsRow, row_line}
-use Rattle.tree_lines.proofs.LineKinds.{Kind, head_made, charges_made, row_made, log_made, gives_made, end_made, paid_head, paid_charges, paid_row, paid_log, paid_gives, paid_end}
+use Rattle.tree_lines.proofs.LineKinds.{Kind, head_made, parts_made, part_made, charges_made, row_made, log_made, log_is, log_said_text, gives_made, Ending, solved, unsolved, IsEnding, ending_text, end_made, end_is, paid_head, paid_parts, paid_part, paid_charges, paid_row, paid_log, paid_gives, paid_end}
 
 number_same : (n m : ℕ) (more : List Token) → numbered_text n ≡ numbered_text m ++ more → (n ≡ m) × (more ≡ [])
 number_same n m more q = let same : n ≡ m = cc in let h : [] ≡ more = cc in (same, sym h)
@@ -78,14 +76,14 @@ row_apart u v more i j q =
     let s = rows_same u.0 v.0 u.1 v.1 more i j q in
     (ap (λ p. (p, u.1)) s.rule ∙ ap (λ k. (v.0, k)) s.many, s.nothing)
 
-log_apart : IsApart AnyEntries log_text
-log_apart u v more i j q = behind_apart AnyEntries entries_text t.Log entries_apart u v more i j q
+log_apart : (m : ℕ) → IsApart (IsSaid m) log_said_text
+log_apart m u v more i j q = behind_apart (IsSaid m) said_text t.Log (said_apart m) u v more i j q
 
-conclusion_apart : IsApart IsConclusion conclusion_text
-conclusion_apart (Solution us) (Solution vs) more i j q = let s = list_apart InRange value_text value_apart us vs more i j (cc) in (ap Solution s.0, s.1)
-conclusion_apart (Solution us) (Nothing log) more i j q = absurd (cc)
-conclusion_apart (Nothing log) (Solution us) more i j q = absurd (cc)
-conclusion_apart (Nothing k) (Nothing l) more i j q = let s = entries_apart k.entries l.entries more tt tt (cc) in (ap (λ z. Nothing (record { entries = z })) s.0, s.1)
+ending_apart : (m : ℕ) → IsApart (IsEnding m) ending_text
+ending_apart m (solved us) (solved vs) more i j q = let s = list_apart InRange value_text value_apart us vs more i j (cc) in (ap solved s.0, s.1)
+ending_apart m (solved us) (unsolved s) more i j q = absurd (cc)
+ending_apart m (unsolved s) (solved us) more i j q = absurd (cc)
+ending_apart m (unsolved k) (unsolved l) more i j q = let s = said_apart m k l more i j (cc) in (ap unsolved s.0, s.1)
 
 -- from the values of one kind of line
 kind_apart : {V : Type 0} (IsValue : V → Type 0) (text : V → List Token) (make : V → TextLine) → ((a : V) → line_text (make a) ≡ text a) → IsApart IsValue text → (u v : TextLine) (more : List Token) → Kind IsValue make u → Kind IsValue make v
@@ -97,8 +95,10 @@ kind_apart IsValue text make is apart u v more a b q =
 -- the lines that pay for what is owed
 pub line_apart : (owed : Owed) → IsApart (Pays Any owed) line_text
 line_apart o.Head u v more i j q = kind_apart IsFormat head_text head_made (λ a. refl) (behind_apart IsFormat numbered_text t.PrincessProof (numbered_apart IsFormat)) u v more (paid_head u i) (paid_head v j) q
-line_apart o.Charges u v more i j q = kind_apart IsCharges charges_text charges_made (λ a. refl) (behind_apart IsCharges numbered_text t.Charges (numbered_apart IsCharges)) u v more (paid_charges u i) (paid_charges v j) q
-line_apart (o.Node n) u v more i j q = kind_apart IsRow row_line row_made (λ a. refl) row_apart u v more (paid_row n u i) (paid_row n v j) q
-line_apart o.Log u v more i j q = kind_apart AnyEntries log_text log_made (λ a. refl) log_apart u v more (paid_log u i) (paid_log v j) q
+line_apart o.Parts u v more i j q = kind_apart IsPosition parts_text parts_made (λ a. refl) (behind_apart IsPosition numbered_text t.Parts (numbered_apart IsPosition)) u v more (paid_parts u i) (paid_parts v j) q
+line_apart o.Part u v more i j q = kind_apart IsPart part_text part_made (λ a. refl) part_apart u v more (paid_part u i) (paid_part v j) q
+line_apart (o.Charges m) u v more i j q = kind_apart IsCharges charges_text charges_made (λ a. refl) (behind_apart IsCharges numbered_text t.Charges (numbered_apart IsCharges)) u v more (paid_charges m u i) (paid_charges m v j) q
+line_apart (o.Node n m) u v more i j q = kind_apart IsRow row_line row_made (λ a. refl) row_apart u v more (paid_row n m u i) (paid_row n m v j) q
+line_apart (o.Log m) u v more i j q = kind_apart (IsSaid m) log_said_text log_made log_is (log_apart m) u v more (paid_log m u i) (paid_log m v j) q
 line_apart o.Gives u v more i j q = kind_apart AreClauses gives_text gives_made (λ a. refl) gives_apart u v more (paid_gives u i) (paid_gives v j) q
-line_apart o.End u v more i j q = kind_apart IsConclusion conclusion_text end_made (λ a. refl) conclusion_apart u v more (paid_end u i) (paid_end v j) q
+line_apart (o.End m) u v more i j q = kind_apart (IsEnding m) ending_text end_made end_is (ending_apart m) u v more (paid_end m u i) (paid_end m v j) q

@@ -25,12 +25,12 @@ pub record BeginsNode (bytes : List ℕ) : Type 0 where
 
 -- no node begins on a level that a text may not have
 abbrev pub IsShallow : Owed → List ℕ → Type 0
-IsShallow (o.Node j) bytes = BeginsNode bytes → j ≤ 2000
+IsShallow (o.Node j m) bytes = BeginsNode bytes → j ≤ 2000
 IsShallow _ bytes = Unit {0}
 
 -- a node begins on such a level
 abbrev pub IsTooDeep : Owed → List ℕ → Type 0
-IsTooDeep (o.Node j) bytes = (2000 < j) × BeginsNode bytes
+IsTooDeep (o.Node j m) bytes = (2000 < j) × BeginsNode bytes
 IsTooDeep _ bytes = ⊥
 
 -- what is owed is refused where no line that pays for it goes on, whatever the level; or where a node would stand too deep

@@ -10,7 +10,7 @@ use Rattle.proof_tree.specs.Proof.{Proof, Proofs, node, no_proof, and_proof}
 use Rattle.proof_tree.specs.Walk.{width, eliminates}
 use Rattle.proof_text.specs.declared.tokens.Token.{Token}
 use Rattle.proof_text.specs.declared.tokens.Token.TheVariants as t
-use Rattle.proof_text.specs.Lines.{numbered_text, counted_text, head_text, charges_text, log_text, none_text, solution_text}
+use Rattle.proof_text.specs.Lines.{numbered_text, counted_text, head_text, parts_text, part_text, use_text, charges_text, log_text, none_text, solution_text}
 use Rattle.given_text.specs.Text.{gives_text}
 use Rattle.tree_lines.specs.declared.lines.TextLine.{TextLine}
 use Rattle.tree_lines.specs.declared.lines.TextLine.TheVariants as w
@@ -30,11 +30,15 @@ conclusion_text (Nothing log) = none_text log.entries
 
 abbrev pub line_text : TextLine → List Token
 line_text (w.Head n) = head_text n
+line_text (w.Parts n) = parts_text n
+line_text (w.Part log) = part_text log.entries
 line_text (w.Charges n) = charges_text n
 line_text (w.Row p k) = row_text p k
 line_text (w.Log log) = log_text log.entries
+line_text (w.LogOf i) = t.Log ∷ use_text i
 line_text (w.Gives d) = gives_text d
 line_text (w.End c) = conclusion_text c
+line_text (w.EndOf i) = t.Nothing ∷ use_text i
 
 -- the tokens of lines, one behind another
 abbrev pub tokens_of : List TextLine → List Token
@@ -54,10 +58,10 @@ abbrev mutual
   lines_all no_proof = []
   lines_all (and_proof n ns) = lines n ++ lines_all ns
 
--- the lines of a proof: its format, the charges that it may cost, its tree, and its conclusion
+-- the lines of a proof in the first format: its format, the charges that it may cost, its tree, and its conclusion
 abbrev pub proof_lines : ℕ → Proof → Conclusion → List TextLine
 proof_lines n x c = w.Head 1 ∷ w.Charges n ∷ (lines x ++ w.End c ∷ [])
 
--- the text of a proof
+-- the text of a proof in the first format
 abbrev pub proof_text : ℕ → Proof → Conclusion → List Token
 proof_text n x c = tokens_of (proof_lines n x c)

@@ -2,17 +2,18 @@
 
 ghost use Rattle.proof_text.specs.Reading.{Cuts, Lacks, Refuses};
 ghost use Rattle.proof_text.specs.declared.tokens.Token.TheVariants as t;
-ghost use Rattle.std.specs.Prelude.{◌∷◌, [], cond, length, IfErr, IfOk};
+ghost use Rattle.std.specs.Prelude.{◌∷◌, [], cond, length, IfErr, IfOk, ℕ};
 ghost use Rattle.tree_lines.specs.Conclusions.{IsEndWord};
-ghost use Rattle.tree_lines.specs.Lines.{conclusion_text, line_text};
-ghost use Rattle.tree_lines.specs.Owed.{Any, IsConclusion, Pays, Shallow};
+ghost use Rattle.tree_lines.specs.Lines.{line_text};
+ghost use Rattle.tree_lines.specs.Owed.{Any, Pays, Shallow};
 ghost use Rattle.tree_lines.specs.declared.lines.Owed.TheVariants as o;
 
 use crate::lines::TextLine;
 use given_text::given;
-use proof_text::{Refusal, Token, charges, entries, head, log, next, values};
+use proof_text::{
+    Refusal, SaidLog, Token, charges, head, log_word, next, part, parts, said, values,
+};
 use proof_tree::Conclusion;
-use purse::ElimLog;
 use std::alloc::Global;
 
 /// Whether the word `solution` comes, and not `none`, and the text behind it.
@@ -30,20 +31,6 @@ fn end_word(text: &[u8]) -> Result<(bool, &[u8]), Refusal>
     }
 }
 
-/// The conclusion of a proof, and the text behind it.
-fn conclusion(alloc: Global, text: &[u8]) -> Result<(Conclusion, &[u8]), Refusal>
-    ensures found { IfOk result (λ x. IsConclusion x.0 × Cuts (conclusion_text x.0) text.now x.1.now) }
-    ensures first { IfErr result (Refuses IsConclusion conclusion_text text.now) }
-{
-    let (solved, inner) = end_word(text)?;
-    if solved {
-        let (numbers, rest) = values(alloc, inner)?;
-        return Ok((Conclusion::Solution(numbers), rest));
-    }
-    let (steps, rest) = entries(alloc, inner)?;
-    Ok((Conclusion::Nothing(ElimLog { entries: steps }), rest))
-}
-
 /// The first line of a text.
 pub fn head_line(text: &[u8]) -> Result<(TextLine, &[u8]), Refusal>
     ensures found { IfOk result (λ x. Pays Shallow o.Head x.0 × Cuts (line_text x.0) text.now x.1.now) }
@@ -53,22 +40,44 @@ pub fn head_line(text: &[u8]) -> Result<(TextLine, &[u8]), Refusal>
     Ok((TextLine::Head(format), rest))
 }
 
-/// The line with the charges.
+/// The line that says how many parts the text has.
+pub fn parts_line(text: &[u8]) -> Result<(TextLine, &[u8]), Refusal>
+    ensures found { IfOk result (λ x. Pays Shallow o.Parts x.0 × Cuts (line_text x.0) text.now x.1.now) }
+    ensures first { IfErr result (Refuses (Pays Any o.Parts) line_text text.now) }
+{
+    let (count, rest) = parts(text)?;
+    Ok((TextLine::Parts(count), rest))
+}
+
+/// A part of a text.
+pub fn part_line(alloc: Global, text: &[u8]) -> Result<(TextLine, &[u8]), Refusal>
+    ensures found { IfOk result (λ x. Pays Shallow o.Part x.0 × Cuts (line_text x.0) text.now x.1.now) }
+    ensures first { IfErr result (Refuses (Pays Any o.Part) line_text text.now) }
+{
+    let (steps, rest) = part(alloc, text)?;
+    Ok((TextLine::Part(steps), rest))
+}
+
+/// The line with the charges, however many parts the text has.
 pub fn charges_line(text: &[u8]) -> Result<(TextLine, &[u8]), Refusal>
-    ensures found { IfOk result (λ x. Pays Shallow o.Charges x.0 × Cuts (line_text x.0) text.now x.1.now) }
-    ensures first { IfErr result (Refuses (Pays Any o.Charges) line_text text.now) }
+    ensures found { (parts : ℕ) → IfOk result (λ x. Pays Shallow (o.Charges parts) x.0 × Cuts (line_text x.0) text.now x.1.now) }
+    ensures first { (parts : ℕ) → IfErr result (Refuses (Pays Any (o.Charges parts)) line_text text.now) }
 {
     let (amount, rest) = charges(text)?;
     Ok((TextLine::Charges(amount), rest))
 }
 
-/// The log of a node.
-pub fn log_line(alloc: Global, text: &[u8]) -> Result<(TextLine, &[u8]), Refusal>
-    ensures found { IfOk result (λ x. Pays Shallow o.Log x.0 × Cuts (line_text x.0) text.now x.1.now) }
-    ensures first { IfErr result (Refuses (Pays Any o.Log) line_text text.now) }
+/// The log of a node, in a text of so many parts.
+pub fn log_line(alloc: Global, text: &[u8], parts: usize) -> Result<(TextLine, &[u8]), Refusal>
+    ensures found { IfOk result (λ x. Pays Shallow (o.Log parts) x.0 × Cuts (line_text x.0) text.now x.1.now) }
+    ensures first { IfErr result (Refuses (Pays Any (o.Log parts)) line_text text.now) }
 {
-    let (steps, rest) = log(alloc, text)?;
-    Ok((TextLine::Log(steps), rest))
+    let inner = log_word(text)?;
+    let (log, rest) = said(alloc, inner, parts)?;
+    match log {
+        SaidLog::Entries(steps) => Ok((TextLine::Log(steps), rest)),
+        SaidLog::Part(part) => Ok((TextLine::LogOf(part), rest)),
+    }
 }
 
 /// The constraint of a node.
@@ -80,11 +89,19 @@ pub fn gives_line(alloc: Global, text: &[u8]) -> Result<(TextLine, &[u8]), Refus
     Ok((TextLine::Gives(clauses), rest))
 }
 
-/// The last line of a text.
-pub fn end_line(alloc: Global, text: &[u8]) -> Result<(TextLine, &[u8]), Refusal>
-    ensures found { IfOk result (λ x. Pays Shallow o.End x.0 × Cuts (line_text x.0) text.now x.1.now) }
-    ensures first { IfErr result (Refuses (Pays Any o.End) line_text text.now) }
+/// The last line of a text of so many parts.
+pub fn end_line(alloc: Global, text: &[u8], parts: usize) -> Result<(TextLine, &[u8]), Refusal>
+    ensures found { IfOk result (λ x. Pays Shallow (o.End parts) x.0 × Cuts (line_text x.0) text.now x.1.now) }
+    ensures first { IfErr result (Refuses (Pays Any (o.End parts)) line_text text.now) }
 {
-    let (end, rest) = conclusion(alloc, text)?;
-    Ok((TextLine::End(end), rest))
+    let (solved, inner) = end_word(text)?;
+    if solved {
+        let (numbers, rest) = values(alloc, inner)?;
+        return Ok((TextLine::End(Conclusion::Solution(numbers)), rest));
+    }
+    let (log, rest) = said(alloc, inner, parts)?;
+    match log {
+        SaidLog::Entries(steps) => Ok((TextLine::End(Conclusion::Nothing(steps)), rest)),
+        SaidLog::Part(part) => Ok((TextLine::EndOf(part), rest)),
+    }
 }

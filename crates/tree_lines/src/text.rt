@@ -1,7 +1,7 @@
 // A line that pays for what is owed, and what a refusal says.
 
 ghost use Rattle.proof_text.specs.Reading.{Cuts};
-ghost use Rattle.std.specs.Prelude.{IfErr, IfOk};
+ghost use Rattle.std.specs.Prelude.{ℕ, IfErr, IfOk};
 ghost use Rattle.tree_lines.specs.Faults.{RefusesLine};
 ghost use Rattle.tree_lines.specs.Lines.{line_text};
 ghost use Rattle.tree_lines.specs.Owed.{Pays, Shallow};
@@ -9,7 +9,9 @@ ghost use Rattle.tree_lines.specs.declared.lines.Owed.TheVariants as o;
 
 use crate::lines::{Owed, TextLine};
 use crate::rows::{row, row_word};
-use crate::single_lines::{charges_line, end_line, gives_line, head_line, log_line};
+use crate::single_lines::{
+    charges_line, end_line, gives_line, head_line, log_line, part_line, parts_line,
+};
 use linear_term::Memory;
 use proof_text::Refusal;
 use std::alloc::{AllocError, Global};
@@ -60,10 +62,10 @@ impl From<Memory> for Fault {
     }
 }
 
-/// The line that begins a node on this level.
+/// The line that begins a node on this level, however many parts the text has.
 fn node_line(text: &[u8], level: u32) -> Result<(TextLine, &[u8]), Fault>
-    ensures found { IfOk result (λ x. Pays Shallow (o.Node level) x.0 × Cuts (line_text x.0) text.now x.1.now) }
-    ensures first { IfErr result (RefusesLine (o.Node level) text.now) }
+    ensures found { (parts : ℕ) → IfOk result (λ x. Pays Shallow (o.Node level parts) x.0 × Cuts (line_text x.0) text.now x.1.now) }
+    ensures first { (parts : ℕ) → IfErr result (RefusesLine (o.Node level parts) text.now) }
 {
     if level > 2000 {
         let (_word, _rest) = row_word(text)?;
@@ -80,10 +82,12 @@ pub fn line_for(alloc: Global, owed: Owed, text: &[u8]) -> Result<(TextLine, &[u
 {
     match owed {
         Owed::Head => Ok(head_line(text)?),
-        Owed::Charges => Ok(charges_line(text)?),
-        Owed::Node(level) => node_line(text, level),
-        Owed::Log => Ok(log_line(alloc, text)?),
+        Owed::Parts => Ok(parts_line(text)?),
+        Owed::Part => Ok(part_line(alloc, text)?),
+        Owed::Charges(_) => Ok(charges_line(text)?),
+        Owed::Node(level, _) => node_line(text, level),
+        Owed::Log(parts) => Ok(log_line(alloc, text, parts)?),
         Owed::Gives => Ok(gives_line(alloc, text)?),
-        Owed::End => Ok(end_line(alloc, text)?),
+        Owed::End(parts) => Ok(end_line(alloc, text, parts)?),
     }
 }

@@ -1,5 +1,6 @@
 -- The tree that the lines of a file say is the one that the file holds.
 use Rattle.std.proofs.Common.{ℕ, ◌≡◌, List, [], ◌∷◌, sym, subst}
+use Rattle.purse.specs.declared.log.ElimLog.{ElimLog}
 use Rattle.proof_tree.specs.declared.node.Conclusion.{Conclusion}
 use Rattle.proof_tree.specs.declared.node.Node.{Node}
 use Rattle.proof_tree.specs.Views.{proof_of}
@@ -10,9 +11,9 @@ use Rattle.tree_text.specs.Shaped.{Holds}
 use Rattle.proof_lines.specs.Coming.{Coming, HoldsAll}
 use Rattle.tree_reading.specs.Trees.{IsTree}
 
-pub holds_tree : (text : List ℕ) (charges amount : ℕ) (walk : Walk) (rest : List ℕ) (after : List TextLine → Type 0) (n : Node) (end : Conclusion) → amount ≡ charges → HoldsAll text charges walk rest → IsTree (Coming walk rest) after 1 n
+pub holds_tree : (text : List ℕ) (charges amount : ℕ) (ps : List ElimLog) (walk : Walk) (rest : List ℕ) (after : List TextLine → Type 0) (n : Node) (end : Conclusion) → amount ≡ charges → HoldsAll text charges ps walk rest → IsTree (Coming ps walk rest) after 1 n
     → ((c : Conclusion) (ls : List TextLine) → after (w.End c ∷ ls) → end ≡ c) → Holds text amount (proof_of n) end
-holds_tree text charges amount walk rest after n end e h t q =
+holds_tree text charges amount ps walk rest after n end e h t q =
     let x = h.0 in let c = h.1 in
     let k = t x (w.End c ∷ []) h.2.shaped.root h.3 in
     let same : end ≡ c = q c [] k.1 in

@@ -57,43 +57,39 @@ compare (l ∷ ls) (m ∷ ms) (x ∷ os) ws us bytes r s p q c d =
     let e = one (Pays Any x) line_text (line_apart x) m l bytes j.mid k.mid (pays_any x m q.0) (pays_any x l p.0) j.first k.first in
     compare ls ms (owes x l ++ os) ws us k.mid r s p.1 (subst (λ z. Leads Shallow (owes x z ++ os) ms us) e.0 q.1) k.second (subst (λ b. Cuts (tokens_of ms) b s) e.1 j.second)
 
-too_deep : (j : ℕ) (l : TextLine) → 2000 < j → Pays Shallow (o.Node j) l → ⊥
-too_deep j (w.Head n) h p = p
-too_deep j (w.Charges n) h p = p
-too_deep j (w.Row q k) h p = let low = p.0 in omega arith
-too_deep j (w.Log es) h p = p
-too_deep j (w.Gives d) h p = p
-too_deep j (w.End c) h p = p
+too_deep : (j m : ℕ) (l : TextLine) → 2000 < j → Pays Shallow (o.Node j m) l → ⊥
+too_deep j m (w.Row q k) h p = let low = p.0 in omega arith
+too_deep j m _ h p = p
 
-on_deep : (j : ℕ) (ws us : List Owed) (s : List ℕ) → 2000 < j → us ≡ o.Node j ∷ ws → Next us s → ⊥
-on_deep j ws us s d e n = let h : n.owed ≡ o.Node j = (let q = sym n.is ∙ e in cc) in too_deep j n.line d (subst (λ x. Pays Shallow x n.line) h n.pays)
+on_deep : (j m : ℕ) (ws us : List Owed) (s : List ℕ) → 2000 < j → us ≡ o.Node j m ∷ ws → Next us s → ⊥
+on_deep j m ws us s d e n = let h : n.owed ≡ o.Node j m = (let q = sym n.is ∙ e in cc) in too_deep j m n.line d (subst (λ x. Pays Shallow x n.line) h n.pays)
 
 whole_by : (ws : List Owed) (r : List ℕ) → Next [] r → ⊥
 whole_by ws r n = let e = n.is in cc
 
-deep_whole : (j : ℕ) (us owed : List Owed) (r s : List ℕ) → 2000 < j → us ≡ o.Node j ∷ owed → Compared [] us r s → ⊥
-deep_whole j us owed r s d e (same p q) = let h = p ∙ e in cc
-deep_whole j us owed r s d e (first_on n) = on_deep j owed us s d e n
-deep_whole j us owed r s d e (second_on n) = whole_by owed r n
+deep_whole : (j m : ℕ) (us owed : List Owed) (r s : List ℕ) → 2000 < j → us ≡ o.Node j m ∷ owed → Compared [] us r s → ⊥
+deep_whole j m us owed r s d e (same p q) = let h = p ∙ e in cc
+deep_whole j m us owed r s d e (first_on n) = on_deep j m owed us s d e n
+deep_whole j m us owed r s d e (second_on n) = whole_by owed r n
 
 -- the lines of a whole text have no node that stands too deep
 pub none_deep : (ls : List TextLine) (bytes rest : List ℕ) → IsWhole Shallow start ls → Cuts (tokens_of ls) bytes rest → (deep : List ℕ) → IsDeepAt bytes deep → ⊥
-none_deep ls bytes rest p c deep d = deep_whole d.level (o.Node d.level ∷ d.owed) d.owed rest deep d.too_deep refl (compare ls d.before start [] (o.Node d.level ∷ d.owed) bytes rest deep p d.leads c d.cut)
+none_deep ls bytes rest p c deep d = deep_whole d.level d.parts (o.Node d.level d.parts ∷ d.owed) d.owed rest deep d.too_deep refl (compare ls d.before start [] (o.Node d.level d.parts ∷ d.owed) bytes rest deep p d.leads c d.cut)
 
-deep_same : (j k : ℕ) (ws us : List Owed) (r s : List ℕ) → 2000 < j → 2000 < k → Compared (o.Node j ∷ ws) (o.Node k ∷ us) r s → r ≡ s
-deep_same j k ws us r s d e (same p q) = q
-deep_same j k ws us r s d e (first_on n) = absurd (on_deep k us (o.Node k ∷ us) s e refl n)
-deep_same j k ws us r s d e (second_on n) = absurd (on_deep j ws (o.Node j ∷ ws) r d refl n)
+deep_same : (j k m n : ℕ) (ws us : List Owed) (r s : List ℕ) → 2000 < j → 2000 < k → Compared (o.Node j m ∷ ws) (o.Node k n ∷ us) r s → r ≡ s
+deep_same j k m n ws us r s d e (same p q) = q
+deep_same j k m n ws us r s d e (first_on x) = absurd (on_deep k n us (o.Node k n ∷ us) s e refl x)
+deep_same j k m n ws us r s d e (second_on x) = absurd (on_deep j m ws (o.Node j m ∷ ws) r d refl x)
 
 -- one node is the first that stands too deep
 pub one_deep : (bytes r s : List ℕ) → IsDeepAt bytes r → IsDeepAt bytes s → r ≡ s
 one_deep bytes r s d e =
-    deep_same d.level e.level d.owed e.owed r s d.too_deep e.too_deep
-    (compare d.before e.before start (o.Node d.level ∷ d.owed) (o.Node e.level ∷ e.owed) bytes r s d.leads e.leads d.cut e.cut)
+    deep_same d.level e.level d.parts e.parts d.owed e.owed r s d.too_deep e.too_deep
+    (compare d.before e.before start (o.Node d.level d.parts ∷ d.owed) (o.Node e.level e.parts ∷ e.owed) bytes r s d.leads e.leads d.cut e.cut)
 
-same_owed : (j : ℕ) (x : Owed) (os owed : List Owed) (inner deep : List ℕ) → 2000 < j → x ∷ os ≡ o.Node j ∷ owed → inner ≡ deep → IsShallow x inner → BeginsNode deep → ⊥
-same_owed j x os owed inner deep d e q s b =
-    let h : x ≡ o.Node j = cc in
+same_owed : (j m : ℕ) (x : Owed) (os owed : List Owed) (inner deep : List ℕ) → 2000 < j → x ∷ os ≡ o.Node j m ∷ owed → inner ≡ deep → IsShallow x inner → BeginsNode deep → ⊥
+same_owed j m x os owed inner deep d e q s b =
+    let h : x ≡ o.Node j m = cc in
     let low : j ≤ 2000 = subst (λ z. IsShallow z inner) h s (subst BeginsNode (sym q) b) in omega arith
 
 taken_by : (x : Owed) (os : List Owed) (inner : List ℕ) (left : ℕ) → IsRefusedAt (Pays Any x) line_text inner left → Next (x ∷ os) inner → ⊥
@@ -101,10 +97,10 @@ taken_by x os inner left r n =
     let h : n.owed ≡ x = (let q = n.is in cc) in
     not_refused (Pays Any x) line_text (line_apart x) n.line inner n.rest left (pays_any x n.line (subst (λ z. Pays Shallow z n.line) h n.pays)) n.cut r
 
-deep_line : (j : ℕ) (x : Owed) (os us owed : List Owed) (inner deep : List ℕ) (left : ℕ) → 2000 < j → us ≡ o.Node j ∷ owed → IsShallow x inner → IsRefusedAt (Pays Any x) line_text inner left → BeginsNode deep → Compared (x ∷ os) us inner deep → ⊥
-deep_line j x os us owed inner deep left d e s r b (same p q) = same_owed j x os owed inner deep d (p ∙ e) q s b
-deep_line j x os us owed inner deep left d e s r b (first_on n) = on_deep j owed us deep d e n
-deep_line j x os us owed inner deep left d e s r b (second_on n) = taken_by x os inner left r n
+deep_line : (j m : ℕ) (x : Owed) (os us owed : List Owed) (inner deep : List ℕ) (left : ℕ) → 2000 < j → us ≡ o.Node j m ∷ owed → IsShallow x inner → IsRefusedAt (Pays Any x) line_text inner left → BeginsNode deep → Compared (x ∷ os) us inner deep → ⊥
+deep_line j m x os us owed inner deep left d e s r b (same p q) = same_owed j m x os owed inner deep d (p ∙ e) q s b
+deep_line j m x os us owed inner deep left d e s r b (first_on n) = on_deep j m owed us deep d e n
+deep_line j m x os us owed inner deep left d e s r b (second_on n) = taken_by x os inner left r n
 
 -- the first refusal of a line that is owed is that of the text
 pub refused_here : (ls : List TextLine) (x : Owed) (os : List Owed) (bytes inner : List ℕ) (fault : Fault) → Leads Shallow start ls (x ∷ os) → Cuts (tokens_of ls) bytes inner → RefusesLine x inner fault → RefusesText bytes fault
@@ -116,15 +112,11 @@ refused_here ls x os bytes inner (f.Syntax left) p c r =
       record {
         first = q.first;
         ends = λ e ms i h. q.ends ms i h;
-        shallow = λ deep d. deep_line d.level x os (o.Node d.level ∷ d.owed) d.owed inner deep left d.too_deep refl r.1 r.0 d.begins (compare ls d.before start (x ∷ os) (o.Node d.level ∷ d.owed) bytes inner deep p d.leads c d.cut);
+        shallow = λ deep d. deep_line d.level d.parts x os (o.Node d.level d.parts ∷ d.owed) d.owed inner deep left d.too_deep refl r.1 r.0 d.begins (compare ls d.before start (x ∷ os) (o.Node d.level d.parts ∷ d.owed) bytes inner deep p d.leads c d.cut);
       },
     )
 refused_here ls x os bytes inner (f.Deep left) p c r = (inner, r.1, deep_at x ls os bytes inner p c r.0)
   where
     deep_at : (x : Owed) (ls : List TextLine) (os : List Owed) (bytes inner : List ℕ) → Leads Shallow start ls (x ∷ os) → Cuts (tokens_of ls) bytes inner → IsTooDeep x inner → IsDeepAt bytes inner
-    deep_at (o.Node j) ls os bytes inner p c d = record { before = ls; level = j; owed = os; leads = p; too_deep = d.0; cut = c; begins = d.1 }
-    deep_at o.Head ls os bytes inner p c d = absurd d
-    deep_at o.Charges ls os bytes inner p c d = absurd d
-    deep_at o.Log ls os bytes inner p c d = absurd d
-    deep_at o.Gives ls os bytes inner p c d = absurd d
-    deep_at o.End ls os bytes inner p c d = absurd d
+    deep_at (o.Node j m) ls os bytes inner p c d = record { before = ls; level = j; parts = m; owed = os; leads = p; too_deep = d.0; cut = c; begins = d.1 }
+    deep_at _ ls os bytes inner p c d = absurd d

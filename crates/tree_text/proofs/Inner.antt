@@ -1,5 +1,6 @@
 -- Behind the opening of a text no line of the opening is owed.
 use Rattle.std.proofs.Common.{ℕ, zero, suc, ◌≡◌, Bool, List, [], ◌∷◌, ◌++◌, refl, sym, ap, subst, ◌∙◌, ◌⊎◌, inl, inr}
+use Rattle.purse.specs.declared.log.ElimLog.{ElimLog}
 use Rattle.tree_lines.specs.declared.lines.TextLine.{TextLine}
 use Rattle.tree_lines.specs.declared.lines.TextLine.TheVariants as w
 use Rattle.tree_lines.specs.declared.lines.Owed.{Owed}
@@ -14,55 +15,48 @@ use Rattle.tree_text.proofs.Walking.{Closing, with_log, without, closing, node_f
 
 abbrev IsInnerOwed : Owed → Type 0
 IsInnerOwed o.Head = ⊥
-IsInnerOwed o.Charges = ⊥
+IsInnerOwed o.Parts = ⊥
+IsInnerOwed o.Part = ⊥
+IsInnerOwed (o.Charges m) = ⊥
 IsInnerOwed _ = Unit {0}
 
-closing_inner : (f : Open) (tail os : List Owed) (x : Owed) → f.left ≡ 0 → open_owed f ++ tail ≡ x ∷ os → Closing f.rule f.logged → IsInnerOwed x
-closing_inner f tail os x z h (with_log e k) = let q : o.Log ∷ o.Gives ∷ tail ≡ x ∷ os = ap (λ y. y ++ tail) (sym (none_left f z ∙ e)) ∙ h in let same : o.Log ≡ x = cc in subst IsInnerOwed same tt
-closing_inner f tail os x z h (without e) = let q : o.Gives ∷ tail ≡ x ∷ os = ap (λ y. y ++ tail) (sym (none_left f z ∙ e)) ∙ h in let same : o.Gives ≡ x = cc in subst IsInnerOwed same tt
+closing_inner : (parts : ℕ) (f : Open) (tail os : List Owed) (x : Owed) → f.left ≡ 0 → open_owed parts f ++ tail ≡ x ∷ os → Closing parts f.rule f.logged → IsInnerOwed x
+closing_inner parts f tail os x z h (with_log e k) = let q : o.Log parts ∷ o.Gives ∷ tail ≡ x ∷ os = ap (λ y. y ++ tail) (sym (none_left parts f z ∙ e)) ∙ h in let same : o.Log parts ≡ x = cc in subst IsInnerOwed same tt
+closing_inner parts f tail os x z h (without e) = let q : o.Gives ∷ tail ≡ x ∷ os = ap (λ y. y ++ tail) (sym (none_left parts f z ∙ e)) ∙ h in let same : o.Gives ≡ x = cc in subst IsInnerOwed same tt
 
-open_inner : (n : ℕ) (f : Open) (tail os : List Owed) (x : Owed) → f.left ≡ n → open_owed f ++ tail ≡ x ∷ os → IsInnerOwed x
-open_inner zero f tail os x e h = closing_inner f tail os x e h (closing f.rule f.logged)
-open_inner (suc m) f tail os x e h = let q = ap (λ y. y ++ tail) (sym (node_first f m e)) ∙ h in let same : o.Node f.below ≡ x = cc in subst IsInnerOwed same tt
+open_inner : (parts n : ℕ) (f : Open) (tail os : List Owed) (x : Owed) → f.left ≡ n → open_owed parts f ++ tail ≡ x ∷ os → IsInnerOwed x
+open_inner parts zero f tail os x e h = closing_inner parts f tail os x e h (closing parts f.rule f.logged)
+open_inner parts (suc m) f tail os x e h = let q = ap (λ y. y ++ tail) (sym (node_first parts f m e)) ∙ h in let same : o.Node f.below parts ≡ x = cc in subst IsInnerOwed same tt
 
-owed_inner : (place : Place) (fs : List Open) (x : Owed) (os : List Owed) → owed_at place fs ≡ x ∷ os → IsInnerOwed x
-owed_inner at.Root fs x os h = let same : o.Node 1 ≡ x = cc in subst IsInnerOwed same tt
-owed_inner (at.Inside f) fs x os h = open_inner f.left f (opens_owed fs ++ o.End ∷ []) os x refl h
-owed_inner at.End fs x os h = let same : o.End ≡ x = cc in subst IsInnerOwed same tt
-owed_inner at.Done fs x os h = absurd (cc)
+owed_inner : (parts : ℕ) (place : Place) (fs : List Open) (x : Owed) (os : List Owed) → owed_at parts place fs ≡ x ∷ os → IsInnerOwed x
+owed_inner parts at.Root fs x os h = let same : o.Node 1 parts ≡ x = cc in subst IsInnerOwed same tt
+owed_inner parts (at.Inside f) fs x os h = open_inner parts f.left f (opens_owed parts fs ++ o.End parts ∷ []) os x refl h
+owed_inner parts at.End fs x os h = let same : o.End parts ≡ x = cc in subst IsInnerOwed same tt
+owed_inner parts at.Done fs x os h = absurd (cc)
 
 inner_by : (x : Owed) (l : TextLine) → IsInnerOwed x → Pays Shallow x l → IsInner l
 inner_by o.Head l i p = absurd i
-inner_by o.Charges l i p = absurd i
-inner_by (o.Node j) (w.Head n) i p = p
-inner_by (o.Node j) (w.Charges n) i p = p
-inner_by (o.Node j) (w.Row q k) i p = tt
-inner_by (o.Node j) (w.Log es) i p = tt
-inner_by (o.Node j) (w.Gives d) i p = tt
-inner_by (o.Node j) (w.End c) i p = tt
-inner_by o.Log (w.Head n) i p = p
-inner_by o.Log (w.Charges n) i p = p
-inner_by o.Log (w.Row q k) i p = tt
-inner_by o.Log (w.Log es) i p = tt
-inner_by o.Log (w.Gives d) i p = tt
-inner_by o.Log (w.End c) i p = tt
-inner_by o.Gives (w.Head n) i p = p
-inner_by o.Gives (w.Charges n) i p = p
-inner_by o.Gives (w.Row q k) i p = tt
-inner_by o.Gives (w.Log es) i p = tt
+inner_by o.Parts l i p = absurd i
+inner_by o.Part l i p = absurd i
+inner_by (o.Charges m) l i p = absurd i
+inner_by (o.Node j m) (w.Row q k) i p = tt
+inner_by (o.Node j m) _ i p = absurd p
+inner_by (o.Log m) (w.Log log) i p = tt
+inner_by (o.Log m) (w.LogOf n) i p = tt
+inner_by (o.Log m) _ i p = absurd p
 inner_by o.Gives (w.Gives d) i p = tt
-inner_by o.Gives (w.End c) i p = tt
-inner_by o.End (w.Head n) i p = p
-inner_by o.End (w.Charges n) i p = p
-inner_by o.End (w.Row q k) i p = tt
-inner_by o.End (w.Log es) i p = tt
-inner_by o.End (w.Gives d) i p = tt
-inner_by o.End (w.End c) i p = tt
+inner_by o.Gives _ i p = absurd p
+inner_by (o.End m) (w.End c) i p = tt
+inner_by (o.End m) (w.EndOf n) i p = tt
+inner_by (o.End m) _ i p = absurd p
 
 -- a line that a walk owes is no line of the opening
 pub inner_line : (walk : Walk) (x : Owed) (os : List Owed) (l : TextLine) → owed_of walk ≡ x ∷ os → Pays Shallow x l → IsInner l
-inner_line walk x os l e p = inner_by x l (owed_inner walk.place walk.outer x os e) p
+inner_line walk x os l e p = inner_by x l (owed_inner walk.parts walk.place walk.outer x os e) p
 
-pub not_opening : (l : TextLine) → ((n : ℕ) × (l ≡ w.Head n)) ⊎ ((n : ℕ) × (l ≡ w.Charges n)) → IsInner l → ⊥
+-- the lines of an opening are none
+pub not_opening : (l : TextLine) → ((n : ℕ) × (l ≡ w.Head n)) ⊎ (((n : ℕ) × (l ≡ w.Parts n)) ⊎ (((log : ElimLog) × (l ≡ w.Part log)) ⊎ ((n : ℕ) × (l ≡ w.Charges n)))) → IsInner l → ⊥
 not_opening l (inl q) i = subst IsInner q.1 i
-not_opening l (inr q) i = subst IsInner q.1 i
+not_opening l (inr (inl q)) i = subst IsInner q.1 i
+not_opening l (inr (inr (inl q))) i = subst IsInner q.1 i
+not_opening l (inr (inr (inr q))) i = subst IsInner q.1 i

@@ -1,5 +1,6 @@
 -- Lines that lead from what is owed to what is still owed, and the first refusal of a text of lines.
 use Rattle.std.proofs.Common.{ℕ, zero, suc, ◌≡◌, ◌≤◌, List, [], ◌∷◌, ◌++◌, length, refl, sym, ap, subst, ◌∙◌, append_assoc, append-nil, arith, ◌⊎◌, inl, inr}
+use Rattle.purse.specs.declared.log.Entry.TheVariants as step
 use Rattle.sequent.specs.declared.member.Pick.TheVariants as pick
 use Rattle.proof_tree.specs.declared.node.Conclusion.TheVariants.{Solution, Nothing}
 use Rattle.proof_text.specs.declared.tokens.Token.{Token}
@@ -11,7 +12,7 @@ use Rattle.tree_lines.specs.declared.lines.TextLine.TheVariants as w
 use Rattle.tree_lines.specs.declared.lines.Owed.{Owed}
 use Rattle.tree_lines.specs.declared.lines.Owed.TheVariants as o
 use Rattle.tree_lines.specs.Lines.{line_text, tokens_of}
-use Rattle.tree_lines.specs.Owed.{Pays, owes, Leads, IsWhole, Any, Shallow}
+use Rattle.tree_lines.specs.Owed.{Pays, tree_owed, owes, Leads, IsWhole, Any, Shallow}
 use Rattle.tree_lines.proofs.LinesApart.{line_apart}
 
 pub tokens_append : (ls ms : List TextLine) → tokens_of (ls ++ ms) ≡ tokens_of ls ++ tokens_of ms
@@ -33,41 +34,23 @@ cut_more ls l bytes inner rest c d =
 
 pub pays_any : (x : Owed) (l : TextLine) → Pays Shallow x l → Pays Any x l
 pays_any o.Head (w.Head n) h = h
-pays_any o.Head (w.Charges n) h = h
-pays_any o.Head (w.Row p k) h = h
-pays_any o.Head (w.Log es) h = h
-pays_any o.Head (w.Gives d) h = h
-pays_any o.Head (w.End c) h = h
-pays_any o.Charges (w.Head n) h = h
-pays_any o.Charges (w.Charges n) h = h
-pays_any o.Charges (w.Row p k) h = h
-pays_any o.Charges (w.Log es) h = h
-pays_any o.Charges (w.Gives d) h = h
-pays_any o.Charges (w.End c) h = h
-pays_any (o.Node j) (w.Head n) h = h
-pays_any (o.Node j) (w.Charges n) h = h
-pays_any (o.Node j) (w.Row p k) h = (tt, h.1)
-pays_any (o.Node j) (w.Log es) h = h
-pays_any (o.Node j) (w.Gives d) h = h
-pays_any (o.Node j) (w.End c) h = h
-pays_any o.Log (w.Head n) h = h
-pays_any o.Log (w.Charges n) h = h
-pays_any o.Log (w.Row p k) h = h
-pays_any o.Log (w.Log es) h = h
-pays_any o.Log (w.Gives d) h = h
-pays_any o.Log (w.End c) h = h
-pays_any o.Gives (w.Head n) h = h
-pays_any o.Gives (w.Charges n) h = h
-pays_any o.Gives (w.Row p k) h = h
-pays_any o.Gives (w.Log es) h = h
+pays_any o.Head _ h = absurd h
+pays_any o.Parts (w.Parts n) h = h
+pays_any o.Parts _ h = absurd h
+pays_any o.Part (w.Part log) h = h
+pays_any o.Part _ h = absurd h
+pays_any (o.Charges m) (w.Charges n) h = h
+pays_any (o.Charges m) _ h = absurd h
+pays_any (o.Node j m) (w.Row p k) h = (tt, h.1)
+pays_any (o.Node j m) _ h = absurd h
+pays_any (o.Log m) (w.Log log) h = h
+pays_any (o.Log m) (w.LogOf i) h = h
+pays_any (o.Log m) _ h = absurd h
 pays_any o.Gives (w.Gives d) h = h
-pays_any o.Gives (w.End c) h = h
-pays_any o.End (w.Head n) h = h
-pays_any o.End (w.Charges n) h = h
-pays_any o.End (w.Row p k) h = h
-pays_any o.End (w.Log es) h = h
-pays_any o.End (w.Gives d) h = h
-pays_any o.End (w.End c) h = h
+pays_any o.Gives _ h = absurd h
+pays_any (o.End m) (w.End c) h = h
+pays_any (o.End m) (w.EndOf i) h = h
+pays_any (o.End m) _ h = absurd h
 
 pub leads_any : (os ws : List Owed) (ls : List TextLine) → Leads Shallow os ls ws → Leads Any os ls ws
 leads_any os ws [] p = p
@@ -89,6 +72,8 @@ line_nothing x l tail p e = nothing_by x l p (Rattle.proof_text.proofs.Apart.fro
   where
     nothing_by : (x : Owed) (l : TextLine) → Pays Any x l → line_text l ≡ [] → ⊥
     nothing_by x (w.Head n) p e = cc
+    nothing_by x (w.Parts n) p e = cc
+    nothing_by x (w.Part log) p e = cc
     nothing_by x (w.Charges n) p e = cc
     nothing_by x (w.Row (pick.Trivial i) k) p e = cc
     nothing_by x (w.Row (pick.Alpha i) k) p e = cc
@@ -97,9 +82,11 @@ line_nothing x l tail p e = nothing_by x l p (Rattle.proof_text.proofs.Apart.fro
     nothing_by x (w.Row (pick.Gamma i) k) p e = cc
     nothing_by x (w.Row pick.Close k) p e = cc
     nothing_by x (w.Log es) p e = cc
+    nothing_by x (w.LogOf i) p e = cc
     nothing_by x (w.Gives d) p e = cc
     nothing_by x (w.End (Solution vs)) p e = cc
     nothing_by x (w.End (Nothing log)) p e = cc
+    nothing_by x (w.EndOf i) p e = cc
 
 -- a whole text that begins with the tokens of some lines begins with these lines
 pub same_lines : (ls ms : List TextLine) (os ws : List Owed) (tail : List Token) → Leads Any os ls ws → IsWhole Any os ms → tokens_of ms ≡ tokens_of ls ++ tail → Behind os ws ls ms tail
@@ -115,14 +102,26 @@ pub record Paid (os : List Owed) : Type 0 where
   pub lines : List TextLine
   pub whole : IsWhole Any os lines
 
+-- the shortest tree, and a conclusion
+abbrev least_tree : List TextLine
+least_tree = w.Row (pick.Trivial 0) 0 ∷ w.Gives [] ∷ w.End (Solution []) ∷ []
+
+tree_paid : (m : ℕ) (os : List Owed) (ls : List TextLine) → IsWhole Any os ls → IsWhole Any (tree_owed m ++ os) (least_tree ++ ls)
+tree_paid m os ls q = ((tt, ((omega arith, omega arith), refl)), (tt, (tt, q)))
+
+charges_paid : (m : ℕ) (os : List Owed) (ls : List TextLine) → IsWhole Any os ls → IsWhole Any (o.Charges m ∷ os) (w.Charges 0 ∷ least_tree ++ ls)
+charges_paid m os ls q = ((omega arith, omega arith), tree_paid m os ls q)
+
 pub can_be_paid : (os : List Owed) → Paid os
 can_be_paid [] = record { lines = []; whole = refl }
-can_be_paid (o.Head ∷ os) = let q = can_be_paid os in record { lines = w.Head 1 ∷ q.lines; whole = ((omega arith, omega arith), q.whole) }
-can_be_paid (o.Charges ∷ os) = let q = can_be_paid os in record { lines = w.Charges 0 ∷ q.lines; whole = ((omega arith, omega arith), q.whole) }
-can_be_paid (o.Node j ∷ os) = let q = can_be_paid os in record { lines = w.Row (pick.Trivial 0) 0 ∷ w.Gives [] ∷ q.lines; whole = ((tt, ((omega arith, omega arith), refl)), (tt, q.whole)) }
-can_be_paid (o.Log ∷ os) = let q = can_be_paid os in record { lines = w.Log (record { entries = [] }) ∷ q.lines; whole = (tt, q.whole) }
+can_be_paid (o.Head ∷ os) = let q = can_be_paid os in record { lines = w.Head 1 ∷ w.Charges 0 ∷ least_tree ++ q.lines; whole = ((omega arith, omega arith), charges_paid 0 os q.lines q.whole) }
+can_be_paid (o.Parts ∷ os) = let q = can_be_paid os in record { lines = w.Parts 0 ∷ w.Charges 0 ∷ least_tree ++ q.lines; whole = ((omega arith, omega arith), charges_paid 0 os q.lines q.whole) }
+can_be_paid (o.Part ∷ os) = let q = can_be_paid os in record { lines = w.Part (record { entries = step.Exact ∷ [] }) ∷ q.lines; whole = (tt, q.whole) }
+can_be_paid (o.Charges m ∷ os) = let q = can_be_paid os in record { lines = w.Charges 0 ∷ least_tree ++ q.lines; whole = charges_paid m os q.lines q.whole }
+can_be_paid (o.Node j m ∷ os) = let q = can_be_paid os in record { lines = w.Row (pick.Trivial 0) 0 ∷ w.Gives [] ∷ q.lines; whole = ((tt, ((omega arith, omega arith), refl)), (tt, q.whole)) }
+can_be_paid (o.Log m ∷ os) = let q = can_be_paid os in record { lines = w.Log (record { entries = [] }) ∷ q.lines; whole = (tt, q.whole) }
 can_be_paid (o.Gives ∷ os) = let q = can_be_paid os in record { lines = w.Gives [] ∷ q.lines; whole = (tt, q.whole) }
-can_be_paid (o.End ∷ os) = let q = can_be_paid os in record { lines = w.End (Solution []) ∷ q.lines; whole = (tt, q.whole) }
+can_be_paid (o.End m ∷ os) = let q = can_be_paid os in record { lines = w.End (Solution []) ∷ q.lines; whole = (tt, q.whole) }
 
 none_behind : (x : Owed) (os : List Owed) (bytes : List ℕ) (left : ℕ) (r : IsRefusedAt (Pays Any x) line_text bytes left) (y : Token) (more : List ℕ) (rest : List TextLine) (tail : List Token) → Cuts (y ∷ []) r.back more
     → IsWhole Any (x ∷ os) rest → tokens_of rest ≡ r.first.front ++ y ∷ tail → ⊥

@@ -5,3 +5,4 @@ pub mod Inner
 pub mod Deep
 pub mod Standing
 pub mod Shorter
+pub mod Expanding

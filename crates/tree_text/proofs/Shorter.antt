@@ -57,6 +57,8 @@ tail_of (x ∷ xs) = xs
 
 pub line_shorter : (l : TextLine) (bytes rest : List ℕ) → Cuts (line_text l) bytes rest → length rest < length bytes
 line_shorter (w.Head n) bytes rest c = shorter_by (line_text (w.Head n)) (head_of (line_text (w.Head n))) (tail_of (line_text (w.Head n))) bytes rest refl c
+line_shorter (w.Parts n) bytes rest c = shorter_by (line_text (w.Parts n)) (head_of (line_text (w.Parts n))) (tail_of (line_text (w.Parts n))) bytes rest refl c
+line_shorter (w.Part log) bytes rest c = shorter_by (line_text (w.Part log)) (head_of (line_text (w.Part log))) (tail_of (line_text (w.Part log))) bytes rest refl c
 line_shorter (w.Charges n) bytes rest c = shorter_by (line_text (w.Charges n)) (head_of (line_text (w.Charges n))) (tail_of (line_text (w.Charges n))) bytes rest refl c
 line_shorter (w.Row (pick.Trivial i) k) bytes rest c = shorter_by (line_text (w.Row (pick.Trivial i) k)) (head_of (line_text (w.Row (pick.Trivial i) k))) (tail_of (line_text (w.Row (pick.Trivial i) k))) bytes rest refl c
 line_shorter (w.Row (pick.Alpha i) k) bytes rest c = shorter_by (line_text (w.Row (pick.Alpha i) k)) (head_of (line_text (w.Row (pick.Alpha i) k))) (tail_of (line_text (w.Row (pick.Alpha i) k))) bytes rest refl c
@@ -65,6 +67,8 @@ line_shorter (w.Row (pick.Beta i) k) bytes rest c = shorter_by (line_text (w.Row
 line_shorter (w.Row (pick.Gamma i) k) bytes rest c = shorter_by (line_text (w.Row (pick.Gamma i) k)) (head_of (line_text (w.Row (pick.Gamma i) k))) (tail_of (line_text (w.Row (pick.Gamma i) k))) bytes rest refl c
 line_shorter (w.Row pick.Close k) bytes rest c = shorter_by (line_text (w.Row pick.Close k)) (head_of (line_text (w.Row pick.Close k))) (tail_of (line_text (w.Row pick.Close k))) bytes rest refl c
 line_shorter (w.Log es) bytes rest c = shorter_by (line_text (w.Log es)) (head_of (line_text (w.Log es))) (tail_of (line_text (w.Log es))) bytes rest refl c
+line_shorter (w.LogOf i) bytes rest c = shorter_by (line_text (w.LogOf i)) (head_of (line_text (w.LogOf i))) (tail_of (line_text (w.LogOf i))) bytes rest refl c
 line_shorter (w.Gives d) bytes rest c = shorter_by (line_text (w.Gives d)) (head_of (line_text (w.Gives d))) (tail_of (line_text (w.Gives d))) bytes rest refl c
 line_shorter (w.End (Solution vs)) bytes rest c = shorter_by (line_text (w.End (Solution vs))) (head_of (line_text (w.End (Solution vs)))) (tail_of (line_text (w.End (Solution vs)))) bytes rest refl c
 line_shorter (w.End (Nothing log)) bytes rest c = shorter_by (line_text (w.End (Nothing log))) (head_of (line_text (w.End (Nothing log)))) (tail_of (line_text (w.End (Nothing log)))) bytes rest refl c
+line_shorter (w.EndOf i) bytes rest c = shorter_by (line_text (w.EndOf i)) (head_of (line_text (w.EndOf i))) (tail_of (line_text (w.EndOf i))) bytes rest refl c

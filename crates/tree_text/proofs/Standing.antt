@@ -1,12 +1,12 @@
--- The lines of a text, from its opening on.
-use Rattle.std.proofs.Common.{ℕ, ◌≡◌, ◌≤◌, List, [], ◌∷◌, ◌++◌, length, refl, sym, ap, subst, ◌∙◌, arith, Result, Ok, Err}
+-- A reader of lines goes on from line to line.
+use Rattle.std.proofs.Common.{ℕ, zero, suc, ◌≡◌, ◌≤◌, ◌<◌, ◌+◌, ◌-◌, List, [], ◌∷◌, ◌++◌, length, refl, sym, ap, subst, ◌∙◌, append_assoc, append-nil, arith, length-append, Result, Ok, Err}
 use Rattle.std.specs.Prelude.{OnOk, IfErr}
+use Rattle.purse.specs.declared.log.ElimLog.{ElimLog}
 use Rattle.proof_tree.specs.declared.node.Conclusion.{Conclusion}
 use Rattle.proof_tree.specs.Proof.{Proof}
 use Rattle.proof_text.specs.declared.reading.Refusal.{Refusal}
-use Rattle.proof_text.specs.Lines.{head_text, charges_text, IsCharges, IsFormat}
+use Rattle.proof_text.specs.Lines.{head_text, parts_text, part_text, charges_text, IsCharges, IsFormat, IsPart, IsPosition}
 use Rattle.proof_text.specs.Reading.{Cuts, Refuses}
-use Rattle.proof_text.proofs.Cutting.{cut_append}
 use Rattle.tree_lines.specs.declared.lines.TextLine.{TextLine}
 use Rattle.tree_lines.specs.declared.lines.TextLine.TheVariants as w
 use Rattle.tree_lines.specs.declared.lines.Owed.{Owed}
@@ -15,86 +15,173 @@ use Rattle.tree_lines.specs.declared.text.Fault.{Fault}
 use Rattle.tree_lines.specs.declared.text.Fault.TheVariants as f
 use Rattle.tree_lines.specs.Faults.{fault_of, RefusesLine}
 use Rattle.tree_lines.specs.Lines.{line_text, tokens_of, proof_lines}
-use Rattle.tree_lines.specs.Owed.{Pays, owes, Leads, IsWhole, start, Shallow}
+use Rattle.tree_lines.specs.Owed.{Pays, owes, Leads, IsWhole, opening_owed, parts_owed, start, Shallow}
+use Rattle.tree_text.specs.Expansion.{expanded, expansion, parts_behind}
 use Rattle.tree_text.specs.Shaped.{IsShaped, Holds}
+use Rattle.tree_text.specs.Stands.{Stands, IsOpened}
 use Rattle.tree_text.specs.Refusals.{IsRefusedText, RefusesText, HoldsSome}
-use Rattle.tree_lines.proofs.LineKinds.{head_owed, charges_owed, line_refused}
+use Rattle.tree_text.specs.Walks.{IsInner}
+use Rattle.tree_lines.proofs.LineKinds.{head_owed, parts_owed as parts_refused, part_owed as part_refused, charges_owed, line_refused}
 use Rattle.tree_text.proofs.Leading.{leads_more, cut_more, leads_any, token_behind}
+use Rattle.tree_text.proofs.Expanding.{expanded_append, parts_append, inner_parts, whole_expanded}
 use Rattle.tree_text.proofs.Trees.{Said, proof_said}
 use Rattle.tree_text.proofs.Deep.{refused_here, none_deep}
 
-one_format : (n : ℕ) → IsFormat n → n ≡ 1
-one_format n i = let low = i.0 in let high = i.1 in omega arith
+-- at the start of a text
+pub stands_first : (bytes : List ℕ) → Stands [] [] start bytes bytes
+stands_first bytes = record { before = []; leads = refl; cut = refl; has = refl; is = refl }
 
--- the first line is refused
-pub no_head : (bytes : List ℕ) (refusal : Refusal) → Refuses IsFormat head_text bytes refusal → RefusesText bytes (fault_of refusal)
-no_head bytes refusal r = refused_here [] o.Head (o.Charges ∷ o.Node 1 ∷ o.End ∷ []) bytes bytes (fault_of refusal) refl refl (line_refused o.Head bytes refusal tt (head_owed bytes refusal r))
-
--- the line with the charges is refused
-pub no_charges : (n : ℕ) (bytes inner : List ℕ) (refusal : Refusal) → IsFormat n → Cuts (head_text n) bytes inner → Refuses IsCharges charges_text inner refusal → RefusesText bytes (fault_of refusal)
-no_charges n bytes inner refusal i c r = refused_here (w.Head n ∷ []) o.Charges (o.Node 1 ∷ o.End ∷ []) bytes inner (fault_of refusal) (i, refl) c (line_refused o.Charges inner refusal tt (charges_owed inner refusal r))
-
-pub opening_cut : (n k : ℕ) (bytes inner rest : List ℕ) → IsFormat n → Cuts (head_text n) bytes inner → Cuts (charges_text k) inner rest → Cuts (tokens_of (w.Head 1 ∷ w.Charges k ∷ [])) bytes rest
-opening_cut n k bytes inner rest i c d = cut_append (head_text 1) (charges_text k) bytes inner rest (subst (λ m. Cuts (head_text m) bytes inner) (one_format n i) c) d
-
--- where the reader of lines stands: what is owed there, and what stands before it
-pub record Stands (n : ℕ) (os : List Owed) (bytes rest : List ℕ) : Type 0 where
-  pub more : List TextLine
-  pub leads : Leads Shallow start (w.Head 1 ∷ w.Charges n ∷ more) os
-  pub cut : Cuts (tokens_of (w.Head 1 ∷ w.Charges n ∷ more)) bytes rest
-
-pub begun : (n : ℕ) (os : List Owed) (bytes rest : List ℕ) → IsCharges n → os ≡ o.Node 1 ∷ o.End ∷ [] → Cuts (tokens_of (w.Head 1 ∷ w.Charges n ∷ [])) bytes rest → Stands n os bytes rest
-begun n os bytes rest i e c = record { more = []; leads = ((omega arith, omega arith), (i, sym e)); cut = c }
-
-pub stands_more : (n : ℕ) (x : Owed) (os ws us : List Owed) (l : TextLine) (bytes inner rest : List ℕ) → os ≡ x ∷ ws → us ≡ owes x l ++ ws → Pays Shallow x l → Cuts (line_text l) inner rest → Stands n os bytes inner → Stands n us bytes rest
-stands_more n x os ws us l bytes inner rest e q p c h = record {
-  more = h.more ++ l ∷ [];
-  leads = subst (λ z. Leads Shallow start (w.Head 1 ∷ w.Charges n ∷ (h.more ++ l ∷ [])) z) (sym q)
-      (leads_more Shallow start ws x (w.Head 1 ∷ w.Charges n ∷ h.more) l (subst (λ z. Leads Shallow start (w.Head 1 ∷ w.Charges n ∷ h.more) z) e h.leads) p);
-  cut = cut_more (w.Head 1 ∷ w.Charges n ∷ h.more) l bytes inner rest h.cut c;
+-- one line further
+pub stands_more : (ps qs : List ElimLog) (e d : List TextLine) (x : Owed) (os ws us : List Owed) (l : TextLine) (bytes inner rest : List ℕ) → os ≡ x ∷ ws → us ≡ owes x l ++ ws → parts_behind ps (l ∷ []) ≡ qs → e ++ expanded ps (l ∷ []) ≡ d
+    → Pays Shallow x l → Cuts (line_text l) inner rest → Stands ps e os bytes inner → Stands qs d us bytes rest
+stands_more ps qs e d x os ws us l bytes inner rest q r g h p c s = record {
+  before = s.before ++ l ∷ [];
+  leads = subst (λ z. Leads Shallow start (s.before ++ l ∷ []) z) (sym r) (leads_more Shallow start ws x s.before l (subst (λ z. Leads Shallow start s.before z) q s.leads) p);
+  cut = cut_more s.before l bytes inner rest s.cut c;
+  has = parts_append [] s.before (l ∷ []) ∙ ap (λ z. parts_behind z (l ∷ [])) s.has ∙ g;
+  is = expanded_append [] s.before (l ∷ []) ∙ ap (λ z. z ++ expanded (parts_behind [] s.before) (l ∷ [])) s.is ∙ ap (λ z. e ++ expanded z (l ∷ [])) s.has ∙ h;
 }
 
-pub line_fails : (n : ℕ) (x : Owed) (os ws : List Owed) (bytes inner : List ℕ) (fault : Fault) → os ≡ x ∷ ws → RefusesLine x inner fault → Stands n os bytes inner → RefusesText bytes fault
-line_fails n x os ws bytes inner fault e r h = refused_here (w.Head 1 ∷ w.Charges n ∷ h.more) x ws bytes inner fault (subst (λ z. Leads Shallow start (w.Head 1 ∷ w.Charges n ∷ h.more) z) e h.leads) h.cut r
+-- the line that is owed is refused
+pub line_fails : (ps : List ElimLog) (e : List TextLine) (x : Owed) (os ws : List Owed) (bytes inner : List ℕ) (fault : Fault) → os ≡ x ∷ ws → RefusesLine x inner fault → Stands ps e os bytes inner → RefusesText bytes fault
+line_fails ps e x os ws bytes inner fault q r s = refused_here s.before x ws bytes inner fault (subst (λ z. Leads Shallow start s.before z) q s.leads) s.cut r
+
+-- The opening.
+
+-- behind the first line
+abbrev pub headed : ℕ → List ℕ → List ℕ → Type 0
+headed n bytes inner = Stands [] (w.Head 1 ∷ []) (opening_owed n) bytes inner
+
+pub no_head : (bytes : List ℕ) (refusal : Refusal) → Refuses IsFormat head_text bytes refusal → RefusesText bytes (fault_of refusal)
+no_head bytes refusal r = line_fails [] [] o.Head start [] bytes bytes (fault_of refusal) refl (line_refused o.Head bytes refusal tt (head_owed bytes refusal r)) (stands_first bytes)
+
+pub stands_headed : (n : ℕ) (bytes inner : List ℕ) → IsFormat n → Cuts (head_text n) bytes inner → headed n bytes inner
+stands_headed n bytes inner i c = stands_more [] [] [] (w.Head 1 ∷ []) o.Head start [] (opening_owed n) (w.Head n) bytes bytes inner refl (sym (append-nil (opening_owed n))) refl refl i c (stands_first bytes)
+
+-- in the first format the charges come
+pub headed_one : (n : ℕ) (bytes inner : List ℕ) → n ≡ 1 → headed n bytes inner → Stands [] (w.Head 1 ∷ []) (o.Charges 0 ∷ []) bytes inner
+headed_one n bytes inner e s = subst (λ k. Stands [] (w.Head 1 ∷ []) (opening_owed k) bytes inner) e s
+
+-- in the second format the parts come
+pub headed_two : (n : ℕ) (bytes inner : List ℕ) → IsFormat n → (n ≡ 1 → ⊥) → headed n bytes inner → Stands [] (w.Head 1 ∷ []) (o.Parts ∷ []) bytes inner
+headed_two n bytes inner i e s = subst (λ k. Stands [] (w.Head 1 ∷ []) (opening_owed k) bytes inner) (two i.0 i.1) s
+  where
+    two : 1 ≤ n → n ≤ 2 → n ≡ 2
+    two low high = omega (arith, e)
+
+pub no_parts : (bytes inner : List ℕ) (refusal : Refusal) → Stands [] (w.Head 1 ∷ []) (o.Parts ∷ []) bytes inner → Refuses IsPosition parts_text inner refusal → RefusesText bytes (fault_of refusal)
+no_parts bytes inner refusal s r = line_fails [] (w.Head 1 ∷ []) o.Parts (o.Parts ∷ []) [] bytes inner (fault_of refusal) refl (line_refused o.Parts inner refusal tt (parts_refused inner refusal r)) s
+
+-- the parts that have come are these, of so many
+pub record Parting (ps : List ElimLog) (m i : ℕ) (bytes rest : List ℕ) : Type 0 where
+  pub left : ℕ
+  pub many : left + i ≡ m
+  pub length_is : length ps ≡ i
+  pub stands : Stands ps (w.Head 1 ∷ []) (parts_owed left ++ o.Charges m ∷ []) bytes rest
+
+pub parting : (m : ℕ) (bytes inner rest : List ℕ) → IsPosition m → Cuts (parts_text m) inner rest → Stands [] (w.Head 1 ∷ []) (o.Parts ∷ []) bytes inner → Parting [] m 0 bytes rest
+parting m bytes inner rest i c s = record {
+  left = m;
+  many = omega arith;
+  length_is = refl;
+  stands = stands_more [] [] (w.Head 1 ∷ []) (w.Head 1 ∷ []) o.Parts (o.Parts ∷ []) [] (parts_owed m ++ o.Charges m ∷ []) (w.Parts m) bytes inner rest refl (sym (append-nil (parts_owed m ++ o.Charges m ∷ []))) refl refl i c s;
+}
+
+part_left : (ps : List ElimLog) (m i left : ℕ) (bytes rest : List ℕ) → i < m → left + i ≡ m → Stands ps (w.Head 1 ∷ []) (parts_owed left ++ o.Charges m ∷ []) bytes rest
+    → (k : ℕ) × (suc k + i ≡ m) × Stands ps (w.Head 1 ∷ []) (o.Part ∷ (parts_owed k ++ o.Charges m ∷ [])) bytes rest
+part_left ps m i zero bytes rest low e s = absurd (omega arith)
+part_left ps m i (suc k) bytes rest low e s = (k, e, s)
+
+pub no_part : (ps : List ElimLog) (m i : ℕ) (bytes rest : List ℕ) (refusal : Refusal) → i < m → Parting ps m i bytes rest → Refuses IsPart part_text rest refusal → RefusesText bytes (fault_of refusal)
+no_part ps m i bytes rest refusal low p r =
+    let q = part_left ps m i p.left bytes rest low p.many p.stands in
+    line_fails ps (w.Head 1 ∷ []) o.Part (o.Part ∷ (parts_owed q.0 ++ o.Charges m ∷ [])) (parts_owed q.0 ++ o.Charges m ∷ []) bytes rest (fault_of refusal) refl (line_refused o.Part rest refusal tt (part_refused rest refusal r)) q.2
+
+pub parting_more : (ps : List ElimLog) (log : ElimLog) (m i : ℕ) (bytes inner rest : List ℕ) → i < m → IsPart log.entries → Cuts (part_text log.entries) inner rest → Parting ps m i bytes inner → Parting (ps ++ log ∷ []) m (i + 1) bytes rest
+parting_more ps log m i bytes inner rest low is c p =
+    let q = part_left ps m i p.left bytes inner low p.many p.stands in
+    record {
+      left = q.0;
+      many = omega (arith, q.1);
+      length_is = length-append ps (log ∷ []) ∙ ap (λ k. k + 1) p.length_is;
+      stands = stands_more ps (ps ++ log ∷ []) (w.Head 1 ∷ []) (w.Head 1 ∷ []) o.Part (o.Part ∷ (parts_owed q.0 ++ o.Charges m ∷ [])) (parts_owed q.0 ++ o.Charges m ∷ []) (parts_owed q.0 ++ o.Charges m ∷ []) (w.Part log) bytes inner rest refl refl refl refl is c q.2;
+    }
+
+none_left : (ps : List ElimLog) (m left : ℕ) (bytes rest : List ℕ) → left ≡ 0 → Stands ps (w.Head 1 ∷ []) (parts_owed left ++ o.Charges m ∷ []) bytes rest → Stands ps (w.Head 1 ∷ []) (o.Charges m ∷ []) bytes rest
+none_left ps m left bytes rest e s = subst (λ k. Stands ps (w.Head 1 ∷ []) (parts_owed k ++ o.Charges m ∷ []) bytes rest) e s
+
+-- all have come
+pub parting_end : (ps : List ElimLog) (m i : ℕ) (bytes rest : List ℕ) → m ≤ i → Parting ps m i bytes rest → Stands ps (w.Head 1 ∷ []) (o.Charges (length ps) ∷ []) bytes rest
+parting_end ps m i bytes rest past p =
+    let is : m ≡ length ps = omega (arith, p.many, p.length_is) in
+    subst (λ k. Stands ps (w.Head 1 ∷ []) (o.Charges k ∷ []) bytes rest) is (none_left ps m p.left bytes rest (omega (arith, p.many)) p.stands)
+
+pub no_charges : (ps : List ElimLog) (m : ℕ) (bytes inner : List ℕ) (refusal : Refusal) → Stands ps (w.Head 1 ∷ []) (o.Charges m ∷ []) bytes inner → Refuses IsCharges charges_text inner refusal → RefusesText bytes (fault_of refusal)
+no_charges ps m bytes inner refusal s r = line_fails ps (w.Head 1 ∷ []) (o.Charges m) (o.Charges m ∷ []) [] bytes inner (fault_of refusal) refl (line_refused (o.Charges m) inner refusal tt (charges_owed m inner refusal r)) s
+
+pub opened : (ps : List ElimLog) (n : ℕ) (bytes inner rest : List ℕ) → IsCharges n → Cuts (charges_text n) inner rest → Stands ps (w.Head 1 ∷ []) (o.Charges (length ps) ∷ []) bytes inner → IsOpened ps n bytes rest
+opened ps n bytes inner rest i c s =
+    stands_more ps ps (w.Head 1 ∷ []) (w.Head 1 ∷ w.Charges n ∷ []) (o.Charges (length ps)) (o.Charges (length ps) ∷ []) [] (Rattle.tree_lines.specs.Owed.tree_owed (length ps)) (w.Charges n) bytes inner rest refl refl refl refl i c s
+
+-- Behind the opening.
+
+-- where the reader stands behind the opening
+pub record Inside (ps : List ElimLog) (n : ℕ) (os : List Owed) (bytes rest : List ℕ) : Type 0 where
+  pub more : List TextLine
+  pub stands : Stands ps (w.Head 1 ∷ w.Charges n ∷ more) os bytes rest
+
+pub inside : (ps : List ElimLog) (n : ℕ) (os : List Owed) (bytes rest : List ℕ) → os ≡ Rattle.tree_lines.specs.Owed.tree_owed (length ps) → IsOpened ps n bytes rest → Inside ps n os bytes rest
+inside ps n os bytes rest e s = record { more = []; stands = subst (λ z. Stands ps (w.Head 1 ∷ w.Charges n ∷ []) z bytes rest) (sym e) s }
+
+pub inside_more : (ps : List ElimLog) (n : ℕ) (x : Owed) (os ws us : List Owed) (l : TextLine) (bytes inner rest : List ℕ) → os ≡ x ∷ ws → us ≡ owes x l ++ ws → IsInner l → Pays Shallow x l → Cuts (line_text l) inner rest
+    → Inside ps n os bytes inner → Inside ps n us bytes rest
+inside_more ps n x os ws us l bytes inner rest e q i p c h = record {
+  more = h.more ++ expanded ps (l ∷ []);
+  stands = stands_more ps ps (w.Head 1 ∷ w.Charges n ∷ h.more) (w.Head 1 ∷ w.Charges n ∷ (h.more ++ expanded ps (l ∷ []))) x os ws us l bytes inner rest e q (inner_parts ps l i) refl p c h.stands;
+}
 
 charges_are : (n m : ℕ) (more : List TextLine) (x : Proof) (c : Conclusion) → w.Head 1 ∷ w.Charges n ∷ more ≡ proof_lines m x c → m ≡ n
 charges_are n m more x c e = cc
 
-held_by : (n : ℕ) (bytes : List ℕ) (ls : List TextLine) (s : Said ls) → s.charges ≡ n → Cuts (tokens_of ls) bytes [] → HoldsSome bytes n
-held_by n bytes ls s e c = (
+held_by : (n : ℕ) (bytes : List ℕ) (ls es : List TextLine) (s : Said es) → s.charges ≡ n → IsWhole Shallow start ls → Cuts (tokens_of ls) bytes [] → expansion ls ≡ es → HoldsSome bytes n
+held_by n bytes ls es s e whole c is = (
   s.root,
   s.conclusion,
   record {
     shaped = subst (λ k. IsShaped k s.root s.conclusion) e s.shaped;
-    cut = subst (λ k. Cuts (tokens_of (proof_lines k s.root s.conclusion)) bytes []) e (subst (λ z. Cuts (tokens_of z) bytes []) s.is c);
+    lines = ls;
+    whole = whole;
+    cut = c;
+    is = subst (λ k. expansion ls ≡ proof_lines k s.root s.conclusion) e (is ∙ s.is);
   },
 )
 
 -- the bytes end where nothing is owed
-pub held : (n : ℕ) (os : List Owed) (bytes rest : List ℕ) → os ≡ [] → rest ≡ [] → Stands n os bytes rest → HoldsSome bytes n
-held n os bytes rest e q h =
-    let ls = w.Head 1 ∷ w.Charges n ∷ h.more in
-    let s = proof_said ls (subst (λ z. Leads Shallow start ls z) e h.leads) in
-    held_by n bytes ls s (charges_are n s.charges h.more s.root s.conclusion s.is) (subst (λ z. Cuts (tokens_of ls) bytes z) q h.cut)
+pub held : (ps : List ElimLog) (n : ℕ) (os : List Owed) (bytes rest : List ℕ) → os ≡ [] → rest ≡ [] → Inside ps n os bytes rest → HoldsSome bytes n
+held ps n os bytes rest e q h =
+    let es = w.Charges n ∷ h.more in
+    let whole : IsWhole Shallow start h.stands.before = subst (λ z. Leads Shallow start h.stands.before z) e h.stands.leads in
+    let s = proof_said es (subst (IsWhole Shallow start) h.stands.is (whole_expanded h.stands.before whole)) in
+    held_by n bytes h.stands.before (w.Head 1 ∷ es) s (charges_are n s.charges h.more s.root s.conclusion s.is) whole (subst (λ z. Cuts (tokens_of h.stands.before) bytes z) q h.stands.cut) h.stands.is
 
 -- more bytes stand there
-pub bytes_behind : (n : ℕ) (os : List Owed) (bytes rest : List ℕ) → os ≡ [] → (rest ≡ [] → ⊥) → Stands n os bytes rest → RefusesText bytes (f.Syntax (length rest))
-bytes_behind n os bytes rest e some h =
-    let ls = w.Head 1 ∷ w.Charges n ∷ h.more in
-    let whole : IsWhole Shallow start ls = subst (λ z. Leads Shallow start ls z) e h.leads in (
+pub bytes_behind : (ps : List ElimLog) (n : ℕ) (os : List Owed) (bytes rest : List ℕ) → os ≡ [] → (rest ≡ [] → ⊥) → Inside ps n os bytes rest → RefusesText bytes (f.Syntax (length rest))
+bytes_behind ps n os bytes rest e some h =
+    let ls = h.stands.before in
+    let whole : IsWhole Shallow start ls = subst (λ z. Leads Shallow start ls z) e h.stands.leads in (
       rest,
       refl,
       record {
-        first = token_behind start ls bytes rest (leads_any start [] ls whole) h.cut;
+        first = token_behind start ls bytes rest (leads_any start [] ls whole) h.stands.cut;
         ends = λ q ms i r. some q;
-        shallow = λ deep d. none_deep ls bytes rest whole h.cut deep d;
+        shallow = λ deep d. none_deep ls bytes rest whole h.stands.cut deep d;
       },
     )
 
-pub ended_held : (n : ℕ) (os : List Owed) (bytes rest : List ℕ) (r : Result (Unit {0}) Fault) → os ≡ [] → OnOk r (rest ≡ []) → Stands n os bytes rest → OnOk r (HoldsSome bytes n)
-ended_held n os bytes rest (Ok u) e q h = held n os bytes rest e q h
-ended_held n os bytes rest (Err fault) e q h = tt
+pub ended_held : (ps : List ElimLog) (n : ℕ) (os : List Owed) (bytes rest : List ℕ) (r : Result (Unit {0}) Fault) → os ≡ [] → OnOk r (rest ≡ []) → Inside ps n os bytes rest → OnOk r (HoldsSome bytes n)
+ended_held ps n os bytes rest (Ok u) e q h = held ps n os bytes rest e q h
+ended_held ps n os bytes rest (Err fault) e q h = tt
 
-pub ended_refused : (n : ℕ) (os : List Owed) (bytes rest : List ℕ) (r : Result (Unit {0}) Fault) → os ≡ [] → IfErr r (λ fault. (fault ≡ f.Syntax (length rest)) × (rest ≡ [] → ⊥)) → Stands n os bytes rest → IfErr r (RefusesText bytes)
-ended_refused n os bytes rest (Ok u) e q h = tt
-ended_refused n os bytes rest (Err fault) e q h = subst (RefusesText bytes) (sym q.0) (bytes_behind n os bytes rest e q.1 h)
+pub ended_refused : (ps : List ElimLog) (n : ℕ) (os : List Owed) (bytes rest : List ℕ) (r : Result (Unit {0}) Fault) → os ≡ [] → IfErr r (λ fault. (fault ≡ f.Syntax (length rest)) × (rest ≡ [] → ⊥)) → Inside ps n os bytes rest → IfErr r (RefusesText bytes)
+ended_refused ps n os bytes rest (Ok u) e q h = tt
+ended_refused ps n os bytes rest (Err fault) e q h = subst (RefusesText bytes) (sym q.0) (bytes_behind ps n os bytes rest e q.1 h)

@@ -18,8 +18,9 @@ use Rattle.tree_text.specs.Shaped.{Holds}
 pub record IsDeepAt (bytes back : List ℕ) : Type 0 where
   pub before : List TextLine
   pub level : ℕ
+  pub parts : ℕ
   pub owed : List Owed
-  pub leads : Leads Shallow start before (o.Node level ∷ owed)
+  pub leads : Leads Shallow start before (o.Node level parts ∷ owed)
   pub too_deep : 2000 < level
   pub cut : Cuts (tokens_of before) bytes back
   pub begins : BeginsNode back

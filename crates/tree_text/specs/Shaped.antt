@@ -7,8 +7,10 @@ use Rattle.proof_tree.specs.Walk.{width, eliminates}
 use Rattle.proof_text.specs.Lines.{IsCharges}
 use Rattle.proof_text.specs.Reading.{Cuts}
 use Rattle.given_text.specs.Text.{AreClauses}
-use Rattle.tree_lines.specs.Lines.{proof_text}
-use Rattle.tree_lines.specs.Owed.{HasWidth, IsConclusion, Shallow}
+use Rattle.tree_lines.specs.declared.lines.TextLine.{TextLine}
+use Rattle.tree_lines.specs.Lines.{proof_lines, tokens_of}
+use Rattle.tree_lines.specs.Owed.{HasWidth, IsConclusion, IsWhole, Shallow, start}
+use Rattle.tree_text.specs.Expansion.{expansion}
 
 -- a node on level j: each rule has its premises, those that eliminate nothing have no entries, and divisors are from 2 on
 abbrev mutual
@@ -25,7 +27,10 @@ pub record IsShaped (n : ℕ) (x : Proof) (c : Conclusion) : Type 0 where
   pub root : IsShapedNode Shallow 1 x
   pub conclusion : IsConclusion c
 
--- the bytes are the text of a proof that a text can hold
+-- the bytes are the text of a proof that a text can hold: lines that leave nothing owed, and whose expansion is the proof's
 pub record Holds (bytes : List ℕ) (n : ℕ) (x : Proof) (c : Conclusion) : Type 0 where
   pub shaped : IsShaped n x c
-  pub cut : Cuts (proof_text n x c) bytes []
+  pub lines : List TextLine
+  pub whole : IsWhole Shallow start lines
+  pub cut : Cuts (tokens_of lines) bytes []
+  pub is : expansion lines ≡ proof_lines n x c

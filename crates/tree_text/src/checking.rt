@@ -1,30 +1,17 @@
 // Whether bytes are the text of a proof.
 
-ghost use Rattle.proof_text.specs.Lines.{IsCharges};
-ghost use Rattle.proof_text.specs.Reading.{Cuts};
-ghost use Rattle.std.specs.Prelude.{◌≡◌, ◌∷◌, [], length, IfErr, IfOk, OnOk};
+ghost use Rattle.std.specs.Prelude.{◌≡◌, [], length, IfErr, IfOk, OnOk};
 ghost use Rattle.tree_lines.specs.Faults.{RefusesLine};
 ghost use Rattle.tree_lines.specs.declared.text.Fault.TheVariants as f;
-ghost use Rattle.tree_lines.specs.Lines.{tokens_of};
 ghost use Rattle.tree_text.specs.Refusals.{HoldsSome, RefusesText};
+ghost use Rattle.tree_text.specs.Stands.{IsOpened};
 ghost use Rattle.tree_text.specs.Walks.{Advanced};
-ghost use Rattle.tree_lines.specs.declared.lines.TextLine.TheVariants as w;
 
+use crate::openings::{Opening, read_opening};
 use crate::walk::Walk;
-use proof_text::{charges, head, next};
+use proof_text::next;
 use std::alloc::Global;
 use tree_lines::{Fault, Owed, TextLine, line_for};
-
-/// The opening of a text, its format and its charges: the charges, and the text behind it.
-pub fn opening(text: &[u8]) -> Result<(u64, &[u8]), Fault>
-    ensures amount { IfOk result (λ x. IsCharges x.0) }
-    ensures found { IfOk result (λ x. Cuts (tokens_of (w.Head 1 ∷ w.Charges x.0 ∷ [])) text.now x.1.now) }
-    ensures refused { IfErr result (RefusesText text.now) }
-{
-    let (_format, inner) = head(text)?;
-    let (amount, rest) = charges(inner)?;
-    Ok((amount as u64, rest))
-}
 
 /// A line that is not wanted any longer.
 pub(crate) fn discard(line: TextLine) {
@@ -60,13 +47,13 @@ fn ended(rest: &[u8]) -> Result<(), Fault>
 }
 
 /// Reads the lines behind the opening, to the end of the text.
-fn check_lines(alloc: Global, text: &[u8], inner: &[u8], amount: u64) -> Result<(), Fault>
-    requires amount { IsCharges amount }
-    requires opening { Cuts (tokens_of (w.Head 1 ∷ w.Charges amount ∷ [])) text.now inner.now }
-    ensures found { OnOk result (HoldsSome text.now amount) }
+fn check_lines(alloc: Global, text: &[u8], inner: &[u8], opening: &Opening) -> Result<(), Fault>
+    requires { IsOpened opening.now.parts opening.now.charges text.now inner.now }
+    ensures found { OnOk result (HoldsSome text.now opening.now.charges) }
     ensures refused { IfErr result (RefusesText text.now) }
 {
-    let mut walk = Walk::new(alloc);
+    let _ = text;
+    let mut walk = Walk::new(alloc, opening.parts.len());
     let mut rest = inner;
     'lines: loop {
         let Some(owed) = walk.owed() else {
@@ -77,12 +64,13 @@ fn check_lines(alloc: Global, text: &[u8], inner: &[u8], amount: u64) -> Result<
     }
 }
 
-/// Reads the text of a proof: for how many charges it is.
-pub fn check_text(alloc: Global, text: &[u8]) -> Result<u64, Fault>
-    ensures found { IfOk result (λ n. HoldsSome text.now n) }
+/// Reads the text of a proof: its opening, and the text behind it.
+pub fn check_text(alloc: Global, text: &[u8]) -> Result<(Opening, &[u8]), Fault>
+    ensures found { IfOk result (λ x. HoldsSome text.now x.0.charges) }
+    ensures opened { IfOk result (λ x. IsOpened x.0.parts x.0.charges text.now x.1.now) }
     ensures refused { IfErr result (RefusesText text.now) }
 {
-    let (amount, inner) = opening(text)?;
-    check_lines(alloc, text, inner, amount)?;
-    Ok(amount)
+    let (opening, inner) = read_opening(alloc, text)?;
+    check_lines(alloc, text, inner, &opening)?;
+    Ok((opening, inner))
 }

@@ -2,7 +2,9 @@
 #![tactic(auto)]
 
 mod checking;
+mod openings;
 mod walk;
 
-pub use checking::{check_text, opening};
+pub use checking::check_text;
+pub use openings::Opening;
 pub use walk::{Open, Place, Walk};

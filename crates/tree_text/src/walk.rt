@@ -1,9 +1,9 @@
 // What a text of lines still owes: the rules that are open, and where the text stands.
 
-ghost use Rattle.std.specs.Prelude.{◌≡◌, ◌≤◌, ◌+◌, ◌∷◌, ◌++◌, [], List, MatchOption, OnErr, OnOk};
+ghost use Rattle.std.specs.Prelude.{◌≡◌, ◌≤◌, ◌+◌, ◌∷◌, ◌++◌, [], List, ℕ, MatchOption, OnErr, OnOk};
 ghost use Rattle.proof_tree.specs.Walk.{eliminates};
-ghost use Rattle.tree_lines.specs.Owed.{last_owed, nodes_owed, owes, Pays, Shallow};
-ghost use Rattle.tree_text.specs.Walks.{open_owed, owed_of};
+ghost use Rattle.tree_lines.specs.Owed.{last_owed, nodes_owed, owes, Pays, Shallow, tree_owed};
+ghost use Rattle.tree_text.specs.Walks.{IsInner, open_owed, owed_of};
 ghost use Rattle.tree_lines.specs.declared.lines.Owed.{Owed};
 ghost use Rattle.tree_lines.specs.declared.lines.Owed.TheVariants as o;
 
@@ -37,12 +37,14 @@ pub enum Place {
 pub struct Walk {
     pub place: Place,
     pub outer: Items<Open>,
+    /// How many parts the text has.
+    pub parts: usize,
 }
 
 /// A rule that was just read, on this level.
 fn opened(rule: Pick, count: u32, level: u32) -> Open
     requires { level ≤ 2000 }
-    ensures { open_owed result ≡ nodes_owed count (level + 1) ++ last_owed rule }
+    ensures { (parts : ℕ) → open_owed parts result ≡ nodes_owed parts count (level + 1) ++ last_owed parts rule }
 {
     Open {
         rule,
@@ -62,30 +64,32 @@ fn eliminates(rule: Pick) -> bool
     }
 }
 
-/// The line that an open rule owes first.
-fn next_of(node: Open) -> Owed
-    ensures { (os : List Owed) × (open_owed node ≡ result ∷ os) }
+/// The line that an open rule owes first, in a text of so many parts.
+fn next_of(node: Open, parts: usize) -> Owed
+    ensures { (os : List Owed) × (open_owed parts node ≡ result ∷ os) }
 {
     if node.left > 0 {
-        return Owed::Node(node.below);
+        return Owed::Node(node.below, parts);
     }
     if node.logged {
         return Owed::Gives;
     }
     if eliminates(node.rule) {
-        return Owed::Log;
+        return Owed::Log(parts);
     }
     Owed::Gives
 }
 
 impl Walk {
-    /// Behind the opening of a text.
-    pub fn new(alloc: Global) -> Walk
-        ensures { owed_of result ≡ o.Node 1 ∷ o.End ∷ [] }
+    /// Behind the opening of a text of so many parts.
+    pub fn new(alloc: Global, parts: usize) -> Walk
+        ensures owed { owed_of result ≡ tree_owed parts }
+        ensures parts { result.parts ≡ parts }
     {
         Walk {
             place: Place::Root,
             outer: Items::new(alloc),
+            parts,
         }
     }
 
@@ -94,9 +98,9 @@ impl Walk {
         ensures { MatchOption result (owed_of self.now ≡ []) (λ x. (os : List Owed) × (owed_of self.now ≡ x ∷ os)) }
     {
         match self.place {
-            Place::Root => Some(Owed::Node(1)),
-            Place::Inside(node) => Some(next_of(node)),
-            Place::End => Some(Owed::End),
+            Place::Root => Some(Owed::Node(1, self.parts)),
+            Place::Inside(node) => Some(next_of(node, self.parts)),
+            Place::End => Some(Owed::End(self.parts)),
             Place::Done => None,
         }
     }
@@ -104,7 +108,8 @@ impl Walk {
     /// The line that begins a node has come.
     fn enter(&mut self, level: u32, rule: Pick, count: u32) -> Result<(), Memory>
         requires { level ≤ 2000 }
-        ensures ok { OnOk result ((os : List Owed) → owed_of self.old ≡ o.Node level ∷ os → owed_of self.new ≡ nodes_owed count (level + 1) ++ last_owed rule ++ os) }
+        ensures ok { OnOk result ((m : ℕ) (os : List Owed) → owed_of self.old ≡ o.Node level m ∷ os → owed_of self.new ≡ nodes_owed m count (level + 1) ++ last_owed m rule ++ os) }
+        ensures parts { OnOk result (self.new.parts ≡ self.old.parts) }
         ensures err { OnErr result (self.new ≡ self.old) }
     {
         let Place::Inside(node) = self.place else {
@@ -124,7 +129,8 @@ impl Walk {
 
     /// The log of a node has come.
     fn note(&mut self)
-        ensures { (os : List Owed) → owed_of self.old ≡ o.Log ∷ os → owed_of self.new ≡ os }
+        ensures owed { (m : ℕ) (os : List Owed) → owed_of self.old ≡ o.Log m ∷ os → owed_of self.new ≡ os }
+        ensures parts { self.new.parts ≡ self.old.parts }
     {
         if let Place::Inside(node) = self.place {
             self.place = Place::Inside(Open {
@@ -138,7 +144,8 @@ impl Walk {
 
     /// The constraint of a node has come.
     fn leave(&mut self)
-        ensures { (os : List Owed) → owed_of self.old ≡ o.Gives ∷ os → owed_of self.new ≡ os }
+        ensures owed { (os : List Owed) → owed_of self.old ≡ o.Gives ∷ os → owed_of self.new ≡ os }
+        ensures parts { self.new.parts ≡ self.old.parts }
     {
         let Some(node) = self.outer.pop() else {
             self.place = Place::End;
@@ -149,7 +156,8 @@ impl Walk {
 
     /// The conclusion has come.
     fn end(&mut self)
-        ensures { (os : List Owed) → owed_of self.old ≡ o.End ∷ os → owed_of self.new ≡ os }
+        ensures owed { (m : ℕ) (os : List Owed) → owed_of self.old ≡ o.End m ∷ os → owed_of self.new ≡ os }
+        ensures parts { self.new.parts ≡ self.old.parts }
     {
         self.place = Place::Done;
     }
@@ -158,16 +166,18 @@ impl Walk {
     pub fn pay(&mut self, owed: Owed, line: &TextLine) -> Result<(), Memory>
         requires { Pays Shallow owed line.now }
         ensures ok { OnOk result ((os : List Owed) → owed_of self.old ≡ owed ∷ os → owed_of self.new ≡ owes owed line.now ++ os) }
+        ensures inner { OnOk result ((os : List Owed) → owed_of self.old ≡ owed ∷ os → IsInner line.now) }
+        ensures parts { OnOk result (self.new.parts ≡ self.old.parts) }
         ensures err { OnErr result (self.new ≡ self.old) }
     {
         match line {
             TextLine::Row(rule, count) => {
-                let Owed::Node(level) = owed else {
+                let Owed::Node(level, _) = owed else {
                     return Ok(());
                 };
                 self.enter(level, *rule, *count)
             }
-            TextLine::Log(_) => {
+            TextLine::Log(_) | TextLine::LogOf(_) => {
                 self.note();
                 Ok(())
             }
@@ -175,11 +185,13 @@ impl Walk {
                 self.leave();
                 Ok(())
             }
-            TextLine::End(_) => {
+            TextLine::End(_) | TextLine::EndOf(_) => {
                 self.end();
                 Ok(())
             }
-            TextLine::Head(_) | TextLine::Charges(_) => Ok(()),
+            TextLine::Head(_) | TextLine::Parts(_) | TextLine::Part(_) | TextLine::Charges(_) => {
+                Ok(())
+            }
         }
     }
 }

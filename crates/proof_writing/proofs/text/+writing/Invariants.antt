@@ -1,10 +1,10 @@
 use Rattle.std.proofs.Common.{◌≡◌, ◌++◌, drop}
 use Rattle.std.specs.Prelude.{map}
-use Rattle.proof_text.specs.Spellings.{spelled}
 use Rattle.proof_tree.specs.Proof.{proofs}
 use Rattle.proof_tree.specs.Views.{proof_of}
-use Rattle.tree_lines.specs.Lines.{lines_all, tokens_of}
+use Rattle.tree_lines.specs.Lines.{lines_all}
+use Rattle.proof_writing.proofs.Nodes.{short_bytes}
 use Rattle.proof_writing.proofs.text.+writing.Given as goal
 
 abbrev pub invariant-write_nodes-loop-node : goal.invariant-write_nodes-loop-node
-invariant-write_nodes-loop-node l = l.out.items ++ spelled (tokens_of (lines_all (proofs (map proof_of (drop l.node-index l.nodes))))) ≡ l.fn.out.items ++ spelled (tokens_of (lines_all (proofs (map proof_of l.nodes))))
+invariant-write_nodes-loop-node l = l.out.items ++ short_bytes l.parts (lines_all (proofs (map proof_of (drop l.node-index l.nodes)))) ≡ l.fn.out.items ++ short_bytes l.parts (lines_all (proofs (map proof_of l.nodes)))

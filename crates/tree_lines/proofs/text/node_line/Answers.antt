@@ -7,13 +7,13 @@ use Rattle.tree_lines.proofs.RowLines.{begins_node}
 use Rattle.tree_lines.proofs.text.node_line.Goals as goal
 
 pub returns-in_err-_word-clause-first : goal.returns-in_err-_word-clause-first
-returns-in_err-_word-clause-first c =
-    fails (fault_of c.in_err-_word.field-0.0) c.from_residual.result (RefusesLine (o.Node c.args.level) c.args.text.now) c.from_residual.ensures.1 (no_node c.args.level c.args.text.now c.in_err-_word.field-0.0 c.in_err-_word.ensures.lacks)
+returns-in_err-_word-clause-first c = λ parts.
+    fails (fault_of c.in_err-_word.field-0.0) c.from_residual.result (RefusesLine (o.Node c.args.level parts) c.args.text.now) c.from_residual.ensures.1 (no_node c.args.level parts c.args.text.now c.in_err-_word.field-0.0 c.in_err-_word.ensures.lacks)
 
 pub returns-then-level-gt2000-clause-first : goal.returns-then-level-gt2000-clause-first
-returns-then-level-gt2000-clause-first c = ((c.if-level-gt2000.true, begins_node c.in_ok-_word._word c.args.text.now c.in_ok-_word._rest.now c.in_ok-_word.ensures.found), refl)
+returns-then-level-gt2000-clause-first c = λ parts. ((c.if-level-gt2000.true, begins_node c.in_ok-_word._word c.args.text.now c.in_ok-_word._rest.now c.in_ok-_word.ensures.found), refl)
 
 pub returns-in_err-rule-clause-first : goal.returns-in_err-rule-clause-first
-returns-in_err-rule-clause-first c =
-    fails (fault_of c.in_err-rule.field-0.0) c.from_residual-in_err-rule.result (RefusesLine (o.Node c.args.level) c.args.text.now) c.from_residual-in_err-rule.ensures.1
-    (line_refused (o.Node c.args.level) c.args.text.now c.in_err-rule.field-0.0 (λ b. let h = c.if-level-gt2000.false in omega arith) (row_owed c.args.level c.args.text.now c.in_err-rule.field-0.0 c.in_err-rule.ensures.first))
+returns-in_err-rule-clause-first c = λ parts.
+    fails (fault_of c.in_err-rule.field-0.0) c.from_residual-in_err-rule.result (RefusesLine (o.Node c.args.level parts) c.args.text.now) c.from_residual-in_err-rule.ensures.1
+    (line_refused (o.Node c.args.level parts) c.args.text.now c.in_err-rule.field-0.0 (λ b. let h = c.if-level-gt2000.false in omega arith) (row_owed c.args.level parts c.args.text.now c.in_err-rule.field-0.0 c.in_err-rule.ensures.first))

@@ -1,18 +1,20 @@
-use Rattle.std.proofs.Common.{◌≡◌, ◌∷◌, ◌+◌, ◌-◌, ◌++◌, refl, ap, ◌∙◌, sym, subst, arith}
+use Rattle.std.proofs.Common.{ℕ, ◌≡◌, ◌∷◌, ◌+◌, ◌-◌, ◌++◌, refl, ap, ◌∙◌, sym, subst, arith}
 use Rattle.tree_lines.specs.declared.lines.Owed.TheVariants as o
 use Rattle.tree_lines.specs.Owed.{last_owed, nodes_owed}
 use Rattle.tree_text.specs.declared.walk.Open.{Open}
 use Rattle.tree_text.specs.declared.walk.Place.TheVariants as at
 use Rattle.tree_text.specs.Walks.{owed_at}
-use Rattle.tree_text.proofs.Walking.{enter_inside}
+use Rattle.tree_text.proofs.Walking.{enter_inside, enter_outside, node_parts}
 use Rattle.tree_text.proofs.walk.Walk.enter.Goals as goal
 
 pub returns-clause-ok : goal.returns-clause-ok
-returns-clause-ok c = λ os e.
-    let f = c.in-Inside.node in
+returns-clause-ok c = λ m os e.
+    let f = c.in-Inside.node in let parts = c.args.self.now.parts in
     let rest : Open = record { rule = f.rule; left = c.saturating_sub.result; below = f.below; logged = f.logged } in
     let less : c.saturating_sub.result ≡ f.left - 1 = (let s = c.saturating_sub.ensures in omega (arith, s)) in
-    let made = nodes_owed c.args.count (c.args.level + 1) ++ last_owed c.args.rule in
-    let inside : owed_at (at.Inside f) c.args.self.now.outer ≡ o.Node c.args.level ∷ os = sym (ap (λ p. owed_at p c.args.self.now.outer) c.in-Inside.is) ∙ e in
-    ap (λ z. owed_at (at.Inside c.opened-2.result) z) c.in_ok-push.ensures.ok
-    ∙ enter_inside f rest c.opened-2.result c.args.self.now.outer c.args.level made os refl less refl refl c.opened-2.ensures inside
+    let same : m ≡ parts = node_parts parts m c.args.level c.args.self.now.place c.args.self.now.outer os e in
+    let made = nodes_owed parts c.args.count (c.args.level + 1) ++ last_owed parts c.args.rule in
+    let inside : owed_at parts (at.Inside f) c.args.self.now.outer ≡ o.Node c.args.level parts ∷ os = sym (ap (λ p. owed_at parts p c.args.self.now.outer) c.in-Inside.is) ∙ e ∙ ap (λ k. o.Node c.args.level k ∷ os) same in
+    ap (λ z. owed_at parts (at.Inside c.opened-2.result) z) c.in_ok-push.ensures.ok
+    ∙ enter_inside parts f rest c.opened-2.result c.args.self.now.outer c.args.level made os refl less refl refl (c.opened-2.ensures parts) inside
+    ∙ ap (λ k. (nodes_owed k c.args.count (c.args.level + 1) ++ last_owed k c.args.rule) ++ os) (sym same)
