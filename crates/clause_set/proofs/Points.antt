@@ -70,11 +70,11 @@ pub bounds-apart : (c : List Literal) (s t : Linear) → IsClause c → list_any
 bounds-apart c s t h a b e = apart c s t (clause-intervals c h) (held c (Geq s) a) (held c (Geq t) b) e
 
 -- ---- what the literals of a clause bound in it
-slack_some : (P : Type 0) (a : Option ℤ) → (a ≡ None → P) → ((k : ℤ) → a ≡ Some k → P) → P
+pub slack_some : (P : Type 0) (a : Option ℤ) → (a ≡ None → P) → ((k : ℤ) → a ≡ Some k → P) → P
 slack_some P None f g = f refl
 slack_some P (Some k) f g = g k refl
 
-bound_none : (a : Option ℤ) (k : ℤ) → AtMost a k → a ≡ None → ⊥
+pub bound_none : (a : Option ℤ) (k : ℤ) → AtMost a k → a ≡ None → ⊥
 bound_none None k h e = h
 bound_none (Some a) k h e = cc
 
