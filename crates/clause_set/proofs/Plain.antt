@@ -1,6 +1,7 @@
--- Sorted literals that are their own normal form, and literals in another order.
-use Rattle.std.proofs.Common.{◌≡◌, ℕ, ℤ, pos, Bool, true, false, cond, ◌||◌, int_lt, neg_ℤ, List, [], ◌∷◌, map, length, Option, Some, None, inl, inr, refl, sym, ◌∙◌, ap, subst, arith}
-use Rattle.std.specs.List.{AllByRecursion, list_any}
+-- Sorted literals that are their own normal form.
+use Rattle.std.proofs.Common.{◌≡◌, ℕ, ℤ, pos, Bool, true, false, cond, ◌||◌, not, int_lt, neg_ℤ, ◌+ℤ◌, ◌<ℤ◌, List, [], ◌∷◌, map, length, Option, Some, None, inl, inr, refl, sym, ◌∙◌, ap, subst, arith}
+use Rattle.std.specs.Cmp.{first_so, second_so}
+use Rattle.std.specs.List.{AllByRecursion, list_all, list_any}
 use Rattle.std.specs.List.Sorted.{IsStrictlySortedBy}
 use Rattle.std.specs.Cmp.{IsTotalOrder}
 use Rattle.std.specs.Ordering.{ordering_then, ordering_reverse, int_cmp}
@@ -14,17 +15,17 @@ use Rattle.linear_term.specs.Order.{pair_cmp}
 use Rattle.linear_term.proofs.Totals.{by_test}
 use Rattle.clause_set.specs.declared.literal.Literal.{Literal}
 use Rattle.clause_set.specs.declared.literal.Literal.TheVariants.{Eq, Geq, Div, NDiv}
-use Rattle.clause_set.specs.Apart.{flat, form_cmp, leads_positive, is_plain, AreApart}
+use Rattle.clause_set.specs.Apart.{flat, form_cmp, leads_positive, is_plain, leaves_open, is_open, AreApart}
 use Rattle.clause_set.specs.Normal.{negated, leads_negative, turned}
 use Rattle.clause_set.specs.Literals.{term_of}
 use Rattle.clause_set.specs.Order.{literal_cmp, sorted_once}
 use Rattle.clause_set.specs.Clauses.{same_pairs, least, slack_of, slack, bounds_apart, extent, is_negative, is_zero, is_void, with_constant, tightened, compact}
-use Rattle.clause_set.proofs.ClauseTruth.{AtMost}
-use Rattle.clause_set.proofs.Covers.{Among, any_from, any_with, by_no, slack-at, slack-witness}
+use Rattle.clause_set.proofs.ClauseTruth.{by_first}
+use Rattle.clause_set.proofs.Covers.{Among, all_at, by_no, slack-at, slack-witness}
 use Rattle.clause_set.proofs.Intervals.{slack_of-bound, bound-slack}
-use Rattle.clause_set.proofs.Orders.{same_pairs-equal, literal_cmp-equal}
-use Rattle.clause_set.proofs.Points.{sorted_once-own, slack_some, bound_none}
-use Rattle.clause_set.proofs.Sorted.{all_among, rising_one, rising_more, literal_cmp-total}
+use Rattle.clause_set.proofs.Orders.{same_pairs-equal, same_pairs-refl}
+use Rattle.clause_set.proofs.Points.{sorted_once-own, slack_some, bound_none, IsOpen, open_none, open_some}
+use Rattle.clause_set.proofs.Sorted.{all_among, literal_cmp-total}
 
 -- ---- orders
 then_less : (o p : Ordering) → ordering_then o Equal ≡ Less → ordering_then o p ≡ Less
@@ -89,7 +90,58 @@ same_form : (s t : Linear) → s.pairs ≡ t.pairs → form_cmp (Geq s) (Geq t) 
 same_form s t e =
     ap (λ ps. literal_cmp (Geq (record { pairs = ps; constant = pos 0 })) (flat (Geq t))) e ∙ same_order literal_cmp literal_cmp-total (flat (Geq t))
 
--- ---- bounds that stand apart
+-- ---- literals that are alone with their forms
+record IsAlone (ls : List Literal) : Type 0 where
+  rising : IsStrictlySortedBy form_cmp ls
+  no_equation : (t : Linear) → Among (Eq t) ls → ⊥
+  wide : (t : Linear) → Among (Geq t) ls → IsOpen (extent ls t.pairs)
+
+module _ (ls : List Literal) (rising : IsStrictlySortedBy form_cmp ls) (no_equation : (t : Linear) → Among (Eq t) ls → ⊥) where
+  own_witness : (t : Linear) (m : Literal) (k : ℤ) → Among (Geq t) ls → Among m ls → slack_of m t.pairs ≡ Some k → Some k ≡ Some t.constant
+  own_witness t (Eq s) k a b e = absurd (no_equation s b)
+  own_witness t (Geq s) k a b e =
+      bound-slack (Some k ≡ Some t.constant) s t.pairs k e
+      (λ q is. let same : Geq s ≡ Geq t = one_place form_cmp form_cmp-total ls (Geq s) (Geq t) rising b a (same_form s t q) in
+      ap Some (sym is ∙ ap (λ l. (term_of l).constant) same))
+  own_witness t (Div d s) k a b e = absurd cc
+  own_witness t (NDiv d s) k a b e = absurd cc
+
+  own_least : (t : Linear) → Among (Geq t) ls → slack ls t.pairs ≡ Some t.constant
+  own_least t a =
+      slack_some (slack ls t.pairs ≡ Some t.constant) (slack ls t.pairs)
+      (λ e. absurd (bound_none (slack ls t.pairs) t.constant (slack-at (Geq t) ls t.pairs t.constant a (slack_of-bound t)) e))
+      (λ k e. let w = slack-witness ls t.pairs k e in e ∙ own_witness t w.literal k a w.among w.is)
+
+not_void : (ls : List Literal) (l : Literal) → IsAlone ls → Among l ls → is_void ls l ≡ false
+not_void ls (Eq t) h a = absurd (h.no_equation t a)
+not_void ls (Geq t) h a = (h.wide t a).not_negative
+not_void ls (Div d t) h a = refl
+not_void ls (NDiv d t) h a = refl
+
+is_tight : (ls : List Literal) (l : Literal) → IsAlone ls → Among l ls → tightened ls l ≡ l
+is_tight ls (Eq t) h a = refl
+is_tight ls (Geq t) h a =
+    ap (λ b. cond b (Eq (turned (with_constant (slack ls t.pairs) t))) (Geq (with_constant (slack ls t.pairs) t))) (h.wide t a).not_zero
+    ∙ ap (λ k. Geq (with_constant k t)) (own_least ls h.rising h.no_equation t a)
+is_tight ls (Div d t) h a = refl
+is_tight ls (NDiv d t) h a = refl
+
+none_void : (c ls : List Literal) → IsAlone c → ((l : Literal) → Among l ls → Among l c) → list_any (is_void c) ls ≡ false
+none_void c [] h f = refl
+none_void c (l ∷ ls) h f = ap (λ b. b || list_any (is_void c) ls) (not_void c l h (f l (inl refl))) ∙ none_void c ls h (λ m a. f m (inr a))
+
+all_tight : (c ls : List Literal) → IsAlone c → ((l : Literal) → Among l ls → Among l c) → map (tightened c) ls ≡ ls
+all_tight c [] h f = refl
+all_tight c (l ∷ ls) h f = ap (λ z. z ∷ map (tightened c) ls) (is_tight c l h (f l (inl refl))) ∙ ap (λ z. l ∷ z) (all_tight c ls h (λ m a. f m (inr a)))
+
+compact_alone : (ls : List Literal) → IsAlone ls → compact ls ≡ Some ls
+unfolding compact
+compact_alone ls h =
+    ap (λ b. cond b None (Some (sorted_once literal_cmp (map (tightened ls) ls)))) (none_void ls ls h (λ l a. a))
+    ∙ ap (λ z. Some (sorted_once literal_cmp z)) (all_tight ls ls h (λ l a. a))
+    ∙ ap Some (sorted_once-own literal_cmp ls (sorted_weaker form_cmp literal_cmp form-less ls h.rising))
+
+-- ---- all first coefficients are positive
 signs : (p : List (ℕ × ℤ)) → leads_positive p ≡ true → leads_negative p ≡ true → ⊥
 signs [] h k = cc
 signs (x ∷ p) h k = both x.1 h k
@@ -112,71 +164,55 @@ none_of (Geq t) q h n =
 none_of (Div d t) q h n = refl
 none_of (NDiv d t) q h n = refl
 
-none_below : (ls : List Literal) (q : List (ℕ × ℤ)) → AllByRecursion (λ l. is_plain l ≡ true) ls → leads_negative q ≡ true → slack ls q ≡ None
+none_below : (ls : List Literal) (q : List (ℕ × ℤ)) → list_all is_plain ls ≡ true → leads_negative q ≡ true → slack ls q ≡ None
 none_below [] q h n = refl
-none_below (l ∷ ls) q h n = ap (λ a. least a (slack ls q)) (none_of l q h.0 n) ∙ none_below ls q h.1 n
+none_below (l ∷ ls) q h n =
+    ap (λ a. least a (slack ls q)) (none_of l q (first_so (is_plain l) (list_all is_plain ls) h) n) ∙ none_below ls q (second_so (is_plain l) (list_all is_plain ls) h) n
 
-own_witness : (ls : List Literal) (t : Linear) (m : Literal) (k : ℤ) → AreApart ls → Among (Geq t) ls → Among m ls → slack_of m t.pairs ≡ Some k → Some k ≡ Some t.constant
-own_witness ls t (Eq s) k h a b e = let bad : false ≡ true = all_among (λ l. is_plain l ≡ true) (Eq s) ls h.plain b in absurd cc
-own_witness ls t (Geq s) k h a b e =
-    bound-slack (Some k ≡ Some t.constant) s t.pairs k e
-    (λ q is. let same : Geq s ≡ Geq t = one_place form_cmp form_cmp-total ls (Geq s) (Geq t) h.rising b a (same_form s t q) in
-    ap Some (sym is ∙ ap (λ l. (term_of l).constant) same))
-own_witness ls t (Div d s) k h a b e = absurd cc
-own_witness ls t (NDiv d s) k h a b e = absurd cc
+alone_plain : (ls : List Literal) → IsStrictlySortedBy form_cmp ls → list_all is_plain ls ≡ true → IsAlone ls
+alone_plain ls rising plain = record {
+  rising = rising;
+  no_equation = λ t a. let bad : false ≡ true = all_at is_plain (Eq t) ls plain a in cc;
+  wide = λ t a.
+      let none : slack ls (negated t.pairs) ≡ None = none_below ls (negated t.pairs) plain (positive_turned t.pairs (all_at is_plain (Geq t) ls plain a)) in
+      subst (λ b. IsOpen (bounds_apart (slack ls t.pairs) b)) (sym none) (open_none (slack ls t.pairs));
+}
 
-own_least : (ls : List Literal) (t : Linear) → AreApart ls → Among (Geq t) ls → slack ls t.pairs ≡ Some t.constant
-own_least ls t h a =
-    slack_some (slack ls t.pairs ≡ Some t.constant) (slack ls t.pairs)
-    (λ e. absurd (bound_none (slack ls t.pairs) t.constant (slack-at (Geq t) ls t.pairs t.constant a (slack_of-bound t)) e))
-    (λ k e. let w = slack-witness ls t.pairs k e in e ∙ own_witness ls t w.literal k h a w.among w.is)
+-- ---- opposite bounds leave more than one value
+apart_constants : (b : Bool) (j k : ℤ) → b ≡ true → (not b || int_lt (neg_ℤ k) j) ≡ true → pos 0 <ℤ (j +ℤ k)
+apart_constants true j k e h = above h
+  where
+    above : int_lt (neg_ℤ k) j ≡ true → pos 0 <ℤ (j +ℤ k)
+    above h = grind (arith, ints)
+apart_constants false j k e h = absurd cc
 
-no_extent : (ls : List Literal) (t : Linear) → AreApart ls → Among (Geq t) ls → extent ls t.pairs ≡ None
-no_extent ls t h a =
-    ap (λ b. bounds_apart b (slack ls (negated t.pairs))) (own_least ls t h a)
-    ∙ ap (bounds_apart (Some t.constant)) (none_below ls (negated t.pairs) h.plain (positive_turned t.pairs (all_among (λ l. is_plain l ≡ true) (Geq t) ls h.plain a)))
+opposite_above : (ls : List Literal) (t : Linear) (m : Literal) (k : ℤ) → list_all (leaves_open t) ls ≡ true → Among m ls → slack_of m (negated t.pairs) ≡ Some k → pos 0 <ℤ (t.constant +ℤ k)
+opposite_above ls t (Eq s) k h b e = let bad : false ≡ true = all_at (leaves_open t) (Eq s) ls h b in absurd cc
+opposite_above ls t (Geq s) k h b e =
+    bound-slack (pos 0 <ℤ (t.constant +ℤ k)) s (negated t.pairs) k e
+    (λ q is.
+    let same : same_pairs s.pairs (negated t.pairs) ≡ true = ap (λ z. same_pairs z (negated t.pairs)) q ∙ same_pairs-refl (negated t.pairs) in
+    subst (λ z. pos 0 <ℤ (t.constant +ℤ z)) is (apart_constants (same_pairs s.pairs (negated t.pairs)) t.constant s.constant same (all_at (leaves_open t) (Geq s) ls h b)))
+opposite_above ls t (Div d s) k h b e = absurd cc
+opposite_above ls t (NDiv d s) k h b e = absurd cc
 
-not_void : (ls : List Literal) (l : Literal) → AreApart ls → Among l ls → is_void ls l ≡ false
-not_void ls (Eq t) h a = let bad : false ≡ true = all_among (λ l. is_plain l ≡ true) (Eq t) ls h.plain a in absurd cc
-not_void ls (Geq t) h a = ap is_negative (no_extent ls t h a)
-not_void ls (Div d t) h a = refl
-not_void ls (NDiv d t) h a = refl
-
-is_tight : (ls : List Literal) (l : Literal) → AreApart ls → Among l ls → tightened ls l ≡ l
-is_tight ls (Eq t) h a = refl
-is_tight ls (Geq t) h a =
-    ap (λ o. cond (is_zero o) (Eq (turned (with_constant (slack ls t.pairs) t))) (Geq (with_constant (slack ls t.pairs) t))) (no_extent ls t h a)
-    ∙ ap (λ k. Geq (with_constant k t)) (own_least ls t h a)
-is_tight ls (Div d t) h a = refl
-is_tight ls (NDiv d t) h a = refl
-
-none_void : (c ls : List Literal) → AreApart c → ((l : Literal) → Among l ls → Among l c) → list_any (is_void c) ls ≡ false
-none_void c [] h f = refl
-none_void c (l ∷ ls) h f = ap (λ b. b || list_any (is_void c) ls) (not_void c l h (f l (inl refl))) ∙ none_void c ls h (λ m a. f m (inr a))
-
-all_tight : (c ls : List Literal) → AreApart c → ((l : Literal) → Among l ls → Among l c) → map (tightened c) ls ≡ ls
-all_tight c [] h f = refl
-all_tight c (l ∷ ls) h f = ap (λ z. z ∷ map (tightened c) ls) (is_tight c l h (f l (inl refl))) ∙ ap (λ z. l ∷ z) (all_tight c ls h (λ m a. f m (inr a)))
+alone_open : (ls : List Literal) → IsStrictlySortedBy form_cmp ls → list_all (is_open ls) ls ≡ true → IsAlone ls
+alone_open ls rising all =
+    let no : (t : Linear) → Among (Eq t) ls → ⊥ = λ t a. let bad : false ≡ true = all_at (is_open ls) (Eq t) ls all a in cc in
+    record {
+      rising = rising;
+      no_equation = no;
+      wide = λ t a.
+          slack_some (IsOpen (extent ls t.pairs)) (slack ls (negated t.pairs))
+          (λ e. subst (λ b. IsOpen (bounds_apart (slack ls t.pairs) b)) (sym e) (open_none (slack ls t.pairs)))
+          (λ k e. let w = slack-witness ls (negated t.pairs) k e in
+          let above = opposite_above ls t w.literal k (all_at (is_open ls) (Geq t) ls all a) w.among w.is in
+          subst (λ b. IsOpen (bounds_apart (slack ls t.pairs) b)) (sym e)
+          (subst (λ b. IsOpen (bounds_apart b (Some k))) (sym (own_least ls rising no t a)) (open_some t.constant k above)));
+    }
 
 pub compact_apart : (ls : List Literal) → AreApart ls → compact ls ≡ Some ls
-unfolding compact
 compact_apart ls h =
-    ap (λ b. cond b None (Some (sorted_once literal_cmp (map (tightened ls) ls)))) (none_void ls ls h (λ l a. a))
-    ∙ ap (λ z. Some (sorted_once literal_cmp z)) (all_tight ls ls h (λ l a. a))
-    ∙ ap Some (sorted_once-own literal_cmp ls (sorted_weaker form_cmp literal_cmp form-less ls h.rising))
-
--- ---- the pass over neighbours
-pub apart_none : (ls : List Literal) → length ls ≡ 0 → AreApart ls
-unfolding IsStrictlySortedBy
-apart_none [] e = record { rising = tt; plain = tt }
-apart_none (l ∷ ls) e = absurd (omega (arith, e))
-
-pub apart_one : (ls more : List Literal) (l : Literal) → ls ≡ l ∷ more → length more ≡ 0 → is_plain l ≡ true → AreApart ls
-apart_one ls [] l is e p = record { rising = rising_one form_cmp ls [] l is e; plain = subst (AllByRecursion (λ m. is_plain m ≡ true)) (sym is) (p, tt) }
-apart_one ls (m ∷ more) l is e p = absurd (omega (arith, e))
-
-pub apart_more : (ls more rest : List Literal) (l m : Literal) → ls ≡ l ∷ more → more ≡ m ∷ rest → is_plain l ≡ true → form_cmp l m ≡ Less → AreApart more → AreApart ls
-apart_more ls more rest l m is front p less h = record {
-  rising = rising_more form_cmp form_cmp-total ls more rest l m is front less h.rising;
-  plain = subst (AllByRecursion (λ m. is_plain m ≡ true)) (sym is) (p, h.plain);
-}
+    by_first (list_all is_plain ls) (list_all (is_open ls) ls) (compact ls ≡ Some ls) h.apart
+    (λ p. compact_alone ls (alone_plain ls h.rising p))
+    (λ o. compact_alone ls (alone_open ls h.rising o))

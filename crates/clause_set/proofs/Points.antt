@@ -95,15 +95,15 @@ own-opposite c t (Geq s) k h a b e =
 own-opposite c t (Div d s) k h a b e = absurd cc
 own-opposite c t (NDiv d s) k h a b e = absurd cc
 
-record IsOpen (o : Option ℤ) : Type 0 where
-  not_negative : is_negative o ≡ false
-  not_zero : is_zero o ≡ false
+pub record IsOpen (o : Option ℤ) : Type 0 where
+  pub not_negative : is_negative o ≡ false
+  pub not_zero : is_zero o ≡ false
 
-open_none : (a : Option ℤ) → IsOpen (bounds_apart a None)
+pub open_none : (a : Option ℤ) → IsOpen (bounds_apart a None)
 open_none None = record { not_negative = refl; not_zero = refl }
 open_none (Some k) = record { not_negative = refl; not_zero = refl }
 
-open_some : (j k : ℤ) → pos 0 <ℤ (j +ℤ k) → IsOpen (Some (j +ℤ k))
+pub open_some : (j k : ℤ) → pos 0 <ℤ (j +ℤ k) → IsOpen (Some (j +ℤ k))
 open_some j k lt = record { not_negative = no (j +ℤ k) lt; not_zero = apart_from (j +ℤ k) lt }
   where
     no : (a : ℤ) → pos 0 <ℤ a → int_lt a (pos 0) ≡ false

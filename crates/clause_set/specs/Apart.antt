@@ -1,11 +1,15 @@
--- Sorted literals that are their own normal form, told without a search: no equation, and no two bounds of one linear form.
-use Rattle.std.specs.Prelude.{◌≡◌, ℕ, ℤ, pos, Bool, true, false, int_lt, List, [], ◌∷◌}
-use Rattle.std.specs.List.{AllByRecursion}
+-- Sorted literals that are their own normal form: no equation, one bound of each linear form, and no two opposite bounds
+-- that leave one value alone or none.
+use Rattle.std.specs.Prelude.{◌≡◌, ℕ, ℤ, pos, neg_ℤ, Bool, true, false, not, ◌||◌, int_lt, List, [], ◌∷◌}
+use Rattle.std.specs.List.{list_all}
 use Rattle.std.specs.List.Sorted.{IsStrictlySortedBy}
 use Rattle.std.specs.Ordering.{on}
 use Rattle.std.specs.declared.cmp.Ordering.{Ordering}
 use Rattle.clause_set.specs.declared.literal.Literal.{Literal}
 use Rattle.clause_set.specs.declared.literal.Literal.TheVariants.{Eq, Geq, Div, NDiv}
+use Rattle.linear_term.specs.Linear.{Linear}
+use Rattle.clause_set.specs.Clauses.{same_pairs}
+use Rattle.clause_set.specs.Normal.{negated}
 use Rattle.clause_set.specs.Order.{literal_cmp}
 
 -- a bound with the constant 0, another literal as it is
@@ -31,7 +35,21 @@ is_plain (Geq t) = leads_positive t.pairs
 is_plain (Div d t) = true
 is_plain (NDiv d t) = true
 
--- the literals rise by their forms, and bound none from both sides
+-- the literal is no equation, and leaves more than one value where it bounds the opposite of the bound t ≥ 0
+abbrev pub leaves_open : Linear → Literal → Bool
+leaves_open t (Eq s) = false
+leaves_open t (Geq s) = not (same_pairs s.pairs (negated t.pairs)) || int_lt (neg_ℤ s.constant) t.constant
+leaves_open t (Div d s) = true
+leaves_open t (NDiv d s) = true
+
+-- the literal is no equation, and all leave it more than one value where it is a bound
+abbrev pub is_open : List Literal → Literal → Bool
+is_open ls (Eq t) = false
+is_open ls (Geq t) = list_all (leaves_open t) ls
+is_open ls (Div d t) = true
+is_open ls (NDiv d t) = true
+
+-- the literals rise by their forms, and bound none from both sides, or none to one value or to no value
 pub record AreApart (ls : List Literal) : Type 0 where
   pub rising : IsStrictlySortedBy form_cmp ls
-  pub plain : AllByRecursion (λ l. is_plain l ≡ true) ls
+  pub apart : (list_all is_plain ls || list_all (is_open ls) ls) ≡ true
