@@ -97,7 +97,7 @@ impl Place {
         ensures range { IfSome result InRange }
         ensures stays { OnSome result (stays self.now ≡ true) }
     {
-        if is_small(self.m) && is_small(self.a) && is_small(self.n) && is_small(self.b) {
+        if is_small(self.m) && is_small(self.n) && is_small(self.a) && is_small(self.b) {
             return Some(small_product(self.m, self.a) + small_product(self.n, self.b));
         }
         None
