@@ -1,7 +1,7 @@
 -- Sorted literals that are their own normal form.
-use Rattle.std.proofs.Common.{◌≡◌, ℕ, ℤ, pos, Bool, true, false, cond, ◌||◌, not, int_lt, neg_ℤ, ◌+ℤ◌, ◌<ℤ◌, List, [], ◌∷◌, map, length, Option, Some, None, inl, inr, refl, sym, ◌∙◌, ap, subst, arith}
+use Rattle.std.proofs.Common.{◌≡◌, ℕ, ℤ, pos, Bool, true, false, cond, ◌||◌, not, int_lt, neg_ℤ, ◌+ℤ◌, ◌<ℤ◌, List, [], ◌∷◌, Some, None, inl, inr, refl, sym, ◌∙◌, ap, subst, arith}
 use Rattle.std.specs.Cmp.{first_so, second_so}
-use Rattle.std.specs.List.{AllByRecursion, list_all, list_any}
+use Rattle.std.specs.List.{AllByRecursion, list_all}
 use Rattle.std.specs.List.Sorted.{IsStrictlySortedBy}
 use Rattle.std.specs.Cmp.{IsTotalOrder}
 use Rattle.std.specs.Ordering.{ordering_then, ordering_reverse, int_cmp}
@@ -12,19 +12,18 @@ use Rattle.std.proofs.lemmas.Int.{ints}
 use Rattle.std.proofs.lemmas.Cmp.{on_total}
 use Rattle.linear_term.specs.Linear.{Linear}
 use Rattle.linear_term.specs.Order.{pair_cmp}
-use Rattle.linear_term.proofs.Totals.{by_test}
 use Rattle.clause_set.specs.declared.literal.Literal.{Literal}
 use Rattle.clause_set.specs.declared.literal.Literal.TheVariants.{Eq, Geq, Div, NDiv}
 use Rattle.clause_set.specs.Apart.{flat, form_cmp, leads_positive, is_plain, leaves_open, is_open, AreApart}
 use Rattle.clause_set.specs.Normal.{negated, leads_negative, turned}
 use Rattle.clause_set.specs.Literals.{term_of}
-use Rattle.clause_set.specs.Order.{literal_cmp, sorted_once}
-use Rattle.clause_set.specs.Clauses.{same_pairs, least, slack_of, slack, bounds_apart, extent, is_negative, is_zero, is_void, with_constant, tightened, compact}
+use Rattle.clause_set.specs.Order.{literal_cmp}
+use Rattle.clause_set.specs.Clauses.{same_pairs, least, slack_of, slack, bounds_apart, extent, is_void, with_constant, tightened, compact}
 use Rattle.clause_set.proofs.ClauseTruth.{by_first}
 use Rattle.clause_set.proofs.Covers.{Among, all_at, by_no, slack-at, slack-witness}
 use Rattle.clause_set.proofs.Intervals.{slack_of-bound, bound-slack}
 use Rattle.clause_set.proofs.Orders.{same_pairs-equal, same_pairs-refl}
-use Rattle.clause_set.proofs.Points.{sorted_once-own, slack_some, bound_none, IsOpen, open_none, open_some}
+use Rattle.clause_set.proofs.Points.{compact_of_tight, slack_some, bound_none, IsOpen, open_none, open_some}
 use Rattle.clause_set.proofs.Sorted.{all_among, literal_cmp-total}
 
 -- ---- orders
@@ -126,20 +125,9 @@ is_tight ls (Geq t) h a =
 is_tight ls (Div d t) h a = refl
 is_tight ls (NDiv d t) h a = refl
 
-none_void : (c ls : List Literal) → IsAlone c → ((l : Literal) → Among l ls → Among l c) → list_any (is_void c) ls ≡ false
-none_void c [] h f = refl
-none_void c (l ∷ ls) h f = ap (λ b. b || list_any (is_void c) ls) (not_void c l h (f l (inl refl))) ∙ none_void c ls h (λ m a. f m (inr a))
-
-all_tight : (c ls : List Literal) → IsAlone c → ((l : Literal) → Among l ls → Among l c) → map (tightened c) ls ≡ ls
-all_tight c [] h f = refl
-all_tight c (l ∷ ls) h f = ap (λ z. z ∷ map (tightened c) ls) (is_tight c l h (f l (inl refl))) ∙ ap (λ z. l ∷ z) (all_tight c ls h (λ m a. f m (inr a)))
-
 compact_alone : (ls : List Literal) → IsAlone ls → compact ls ≡ Some ls
-unfolding compact
 compact_alone ls h =
-    ap (λ b. cond b None (Some (sorted_once literal_cmp (map (tightened ls) ls)))) (none_void ls ls h (λ l a. a))
-    ∙ ap (λ z. Some (sorted_once literal_cmp z)) (all_tight ls ls h (λ l a. a))
-    ∙ ap Some (sorted_once-own literal_cmp ls (sorted_weaker form_cmp literal_cmp form-less ls h.rising))
+    compact_of_tight ls (sorted_weaker form_cmp literal_cmp form-less ls h.rising) (λ l a. not_void ls l h a) (λ l a. is_tight ls l h a)
 
 -- ---- all first coefficients are positive
 signs : (p : List (ℕ × ℤ)) → leads_positive p ≡ true → leads_negative p ≡ true → ⊥

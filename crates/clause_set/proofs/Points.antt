@@ -186,13 +186,13 @@ own_tight c (Geq t) h a =
 own_tight c (Div d t) h a = refl
 own_tight c (NDiv d t) h a = refl
 
-none_void : (c ls : List Literal) → AreIntervals c → AllByRecursion IsNormalLiteral c → ((l : Literal) → Among l ls → Among l c) → list_any (is_void c) ls ≡ false
-none_void c [] h n f = refl
-none_void c (l ∷ ls) h n f = ap (λ b. b || list_any (is_void c) ls) (own_not_void c l h n (f l (inl refl))) ∙ none_void c ls h n (λ m a. f m (inr a))
+none_void : (c ls : List Literal) → ((l : Literal) → Among l ls → is_void c l ≡ false) → list_any (is_void c) ls ≡ false
+none_void c [] f = refl
+none_void c (l ∷ ls) f = ap (λ b. b || list_any (is_void c) ls) (f l (inl refl)) ∙ none_void c ls (λ m a. f m (inr a))
 
-all_tight : (c ls : List Literal) → AreIntervals c → ((l : Literal) → Among l ls → Among l c) → map (tightened c) ls ≡ ls
-all_tight c [] h f = refl
-all_tight c (l ∷ ls) h f = ap (λ z. z ∷ map (tightened c) ls) (own_tight c l h (f l (inl refl))) ∙ ap (λ z. l ∷ z) (all_tight c ls h (λ m a. f m (inr a)))
+all_tight : (c ls : List Literal) → ((l : Literal) → Among l ls → tightened c l ≡ l) → map (tightened c) ls ≡ ls
+all_tight c [] f = refl
+all_tight c (l ∷ ls) f = ap (λ z. z ∷ map (tightened c) ls) (f l (inl refl)) ∙ ap (λ z. l ∷ z) (all_tight c ls (λ m a. f m (inr a)))
 
 front-own : {X : Type 0} (R : X → X → Ordering) (x : X) (xs : List X) → AllByRecursion (λ y. R x y ≡ Less) xs → insert_once R x xs ≡ x ∷ xs
 front-own R x [] h = refl
@@ -208,12 +208,17 @@ pub sorted_once-own : {X : Type 0} (R : X → X → Ordering) (xs : List X) → 
 unfolding sorted_once
 sorted_once-own R xs h = inserted-own R xs h
 
-compact-own : (c : List Literal) → AreIntervals c → AllByRecursion IsNormalLiteral c → compact c ≡ Some c
+-- sorted literals, each as the others tighten it, are their own form
+pub compact_of_tight : (c : List Literal) → IsStrictlySortedBy literal_cmp c → ((l : Literal) → Among l c → is_void c l ≡ false) → ((l : Literal) → Among l c → tightened c l ≡ l)
+    → compact c ≡ Some c
 unfolding compact
-compact-own c h n =
-    ap (λ b. cond b None (Some (sorted_once literal_cmp (map (tightened c) c)))) (none_void c c h n (λ l a. a))
-    ∙ ap (λ z. Some (sorted_once literal_cmp z)) (all_tight c c h (λ l a. a))
-    ∙ ap Some (sorted_once-own literal_cmp c h.sorted)
+compact_of_tight c s f g =
+    ap (λ b. cond b None (Some (sorted_once literal_cmp (map (tightened c) c)))) (none_void c c f)
+    ∙ ap (λ z. Some (sorted_once literal_cmp z)) (all_tight c c g)
+    ∙ ap Some (sorted_once-own literal_cmp c s)
+
+compact-own : (c : List Literal) → AreIntervals c → AllByRecursion IsNormalLiteral c → compact c ≡ Some c
+compact-own c h n = compact_of_tight c h.sorted (λ l a. own_not_void c l h n a) (λ l a. own_tight c l h a)
 
 pub clause-own : (c : List Literal) → IsClause c → clause_of c ≡ Some c
 unfolding clause_of
