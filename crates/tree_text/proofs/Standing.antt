@@ -1,5 +1,5 @@
 -- The lines of a text, from its opening on.
-use Rattle.std.proofs.Common.{ℕ, ◌≡◌, ◌≤◌, List, [], ◌∷◌, ◌++◌, length, refl, sym, ap, subst, ◌∙◌, arith, Result, Ok, Err}
+use Rattle.std.proofs.Common.{ℕ, ◌≡◌, List, [], ◌∷◌, ◌++◌, length, refl, sym, subst, arith, Result, Ok, Err}
 use Rattle.std.specs.Prelude.{OnOk, IfErr}
 use Rattle.proof_tree.specs.declared.node.Conclusion.{Conclusion}
 use Rattle.proof_tree.specs.Proof.{Proof}
@@ -16,8 +16,8 @@ use Rattle.tree_lines.specs.declared.text.Fault.TheVariants as f
 use Rattle.tree_lines.specs.Faults.{fault_of, RefusesLine}
 use Rattle.tree_lines.specs.Lines.{line_text, tokens_of, proof_lines}
 use Rattle.tree_lines.specs.Owed.{Pays, owes, Leads, IsWhole, start, Shallow}
-use Rattle.tree_text.specs.Shaped.{IsShaped, Holds}
-use Rattle.tree_text.specs.Refusals.{IsRefusedText, RefusesText, HoldsSome}
+use Rattle.tree_text.specs.Shaped.{IsShaped}
+use Rattle.tree_text.specs.Refusals.{RefusesText, HoldsSome}
 use Rattle.tree_lines.proofs.LineKinds.{head_owed, charges_owed, line_refused}
 use Rattle.tree_text.proofs.Leading.{leads_more, cut_more, leads_any, token_behind}
 use Rattle.tree_text.proofs.Trees.{Said, proof_said}

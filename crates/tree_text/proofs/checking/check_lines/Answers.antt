@@ -1,5 +1,5 @@
 use Rattle.tree_lines.proofs.Failing.{fails}
-use Rattle.tree_text.specs.Refusals.{HoldsSome, RefusesText}
+use Rattle.tree_text.specs.Refusals.{RefusesText}
 use Rattle.tree_text.specs.Walks.{owed_of}
 use Rattle.tree_text.proofs.Standing.{begun, stands_more, line_fails, ended_held, ended_refused}
 use Rattle.tree_text.proofs.Shorter.{line_shorter}

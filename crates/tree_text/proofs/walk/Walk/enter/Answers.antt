@@ -1,4 +1,4 @@
-use Rattle.std.proofs.Common.{◌≡◌, ◌∷◌, ◌+◌, ◌-◌, ◌++◌, refl, ap, ◌∙◌, sym, subst, arith}
+use Rattle.std.proofs.Common.{◌≡◌, ◌∷◌, ◌+◌, ◌-◌, ◌++◌, refl, ap, ◌∙◌, sym, arith}
 use Rattle.tree_lines.specs.declared.lines.Owed.TheVariants as o
 use Rattle.tree_lines.specs.Owed.{last_owed, nodes_owed}
 use Rattle.tree_text.specs.declared.walk.Open.{Open}
