@@ -32,3 +32,5 @@ pub mod Tested
 pub mod Putting
 pub mod Opposites
 pub mod Tightening
+pub mod Plain
+pub mod Reordered

@@ -70,11 +70,11 @@ pub bounds-apart : (c : List Literal) (s t : Linear) → IsClause c → list_any
 bounds-apart c s t h a b e = apart c s t (clause-intervals c h) (held c (Geq s) a) (held c (Geq t) b) e
 
 -- ---- what the literals of a clause bound in it
-slack_some : (P : Type 0) (a : Option ℤ) → (a ≡ None → P) → ((k : ℤ) → a ≡ Some k → P) → P
+pub slack_some : (P : Type 0) (a : Option ℤ) → (a ≡ None → P) → ((k : ℤ) → a ≡ Some k → P) → P
 slack_some P None f g = f refl
 slack_some P (Some k) f g = g k refl
 
-bound_none : (a : Option ℤ) (k : ℤ) → AtMost a k → a ≡ None → ⊥
+pub bound_none : (a : Option ℤ) (k : ℤ) → AtMost a k → a ≡ None → ⊥
 bound_none None k h e = h
 bound_none (Some a) k h e = cc
 
@@ -95,15 +95,15 @@ own-opposite c t (Geq s) k h a b e =
 own-opposite c t (Div d s) k h a b e = absurd cc
 own-opposite c t (NDiv d s) k h a b e = absurd cc
 
-record IsOpen (o : Option ℤ) : Type 0 where
-  not_negative : is_negative o ≡ false
-  not_zero : is_zero o ≡ false
+pub record IsOpen (o : Option ℤ) : Type 0 where
+  pub not_negative : is_negative o ≡ false
+  pub not_zero : is_zero o ≡ false
 
-open_none : (a : Option ℤ) → IsOpen (bounds_apart a None)
+pub open_none : (a : Option ℤ) → IsOpen (bounds_apart a None)
 open_none None = record { not_negative = refl; not_zero = refl }
 open_none (Some k) = record { not_negative = refl; not_zero = refl }
 
-open_some : (j k : ℤ) → pos 0 <ℤ (j +ℤ k) → IsOpen (Some (j +ℤ k))
+pub open_some : (j k : ℤ) → pos 0 <ℤ (j +ℤ k) → IsOpen (Some (j +ℤ k))
 open_some j k lt = record { not_negative = no (j +ℤ k) lt; not_zero = apart_from (j +ℤ k) lt }
   where
     no : (a : ℤ) → pos 0 <ℤ a → int_lt a (pos 0) ≡ false
@@ -186,13 +186,13 @@ own_tight c (Geq t) h a =
 own_tight c (Div d t) h a = refl
 own_tight c (NDiv d t) h a = refl
 
-none_void : (c ls : List Literal) → AreIntervals c → AllByRecursion IsNormalLiteral c → ((l : Literal) → Among l ls → Among l c) → list_any (is_void c) ls ≡ false
-none_void c [] h n f = refl
-none_void c (l ∷ ls) h n f = ap (λ b. b || list_any (is_void c) ls) (own_not_void c l h n (f l (inl refl))) ∙ none_void c ls h n (λ m a. f m (inr a))
+none_void : (c ls : List Literal) → ((l : Literal) → Among l ls → is_void c l ≡ false) → list_any (is_void c) ls ≡ false
+none_void c [] f = refl
+none_void c (l ∷ ls) f = ap (λ b. b || list_any (is_void c) ls) (f l (inl refl)) ∙ none_void c ls (λ m a. f m (inr a))
 
-all_tight : (c ls : List Literal) → AreIntervals c → ((l : Literal) → Among l ls → Among l c) → map (tightened c) ls ≡ ls
-all_tight c [] h f = refl
-all_tight c (l ∷ ls) h f = ap (λ z. z ∷ map (tightened c) ls) (own_tight c l h (f l (inl refl))) ∙ ap (λ z. l ∷ z) (all_tight c ls h (λ m a. f m (inr a)))
+all_tight : (c ls : List Literal) → ((l : Literal) → Among l ls → tightened c l ≡ l) → map (tightened c) ls ≡ ls
+all_tight c [] f = refl
+all_tight c (l ∷ ls) f = ap (λ z. z ∷ map (tightened c) ls) (f l (inl refl)) ∙ ap (λ z. l ∷ z) (all_tight c ls (λ m a. f m (inr a)))
 
 front-own : {X : Type 0} (R : X → X → Ordering) (x : X) (xs : List X) → AllByRecursion (λ y. R x y ≡ Less) xs → insert_once R x xs ≡ x ∷ xs
 front-own R x [] h = refl
@@ -208,12 +208,17 @@ pub sorted_once-own : {X : Type 0} (R : X → X → Ordering) (xs : List X) → 
 unfolding sorted_once
 sorted_once-own R xs h = inserted-own R xs h
 
-compact-own : (c : List Literal) → AreIntervals c → AllByRecursion IsNormalLiteral c → compact c ≡ Some c
+-- sorted literals, each as the others tighten it, are their own form
+pub compact_of_tight : (c : List Literal) → IsStrictlySortedBy literal_cmp c → ((l : Literal) → Among l c → is_void c l ≡ false) → ((l : Literal) → Among l c → tightened c l ≡ l)
+    → compact c ≡ Some c
 unfolding compact
-compact-own c h n =
-    ap (λ b. cond b None (Some (sorted_once literal_cmp (map (tightened c) c)))) (none_void c c h n (λ l a. a))
-    ∙ ap (λ z. Some (sorted_once literal_cmp z)) (all_tight c c h (λ l a. a))
-    ∙ ap Some (sorted_once-own literal_cmp c h.sorted)
+compact_of_tight c s f g =
+    ap (λ b. cond b None (Some (sorted_once literal_cmp (map (tightened c) c)))) (none_void c c f)
+    ∙ ap (λ z. Some (sorted_once literal_cmp z)) (all_tight c c g)
+    ∙ ap Some (sorted_once-own literal_cmp c s)
+
+compact-own : (c : List Literal) → AreIntervals c → AllByRecursion IsNormalLiteral c → compact c ≡ Some c
+compact-own c h n = compact_of_tight c h.sorted (λ l a. own_not_void c l h n a) (λ l a. own_tight c l h a)
 
 pub clause-own : (c : List Literal) → IsClause c → clause_of c ≡ Some c
 unfolding clause_of

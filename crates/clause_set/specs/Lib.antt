@@ -18,3 +18,4 @@ pub mod Formed
 pub mod Primitive
 pub mod Kept
 pub mod Table
+pub mod Apart

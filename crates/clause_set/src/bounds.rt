@@ -37,7 +37,7 @@ pub(crate) fn same_pairs(p: &[(u32, i128)], q: &[(u32, i128)]) -> bool
 
 /// Whether the coefficients p are the opposite of q.
 #[tactic(auto, using(crate::proofs::Opposites::opposites))]
-fn are_opposite(p: &[(u32, i128)], q: &[(u32, i128)]) -> bool
+pub(crate) fn are_opposite(p: &[(u32, i128)], q: &[(u32, i128)]) -> bool
     requires { All (λ r. InRange r.1) q.now }
     ensures { result ≡ same_pairs p.now (negated q.now) }
 {

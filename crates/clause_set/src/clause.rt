@@ -161,7 +161,7 @@ fn clause_literals(alloc: Global, ls: &[Literal]) -> Result<Option<Items<Literal
     ensures { IfOk result (λ c. c ≡ clause_of ls.now) }
 {
     match normal_literals(alloc, ls)? {
-        Some(literals) => compact(alloc, literals.as_slice()),
+        Some(literals) => compact(alloc, literals),
         None => Ok(None),
     }
 }

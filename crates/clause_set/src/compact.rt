@@ -7,6 +7,7 @@ ghost use Rattle.linear_term.specs.Range.{InRange};
 ghost use Rattle.std.specs.Prelude.{◌≡◌, cond, IfOk, IfSome, List, None, ℕ, ℤ, map, Some};
 ghost use Rattle.std.specs.List.{list_any};
 
+use super::apart::are_apart;
 use super::bounds;
 use super::literal::Literal;
 use super::order::{room_for, sort_once};
@@ -36,9 +37,9 @@ fn all_tightened(
     Ok(Some(out))
 }
 
-/// The literals tightened, sorted, each once; none where a form has no value.
+/// The literals tightened by a table of all bounds, sorted, each once; none where a form has no value.
 #[tactic(auto, using(crate::proofs::Tightening::ends), unfolding(crate::specs::Clauses::compact))]
-pub(crate) fn compact(alloc: Global, literals: &[Literal]) -> Result<Option<Items<Literal>>, Memory>
+fn by_table(alloc: Global, literals: &[Literal]) -> Result<Option<Items<Literal>>, Memory>
     ensures { IfOk result (λ answer. answer ≡ compact literals.now) }
 {
     let table = table_of(alloc, literals)?;
@@ -46,4 +47,22 @@ pub(crate) fn compact(alloc: Global, literals: &[Literal]) -> Result<Option<Item
         Some(tight) => Ok(Some(sort_once(alloc, tight)?)),
         None => Ok(None),
     }
+}
+
+/// The literals tightened, sorted, each once; none where a form has no value. Those that rise and bound each form once
+/// stay as they are.
+pub(crate) fn compact(
+    alloc: Global,
+    literals: Items<Literal>,
+) -> Result<Option<Items<Literal>>, Memory>
+    ensures { IfOk result (λ answer. answer ≡ compact literals) }
+{
+    if are_apart(literals.as_slice()) {
+        return Ok(Some(literals));
+    }
+    let sorted = sort_once(alloc, literals)?;
+    if are_apart(sorted.as_slice()) {
+        return Ok(Some(sorted));
+    }
+    by_table(alloc, sorted.as_slice())
 }

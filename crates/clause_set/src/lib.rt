@@ -1,6 +1,7 @@
 // Literals over linear terms in normal form, clauses and disjunctive normal forms, and the budget of work on them.
 #![tactic(auto)]
 
+mod apart;
 pub mod bounds;
 mod clause;
 mod compact;

@@ -2,13 +2,10 @@
 
 use proof_lines::{Lines, ProofRefusal, body};
 use proof_tree::Conclusion;
+use row_texts::PROOF;
 use sequent::Pick;
 use std::alloc::{AllocError, Global};
 use tree_reading::read_tree;
-
-// The text of a proof, of 91 bytes.
-const PROOF: &str =
-    "princess-proof 1\ncharges 18\nalpha 0\nclose\nlog\ngives c0 - 3 = 0\ngives c0 - 3 = 0\nsolution 3\n";
 
 /// What a file is: a proof for so many charges, or refused at a place.
 #[derive(Clone, Copy, Debug, PartialEq, Eq)]

@@ -1,6 +1,7 @@
 // Rows of proofs that are read line by line, and as trees.
 #![tactic(auto)]
 
+mod asked;
 #[cfg(test)]
 mod files;
 #[cfg(test)]

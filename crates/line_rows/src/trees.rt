@@ -1,25 +1,31 @@
-// Trees in memory that are checked: those of proofs' texts, and one that no text can say.
+// Proofs that are checked as trees in memory and line by line, with one answer, and a tree that no text can say.
 
-use crate::telling::{Told, told_of_text, told_of_tree, told_of_truth, told_of_unified};
+use crate::asked::Asked;
+use crate::telling::{Told, told_by_lines, told_by_tree, told_of_tree};
 use purse::Entry;
+use row_texts::{PROOF, changed, deep, proof};
 use std::alloc::{AllocError, Global};
+use std::process::Abort;
+use std::test::Fail;
 use tree_reading::read_tree;
+
+// Asks for this answer to a proof's text, as a tree and line by line.
+fn asks(rt: &impl Abort, alloc: Global, asked: Asked, text: &str, is: Told) -> Result<(), Fail> {
+    assert_eq!(rt; told_by_tree(alloc, asked, text), is, "the tree of {text}");
+    assert_eq!(rt;
+        told_by_lines(alloc, asked, text),
+        is,
+        "the lines of {text}"
+    );
+    Ok(())
+}
 
 // A proof that charges 9; it gives false, so no solution follows.
 const LINES: &str =
     "gamma 0\nalpha 0\nclose\nlog\ngives false\ngives false\nlog\ngives false\nsolution\n";
 
-// A proof of so many charges with these lines.
-fn proof(alloc: Global, charges: &str, lines: &str) -> Result<String, AllocError> {
-    let mut text = String::from_str(alloc, "princess-proof 1\ncharges ")?;
-    text.push_str(charges)?;
-    text.push('\n')?;
-    text.push_str(lines)?;
-    Ok(text)
-}
-
 #[test]
-fn trees_are_checked(rt: HostRuntime) -> Result<(), AllocError> {
+fn trees_are_checked(rt: HostRuntime) -> Result<(), Fail> {
     for (charges, lines, is) in [
         ("9", LINES, Told::Node(3)),
         ("8", LINES, Told::Cost(2)),
@@ -67,52 +73,53 @@ fn trees_are_checked(rt: HostRuntime) -> Result<(), AllocError> {
         ),
     ] {
         let text = proof(rt.alloc(), charges, lines)?;
-        assert_eq!(rt;
-            told_of_text(rt.alloc(), text.as_str()),
-            is,
-            "of {charges} {lines}"
-        );
+        asks(&rt, rt.alloc(), Asked::Somewhere, text.as_str(), is)?;
     }
     Ok(())
 }
 
 #[test]
-fn a_tree_is_accepted(rt: HostRuntime) -> Result<(), AllocError> {
+fn proofs_of_the_truth_are_checked(rt: HostRuntime) -> Result<(), Fail> {
     for (charges, lines, is) in [
         ("2", "trivial 0\ngives true\nsolution\n", Told::Valid),
         ("1", "trivial 0\ngives true\nsolution\n", Told::Cost(0)),
         ("2", "trivial 0\ngives false\nsolution\n", Told::Node(0)),
     ] {
         let text = proof(rt.alloc(), charges, lines)?;
-        assert_eq!(rt;
-            told_of_truth(rt.alloc(), text.as_str()),
-            is,
-            "of {charges} {lines}"
-        );
+        asks(&rt, rt.alloc(), Asked::Truth, text.as_str(), is)?;
     }
     Ok(())
 }
 
 #[test]
-fn a_tree_with_a_constant_is_accepted(rt: HostRuntime) -> Result<(), AllocError> {
-    for (charges, gives, values, is) in [
-        ("18", "c0 - 3 = 0", "3", Told::Valid),
-        ("18", "c0 - 4 = 0", "3", Told::Node(1)),
-        ("17", "c0 - 3 = 0", "3", Told::Cost(1)),
-        ("18", "c0 - 3 = 0", "4", Told::Node(2)),
-    ] {
-        let mut lines = String::from_str(rt.alloc(), "alpha 0\nclose\nlog\ngives ")?;
-        for part in [gives, "\ngives c0 - 3 = 0\nsolution ", values, "\n"] {
-            lines.push_str(part)?;
-        }
-        let text = proof(rt.alloc(), charges, lines.as_str())?;
-        assert_eq!(rt;
-            told_of_unified(rt.alloc(), text.as_str()),
-            is,
-            "of {charges} {gives} {values}"
-        );
+fn changed_proofs_are_refused(rt: HostRuntime) -> Result<(), Fail> {
+    let rows: [(&str, &str, Told); 14] = [
+        ("", "", Told::Valid),
+        ("charges 18", "charges 19\n", Told::Valid),
+        ("charges 18", "charges 1000000000\n", Told::Valid),
+        ("gives c0 - 3 = 0", "gives c0 - 4 = 0\n", Told::Node(1)),
+        ("charges 18", "charges 17\n", Told::Cost(1)),
+        ("charges 18", "charges 0\n", Told::Cost(0)),
+        ("charges 18", "charges 1000000001\n", Told::Syntax(25)),
+        ("alpha 0", "alpha 1\n", Told::Node(0)),
+        ("alpha 0", "beta 0 1\n", Told::Node(0)),
+        ("log", "log o\n", Told::Node(1)),
+        ("solution 3", "solution 4\n", Told::Node(2)),
+        ("solution 3", "solution\n", Told::Node(2)),
+        ("solution 3", "none\n", Told::Node(2)),
+        ("solution 3", "solution 3", Told::Syntax(90)),
+    ];
+    for (line, others, is) in rows {
+        let text = changed(rt.alloc(), PROOF, line, others)?;
+        asks(&rt, rt.alloc(), Asked::Unified, text.as_str(), is)?;
     }
     Ok(())
+}
+
+#[test]
+fn numbers_that_leave_the_range_are_refused(rt: HostRuntime) -> Result<(), Fail> {
+    let text = proof(rt.alloc(), "1000", "close\nlog e0\ngives false\nnone\n")?;
+    asks(&rt, rt.alloc(), Asked::Wide, text.as_str(), Told::Range(0))
 }
 
 #[test]
@@ -123,7 +130,7 @@ fn entries_stand_only_where_a_rule_eliminates(rt: HostRuntime) -> Result<(), All
         return Ok(());
     };
     assert_eq!(rt;
-        told_of_tree(rt.alloc(), &tree),
+        told_of_tree(rt.alloc(), Asked::Somewhere, &tree),
         Told::Node(3),
         "the tree of a text"
     );
@@ -132,40 +139,25 @@ fn entries_stand_only_where_a_rule_eliminates(rt: HostRuntime) -> Result<(), All
         tree.root.children.push(alpha)?;
     }
     assert_eq!(rt;
-        told_of_tree(rt.alloc(), &tree),
+        told_of_tree(rt.alloc(), Asked::Somewhere, &tree),
         Told::Node(1),
         "an entry at alpha"
     );
     Ok(())
 }
 
-// The lines of a proof of three levels and more, with a use of the quantifier at each level above the last two.
-fn deep(alloc: Global, more: u32) -> Result<String, AllocError> {
-    let mut lines = String::from_str(alloc, "gamma 0\n")?;
-    for use_before in 0..more {
-        lines.push_str("gamma ")?;
-        let position = u64::from(use_before) + 1;
-        lines.push_str(position.to_string(alloc)?.as_str())?;
-        lines.push('\n')?;
-    }
-    lines.push_str("alpha 0\nclose\nlog\ngives false\ngives false\n")?;
-    for _ in 0..more {
-        lines.push_str("log\ngives false\n")?;
-    }
-    lines.push_str("log\ngives false\nsolution\n")?;
-    Ok(lines)
-}
-
 #[test]
-fn trees_of_2_000_levels_are_checked(rt: HostRuntime) -> Result<(), AllocError> {
+fn trees_of_2_000_levels_are_checked(rt: HostRuntime) -> Result<(), Fail> {
     for (more, behind) in [(0, 3), (1_997, 2_000)] {
-        let lines = deep(rt.alloc(), more)?;
+        let lines = deep(rt.alloc(), more, "false", "log\ngives false\n")?;
         let text = proof(rt.alloc(), "1000000", lines.as_str())?;
-        assert_eq!(rt;
-            told_of_text(rt.alloc(), text.as_str()),
+        asks(
+            &rt,
+            rt.alloc(),
+            Asked::Somewhere,
+            text.as_str(),
             Told::Node(behind),
-            "{more} levels more"
-        );
+        )?;
     }
     Ok(())
 }

@@ -1,7 +1,7 @@
 // The range of coefficients, and what a call of this crate refuses with.
 
 ghost use Rattle.linear_term.specs.Range.{InRange, is_in_range, stays};
-ghost use Rattle.std.specs.Prelude.{◌≡◌, IsTrue, ◌↔◌, IfSome, IfNone, IfOk, IfErr, OnOk, ◌+ℤ◌, ◌*ℤ◌, true, false, ◌<◌, ◌^◌, unsigned_abs};
+ghost use Rattle.std.specs.Prelude.{◌≡◌, IsTrue, ◌↔◌, IfSome, IfNone, IfOk, IfErr, OnOk, OnSome, ◌+ℤ◌, ◌*ℤ◌, true, false, ◌<◌, ◌^◌, unsigned_abs};
 
 use std::alloc::{AllocError, AllocFailed};
 
@@ -83,30 +83,44 @@ impl Place {
         ensures stays { OnOk result (stays self.now ≡ true) }
         ensures overflow { IfErr result (λ fault. (fault ≡ TermFault.Overflow self.now) × (stays self.now ≡ false)) }
     {
-        if is_small(self.m) && is_small(self.a) && is_small(self.n) && is_small(self.b) {
-            return Ok(small_product(self.m, self.a) + small_product(self.n, self.b));
+        match self.small_value() {
+            Some(value) => Ok(value),
+            None => self.wide_value(),
         }
-        self.wide_value()
     }
 
-    /// The same for numbers of any size.
+    /// The number where all four are of 64 bits.
+    #[inline]
+    #[tactic(auto, using(crate::proofs::Small::small), unfolding(crate::specs::Range::stays))]
+    pub(crate) fn small_value(&self) -> Option<i128>
+        ensures exact { IfSome result (λ k. k ≡ (self.now.m *ℤ self.now.a) +ℤ (self.now.n *ℤ self.now.b)) }
+        ensures range { IfSome result InRange }
+        ensures stays { OnSome result (stays self.now ≡ true) }
+    {
+        if is_small(self.m) && is_small(self.n) && is_small(self.a) && is_small(self.b) {
+            return Some(small_product(self.m, self.a) + small_product(self.n, self.b));
+        }
+        None
+    }
+
+    /// The number of a place with numbers of any size.
     #[cold]
     #[inline(never)]
     #[tactic(auto, unfolding(crate::specs::Range::stays))]
-    fn wide_value(&self) -> Result<i128, TermFault>
-        ensures exact { IfOk result (λ k. k ≡ (self.now.m *ℤ self.now.a) +ℤ (self.now.n *ℤ self.now.b)) }
+    pub(crate) fn wide_value(self) -> Result<i128, TermFault>
+        ensures exact { IfOk result (λ k. k ≡ (self.m *ℤ self.a) +ℤ (self.n *ℤ self.b)) }
         ensures range { IfOk result InRange }
-        ensures stays { OnOk result (stays self.now ≡ true) }
-        ensures overflow { IfErr result (λ fault. (fault ≡ TermFault.Overflow self.now) × (stays self.now ≡ false)) }
+        ensures stays { OnOk result (stays self ≡ true) }
+        ensures overflow { IfErr result (λ fault. (fault ≡ TermFault.Overflow self) × (stays self ≡ false)) }
     {
         let Some(left) = product(self.m, self.a) else {
-            return Err(TermFault::Overflow(*self));
+            return Err(TermFault::Overflow(self));
         };
         let Some(right) = product(self.n, self.b) else {
-            return Err(TermFault::Overflow(*self));
+            return Err(TermFault::Overflow(self));
         };
         let Some(value) = sum(left, right) else {
-            return Err(TermFault::Overflow(*self));
+            return Err(TermFault::Overflow(self));
         };
         Ok(value)
     }

@@ -1,9 +1,10 @@
-// What a search for a proof and a check of one both do at a node: the charge of a leaf, and the constraints of premises put
-// together.
+// What a search for a proof and a check of one both do at a node: its charge, and the constraints of premises put together.
 #![tactic(auto)]
 
 mod fee;
 mod premises;
+mod principal;
 
 pub use fee::closing_fee;
 pub use premises::{conjoined, first};
+pub use principal::principal_fee;

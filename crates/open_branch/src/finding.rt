@@ -1,7 +1,6 @@
 // The principal of a rule that is given: its place, found by one pass along the list, without memory.
 
 ghost use Rattle.backlist.specs.Walk.{IsWalk};
-ghost use Rattle.formula.specs.Tree.{form};
 ghost use Rattle.open_branch.specs.Choosing as choice;
 ghost use Rattle.open_branch.specs.Standing.{IsPrincipal, held, rule_at, standing};
 ghost use Rattle.sequent.specs.Rules as calculus;
@@ -10,23 +9,7 @@ ghost use Rattle.std.specs.Prelude.{◌≡◌, ◌&&◌, IfNone, IfSome, None, i
 use crate::branch::Branch;
 use crate::principal::Principal;
 use backlist::Pos;
-use formula::Core;
-use sequent::{Pick, Shape};
-
-/// Whether a rule of this shape has such a principal.
-#[tactic(auto, using(sequent::proofs::Shaping::shaped))]
-fn takes(shape: Shape, f: &Core) -> bool
-    ensures { result ≡ calculus.is_shape shape (calculus.shape (form f.now)) }
-{
-    match (shape, f) {
-        (Shape::Trivial, Core::And(fs)) => fs.is_empty(),
-        (Shape::Beta, Core::And(fs)) => !fs.is_empty(),
-        (Shape::Alpha, Core::Or(_)) => true,
-        (Shape::Delta, Core::Forall(_)) => true,
-        (Shape::Gamma, Core::Exists(_)) => true,
-        _ => false,
-    }
-}
+use sequent::{Pick, Shape, takes};
 
 impl Branch {
     /// Where member number `index` lies in the list.

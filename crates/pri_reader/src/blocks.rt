@@ -10,7 +10,7 @@ use crate::classes::Heading;
 use crate::constants::constants;
 use crate::cursor::{heading, refused, sign};
 use crate::declarations::declarations;
-use crate::expressions::whole;
+use crate::formulas::whole;
 use crate::interpolant::interpolant;
 use crate::tree::{Block, File, ReadRefusal};
 use pri_tokens::{Lexeme, Terminal};

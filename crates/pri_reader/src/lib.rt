@@ -7,13 +7,14 @@ mod classes;
 mod constants;
 mod cursor;
 mod declarations;
-mod expressions;
 mod files;
 mod first;
+mod formulas;
 mod interpolant;
 mod items;
 mod laws;
 mod names;
+mod terms;
 mod tree;
 
 pub use files::read;

@@ -9,6 +9,6 @@ mod reduced;
 mod run;
 
 pub use laws::{node_law, proof_law, reduced_law, root_law, tight_law, walk_law};
-pub use node::{Conclusion, Node, Tree};
+pub use node::{Conclusion, Node, Tree, copy_clauses};
 pub use reduced::know_reduced;
 pub use run::{Run, Verdict, Why};

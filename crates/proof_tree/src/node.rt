@@ -61,7 +61,11 @@ fn copy_nodes(alloc: Global, nodes: &[Node]) -> Result<Items<Node>, Memory>
     Ok(out)
 }
 
-fn copy_clauses(alloc: Global, clauses: &[Items<Literal>]) -> Result<Items<Items<Literal>>, Memory>
+/// The same clauses once more.
+pub fn copy_clauses(
+    alloc: Global,
+    clauses: &[Items<Literal>],
+) -> Result<Items<Items<Literal>>, Memory>
     ensures { IfOk result (λ cs. cs ≡ clauses.now) }
 {
     let mut out = Items::new(alloc);

@@ -1,5 +1,6 @@
 // Real files as a source. It tells no bytes, since no clause can say what the system gives.
 
+ghost use Rattle.std.specs.Io.KnownBytes.{ReadConsumes};
 ghost use Rattle.std.specs.Prelude.{◌≡◌, ◌≤◌, ◌&&◌, length, option_map, string_bytes, is_none, is_some, None, IfOk};
 
 use crate::source::{BeginFault, Failed, Source};
@@ -87,7 +88,8 @@ fn open<R: Files>(rt: &R, name: &str) -> io::Result<R::File> {
 
 // Reads some bytes of a file, again where the call is interrupted.
 pub(crate) fn read_some<F: Read>(file: &mut F, buffer: &mut [u8]) -> io::Result<usize>
-    ensures { IfOk result (λ n. n ≤ length buffer.new) }
+    ensures bound { IfOk result (λ n. n ≤ length buffer.new) }
+    ensures bytes { ReadConsumes (F.remaining file.old) (F.remaining file.new) result buffer.new }
 {
     for _ in 0..u64::MAX {
         match file.read(buffer) {

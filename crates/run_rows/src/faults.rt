@@ -1,6 +1,7 @@
 // Reads and writes that fail, and those that move few bytes: the status, and the bytes taken before that.
 
 use crate::runs::{Outside, ends_outside};
+use row_texts::PROOF;
 use std::alloc::Global;
 use std::process::Abort;
 use std::test::Fail;
@@ -9,9 +10,6 @@ const UNIFIED: &[u8] =
     b"\\existentialConstants { int a; } \\predicates { p(int); } \\problem { p(3) -> p(a) }";
 
 const ANSWER: &str = "VALID\nconstraint: a - 3 = 0\nsolution: a = 3\n";
-
-const PROOF: &[u8] =
-    b"princess-proof 1\ncharges 18\nalpha 0\nclose\nlog\ngives c0 - 3 = 0\ngives c0 - 3 = 0\nsolution 3\n";
 
 // Runs these words over the files `f` and `g`, and asks for the status and the bytes taken.
 fn asks(
@@ -23,7 +21,7 @@ fn asks(
     answer: (u8, &str),
 ) -> Result<(), Fail> {
     let (status, text) = answer;
-    let (ended, taken) = ends_outside(alloc, words, &[("f", f), ("g", PROOF)], outside)?;
+    let (ended, taken) = ends_outside(alloc, words, &[("f", f), ("g", PROOF.as_bytes())], outside)?;
     assert_eq!(rt; ended, status, "at {words:?} for {text}");
     assert_eq!(rt;
         taken.as_slice(),

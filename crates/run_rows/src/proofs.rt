@@ -1,6 +1,7 @@
 // Proofs that are printed and checked: the answers, and what is refused of changed, hostile and strangers' proofs.
 
 use crate::runs::{answers_to, ends_over};
+use row_texts::{PROOF, changed};
 use std::alloc::Global;
 use std::process::Abort;
 use std::test::Fail;
@@ -9,9 +10,6 @@ const APART: &str = "\\problem { \\exists int x; 2*x = 1 }";
 
 const UNIFIED: &str =
     "\\existentialConstants { int a; } \\predicates { p(int); } \\problem { p(3) -> p(a) }";
-
-const PROOF: &str =
-    "princess-proof 1\ncharges 18\nalpha 0\nclose\nlog\ngives c0 - 3 = 0\ngives c0 - 3 = 0\nsolution 3\n";
 
 // Asks for the answer of `check` to a problem and these bytes of a proof's file.
 pub fn checks_to(
@@ -27,22 +25,6 @@ pub fn checks_to(
     assert_eq!(rt; ended, status, "at {file} with {proof}");
     assert_eq!(rt; taken.as_slice(), text.as_bytes(), "at {file} with {proof}");
     Ok(())
-}
-
-// A text with its first occurrence of a line changed to others.
-fn changed(alloc: Global, text: &str, line: &str, others: &str) -> Result<String, Fail> {
-    let mut out = String::new(alloc);
-    let mut found = false;
-    for part in text.split('\n') {
-        if part == line && !found {
-            found = true;
-            out.push_str(others)?;
-        } else if !part.is_empty() {
-            out.push_str(part)?;
-            out.push('\n')?;
-        }
-    }
-    Ok(out)
 }
 
 #[test]

@@ -1,6 +1,7 @@
 // Proofs written by hand that no search would give: other rules, other members, rules in another order, and deep ones.
 
 use crate::proofs::checks_to;
+use row_texts::{deep, proof};
 use std::alloc::Global;
 use std::process::Abort;
 use std::test::Fail;
@@ -23,9 +24,8 @@ fn asks(
     lines: &str,
     answer: (u8, &str),
 ) -> Result<(), Fail> {
-    let mut proof = String::from_str(alloc, "princess-proof 1\ncharges 1000000\n")?;
-    proof.push_str(lines)?;
-    checks_to(rt, alloc, file, proof.as_str(), answer)
+    let text = proof(alloc, "1000000", lines)?;
+    checks_to(rt, alloc, file, text.as_str(), answer)
 }
 
 #[test]
@@ -94,23 +94,6 @@ fn proofs_of_strangers_are_checked(rt: HostRuntime) -> Result<(), Fail> {
     Ok(())
 }
 
-// The lines of a proof of ONCE of three levels and more, with a use of the quantifier at each level above the last two.
-fn deep(alloc: Global, more: u32) -> Result<String, Fail> {
-    let mut lines = String::from_str(alloc, "gamma 0\n")?;
-    for use_before in 0..more {
-        lines.push_str("gamma ")?;
-        let position = u64::from(use_before) + 1;
-        lines.push_str(position.to_string(alloc)?.as_str())?;
-        lines.push('\n')?;
-    }
-    lines.push_str("alpha 0\nclose\nlog\ngives c0 - 5 = 0\ngives c0 - 5 = 0\n")?;
-    for _ in 0..more {
-        lines.push_str("log\ngives c0 - 5 = 0\n")?;
-    }
-    lines.push_str("log e0\ngives true\nsolution\n")?;
-    Ok(lines)
-}
-
 #[test]
 fn levels_of_a_proof_are_counted(rt: HostRuntime) -> Result<(), Fail> {
     for (more, answer) in [
@@ -118,7 +101,7 @@ fn levels_of_a_proof_are_counted(rt: HostRuntime) -> Result<(), Fail> {
         (300, (0, "CHECKED VALID\n")),
         (1_998, (4, "refused proof: Deep at 20920\n")),
     ] {
-        let lines = deep(rt.alloc(), more)?;
+        let lines = deep(rt.alloc(), more, "c0 - 5 = 0", "log e0\ngives true\n")?;
         asks(&rt, rt.alloc(), ONCE, lines.as_str(), answer)?;
     }
     Ok(())

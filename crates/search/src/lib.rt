@@ -5,7 +5,6 @@
 
 mod constraint;
 mod course;
-mod fee;
 mod finishing;
 mod judge;
 mod laws;

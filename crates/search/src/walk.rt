@@ -14,11 +14,10 @@ ghost use Rattle.sequent.specs.declared.member.Pick.TheVariants as pick;
 ghost use Rattle.std.specs.Prelude.{◌≡◌, ◌+◌, ◌++◌, ◌<◌, ◌≤◌, ◌^◌, ◌||◌, ◌∷◌, Option, OnOk, [], false, ℕ};
 
 use super::course::Course;
-use super::fee::principal_fee;
 use super::finishing::{finish, finish_closed};
 use clause_set::Dnf;
 use linear_term::Memory;
-use node_steps::closing_fee;
+use node_steps::{closing_fee, principal_fee};
 use open_branch::{Branch, Principal};
 use proof_tree::Node;
 use purse::{Purse, StepFault};

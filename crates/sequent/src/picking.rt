@@ -33,6 +33,13 @@ fn shape(f: &Core) -> Option<Shape>
     }
 }
 
+/// Whether a rule of this shape has such a principal.
+pub fn takes(k: Shape, f: &Core) -> bool
+    ensures { result ≡ calculus.is_shape k (calculus.shape (form f.now)) }
+{
+    is_shape(k, shape(f))
+}
+
 /// The rule whose canonical principal the member may be with this limit.
 pub fn fits(m: &Member, limit: u32) -> Option<Shape>
     ensures { result ≡ calculus.fits limit (member_of m.now) }
@@ -122,7 +129,7 @@ fn has_shape(s: &Sequent, k: Shape, i: u32) -> bool
     ensures { result ≡ calculus.has_shape (sequent_of s.now) k i }
 {
     match s.members.get(i as usize) {
-        Some(m) => is_shape(k, shape(&m.formula)),
+        Some(m) => takes(k, &m.formula),
         None => false,
     }
 }

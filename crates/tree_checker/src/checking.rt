@@ -53,7 +53,7 @@ pub enum CheckFault {
 }
 
 /// Whether these lines are a proof of the formula over so many constants that charges no more than this: what it says, or the first
-/// thing that is wrong.
+/// thing that is wrong. They may be those of a text, and those in which a walk is told of any proof of at most 2,000 levels.
 pub fn check_lines<L: ProofLines>(
     alloc: Global,
     root: &Core,
@@ -66,25 +66,8 @@ pub fn check_lines<L: ProofLines>(
     requires depth { sizes.depth (form root.now) ≤ 2000 }
     requires constants { constants ≤ 1000 }
     requires charges { charges ≤ 1000000000 }
-    ensures { (x : Proof) (c : tree.Conclusion) → IsShapedNode Shallow 1 x → L.coming lines.old (text.lines x ++ w.End c ∷ []) → ChecksAs (form root.now) constants x c charges result }
-{
-    check_told(alloc, root, constants, charges, lines)
-}
-
-/// The same of the lines in which a walk is told of any proof of at most 2,000 levels.
-pub(crate) fn check_told<L: ProofLines>(
-    alloc: Global,
-    root: &Core,
-    constants: u32,
-    charges: u64,
-    lines: &mut L,
-) -> Result<Checked, CheckFault>
-    requires over { IsFormOver constants (form root.now) }
-    requires size { sizes.size (form root.now) ≤ 1000000 }
-    requires depth { sizes.depth (form root.now) ≤ 2000 }
-    requires constants { constants ≤ 1000 }
-    requires charges { charges ≤ 1000000000 }
-    ensures { (x : Proof) (c : tree.Conclusion) → HasLevels 2000 x → L.coming lines.old (told_lines x ++ w.End c ∷ []) → ChecksAs (form root.now) constants x c charges result }
+    ensures read { (x : Proof) (c : tree.Conclusion) → IsShapedNode Shallow 1 x → L.coming lines.old (text.lines x ++ w.End c ∷ []) → ChecksAs (form root.now) constants x c charges result }
+    ensures told { (x : Proof) (c : tree.Conclusion) → HasLevels 2000 x → L.coming lines.old (told_lines x ++ w.End c ∷ []) → ChecksAs (form root.now) constants x c charges result }
 {
     let mut course = Course::new();
     let mut purse = Purse::new(charges);

@@ -15,10 +15,10 @@ ghost use Rattle.tree_lines.specs.declared.lines.TextLine.{TextLine};
 ghost use Rattle.tree_lines.specs.declared.lines.TextLine.TheVariants as w;
 
 use crate::nodes::eliminates;
-use clause_set::{Literal, copy_literals};
+use clause_set::Literal;
 use linear_term::Memory;
 use proof_stream::{Line, ProofLines};
-use proof_tree::{Conclusion, Node, Tree};
+use proof_tree::{Conclusion, Node, Tree, copy_clauses};
 use purse::ElimLog;
 use sequent::Pick;
 use sqlite_items::Items;
@@ -89,17 +89,6 @@ fn behind_row<'a>(node: &'a Node) -> Frame<'a>
     }
 }
 
-/// The clauses once more.
-fn copied(alloc: Global, clauses: &[Items<Literal>]) -> Result<Items<Items<Literal>>, Memory>
-    ensures { IfOk result (λ cs. cs ≡ clauses.now) }
-{
-    let mut out = Items::new(alloc);
-    for c in clauses {
-        out.push(copy_literals(alloc, c.as_slice())?)?;
-    }
-    Ok(out)
-}
-
 impl<'a> TreeLines<'a> {
     /// Before the root of the tree.
     pub fn new(alloc: Global, tree: &'a Tree) -> TreeLines<'a>
@@ -153,7 +142,7 @@ impl<'a> TreeLines<'a> {
                 Ok(Line::Log)
             }
             None => {
-                let gives = copied(alloc, frame.gives)?;
+                let gives = copy_clauses(alloc, frame.gives)?;
                 self.leave();
                 Ok(Line::Gives(gives))
             }

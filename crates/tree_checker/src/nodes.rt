@@ -1,13 +1,9 @@
-// What is asked of a node before its premises are: which rule it takes, and its charge.
+// What the rule of a node says of it: whether it has a log, and whether it is a leaf that is closed.
 
-ghost use Rattle.open_branch.specs.Standing.{IsPrincipal, rule_at, standing};
 ghost use Rattle.proof_tree.specs.Walk as walk;
-ghost use Rattle.purse.specs.Trace.{capped};
 ghost use Rattle.sequent.specs.Rules.{place};
 ghost use Rattle.std.specs.Prelude.{◌≡◌, ◌&&◌, is_none, nat_eq};
 
-use formula::size;
-use open_branch::{Branch, Principal};
 use sequent::Pick;
 
 /// Whether the rule eliminates, so that its node has a log.
@@ -30,12 +26,4 @@ pub fn is_leaf(rule: Pick, premises: u32) -> bool
             false
         }
     }
-}
-
-/// The charge of a node whose rule has this principal: 1 and its size.
-pub fn principal_fee(branch: &Branch, principal: &Principal) -> u64
-    requires { IsPrincipal branch.now principal.now }
-    ensures { result ≡ capped (walk.fee (standing branch.now) (rule_at principal.now.shape principal.now.index)) }
-{
-    size(&branch.get(principal).formula).saturating_add(1)
 }

@@ -8,7 +8,7 @@ ghost use Rattle.std.specs.Prelude.{◌≤◌};
 ghost use Rattle.tree_checker.specs.Answering.{ChecksAs};
 ghost use Rattle.tree_checker.specs.Told.{HasLevels};
 
-use crate::checking::{CheckFault, Checked, check_told};
+use crate::checking::{CheckFault, Checked, check_lines};
 use crate::frames::TreeLines;
 use formula::Core;
 use proof_tree::Tree;
@@ -25,5 +25,5 @@ pub fn check(alloc: Global, root: &Core, constants: u32, tree: &Tree) -> Result<
     ensures { HasLevels 2000 (proof_of tree.now.root) → ChecksAs (form root.now) constants (proof_of tree.now.root) tree.now.conclusion tree.now.charges result }
 {
     let mut lines = TreeLines::new(alloc, tree);
-    check_told(alloc, root, constants, tree.charges, &mut lines)
+    check_lines(alloc, root, constants, tree.charges, &mut lines)
 }

@@ -18,9 +18,9 @@ ghost use Rattle.tree_lines.specs.declared.lines.TextLine.{TextLine};
 
 use crate::course::Course;
 use crate::leaving::{close, leave};
-use crate::nodes::principal_fee;
 use crate::reading::read_row;
 use clause_set::Dnf;
+use node_steps::principal_fee;
 use open_branch::{Branch, Principal};
 use proof_stream::ProofLines;
 use purse::{Purse, StepFault};

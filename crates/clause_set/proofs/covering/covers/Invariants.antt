@@ -1,6 +1,9 @@
-use Rattle.clause_set.specs.Dnfs.{is_implied}
-use Rattle.clause_set.proofs.Walks.{Passes}
+use Rattle.std.proofs.Common.{◌≡◌, length}
+use Rattle.clause_set.specs.Dnfs.{covers}
 use Rattle.clause_set.proofs.covering.covers.Given as goal
 
 abbrev pub invariant-loop-l : goal.invariant-loop-l
-invariant-loop-l l = Passes (is_implied l.c) l.d l.l-index
+invariant-loop-l l = covers l.left l.c ≡ covers l.fn.d l.c
+
+abbrev pub decreases-loop-l : goal.decreases-loop-l
+decreases-loop-l l = length l.left

@@ -1,4 +1,4 @@
-// The charge of a node.
+// The charge of a node whose rule has a principal.
 
 ghost use Rattle.open_branch.specs.Standing.{IsPrincipal, rule_at, standing};
 ghost use Rattle.proof_tree.specs.Walk as walk;

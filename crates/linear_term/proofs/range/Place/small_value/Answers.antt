@@ -2,7 +2,7 @@ use Rattle.std.proofs.Common.{rules, to_z-of_z}
 use mir.Syntax.{w128}
 use mir.Val.{SFits}
 use Rattle.linear_term.proofs.Small.{exact_sum}
-use Rattle.linear_term.proofs.range.Place.value.Goals as goal
+use Rattle.linear_term.proofs.range.Place.small_value.Goals as goal
 
 pub returns-then-is_small-4-clause-exact : goal.returns-then-is_small-4-clause-exact
 returns-then-is_small-4-clause-exact c =
