@@ -1,8 +1,8 @@
 -- The text of a proof in the second format: each log of two entries and more that stands on two lines at least is a part.
-use Rattle.std.specs.Prelude.{ℕ, ◌≤◌, ◌&&◌, Bool, true, false, cond, List, [], ◌∷◌, ◌++◌, length, map, position, Option, Some, None}
+use Rattle.std.specs.Prelude.{ℕ, Bool, true, false, cond, List, [], ◌∷◌, ◌++◌, length, map, position, Option, Some, None}
 use Rattle.purse.specs.declared.log.Entry.{Entry}
 use Rattle.proof_tree.specs.declared.node.Conclusion.{Conclusion}
-use Rattle.proof_tree.specs.declared.node.Conclusion.TheVariants.{Solution, Nothing}
+use Rattle.proof_tree.specs.declared.node.Conclusion.TheVariants.{Nothing}
 use Rattle.proof_tree.specs.Proof.{Proof}
 use Rattle.proof_text.specs.declared.tokens.Token.{Token}
 use Rattle.proof_text.specs.Lines.{entries_text}
