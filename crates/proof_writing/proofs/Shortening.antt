@@ -35,10 +35,10 @@ use Rattle.proof_writing.proofs.Tallying.{parts_most}
 
 -- Texts.
 
-text_same : (s u : List ℕ) → is_text s u ≡ true → s ≡ u
+pub text_same : (s u : List ℕ) → is_text s u ≡ true → s ≡ u
 text_same s u h = (slice_eq-Decides Decides-eqb s u (is_text s u) refl).0 h
 
-text_is : (s u : List ℕ) → s ≡ u → is_text s u ≡ true
+pub text_is : (s u : List ℕ) → s ≡ u → is_text s u ≡ true
 text_is s u e = (slice_eq-Decides Decides-eqb s u (is_text s u) refl).1 e
 
 -- logs that are written alike are the same
