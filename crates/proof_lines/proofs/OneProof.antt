@@ -16,7 +16,7 @@ use Rattle.tree_lines.specs.declared.text.Fault.TheVariants as f
 use Rattle.tree_lines.specs.Lines.{tokens_of, last_lines, lines, lines_all, proof_lines}
 use Rattle.tree_lines.specs.Owed.{IsWhole, start, Any, Shallow}
 use Rattle.tree_text.specs.Expansion.{expansion}
-use Rattle.tree_text.specs.Shaped.{IsShapedNode, AreShapedNodes, IsShaped, Holds}
+use Rattle.tree_text.specs.Shaped.{IsShapedNode, AreShapedNodes, Holds}
 use Rattle.tree_text.specs.Refusals.{IsRefusedText, RefusesText}
 use Rattle.tree_text.proofs.Deep.{none_deep}
 use Rattle.tree_text.proofs.Leading.{leads_any, same_lines}

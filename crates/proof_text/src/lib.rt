@@ -26,6 +26,6 @@ pub use single::{
 };
 pub use tokens::Token;
 pub use writing::{
-    put_entries, put_number, write_charges, write_head, write_log, write_log_use, write_none, write_none_use,
-    write_part, write_parts,
+    put_entries, put_number, write_charges, write_head, write_log, write_log_use, write_none,
+    write_none_use, write_part, write_parts,
 };

@@ -1,5 +1,5 @@
 -- Lines whose numbers are in their ranges, and how they are spaced.
-use Rattle.std.proofs.Common.{ℕ, ◌≡◌, ◌<◌, ◌≤◌, ◌+◌, ◌^◌, Bool, true, false, cond, List, [], ◌∷◌, ◌++◌, subst, sym, refl, arith}
+use Rattle.std.proofs.Common.{ℕ, ◌<◌, ◌≤◌, ◌+◌, ◌^◌, Bool, true, false, cond, List, [], ◌∷◌, ◌++◌, refl, arith}
 use Rattle.std.specs.List.{AllByRecursion}
 use Rattle.purse.specs.declared.log.Entry.{Entry}
 use Rattle.clause_set.specs.declared.literal.Literal.{Literal}
@@ -12,7 +12,7 @@ use Rattle.proof_text.proofs.Spaced.{sign_spaced, word_spaced, spaced_append, nu
 use Rattle.proof_tree.specs.declared.node.Conclusion.{Conclusion}
 use Rattle.proof_tree.specs.declared.node.Conclusion.TheVariants.{Solution, Nothing}
 use Rattle.proof_tree.specs.Proof.{Proof, Proofs, node, no_proof, and_proof}
-use Rattle.proof_tree.specs.Walk.{width, eliminates}
+use Rattle.proof_tree.specs.Walk.{eliminates}
 use Rattle.given_text.specs.Text.{AreClauses}
 use Rattle.tree_lines.specs.declared.lines.TextLine.{TextLine}
 use Rattle.tree_lines.specs.declared.lines.TextLine.TheVariants as w

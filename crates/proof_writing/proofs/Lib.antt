@@ -7,3 +7,4 @@ pub mod Reread
 pub mod Tallying
 pub mod GoodLines
 pub mod Shortening
+pub mod Parting

@@ -1,5 +1,5 @@
 -- The text of a proof that a text can hold is read back as that proof.
-use Rattle.std.proofs.Common.{ℕ, ◌<◌, ◌≤◌, ◌+◌, ◌^◌, List, [], ◌∷◌, ◌++◌, refl, sym, ap, subst, append-nil, arith, Result, Ok, Err, OnOk}
+use Rattle.std.proofs.Common.{ℕ, [], ◌∷◌, ap, subst, append-nil, arith, Result, Ok, Err, OnOk}
 use Rattle.proof_text.specs.Spellings.{AreSpaced, spelled}
 use Rattle.proof_text.specs.Reading.{Cuts}
 use Rattle.proof_text.proofs.Respelled.{cut_back}

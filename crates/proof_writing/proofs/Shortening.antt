@@ -1,5 +1,5 @@
 -- The text of a proof in the second format is read back as that proof.
-use Rattle.std.proofs.Common.{ℕ, zero, suc, ◌≡◌, ◌≤◌, ◌<◌, ◌+◌, ◌^◌, ◌&&◌, Bool, true, false, cond, List, [], ◌∷◌, ◌++◌, length, map, get_or, position, Option, Some, None, if◌then◌else◌, nat_lt, refl, sym, ap, subst, ◌∙◌, append_assoc, append-nil, arith, ◌⊎◌, inl, inr, Result, Ok, Err, OnOk}
+use Rattle.std.proofs.Common.{ℕ, zero, suc, ◌≡◌, ◌≤◌, ◌<◌, ◌+◌, ◌&&◌, Bool, true, false, cond, List, [], ◌∷◌, ◌++◌, length, map, get_or, position, Option, Some, None, if◌then◌else◌, nat_lt, refl, sym, ap, subst, ◌∙◌, append_assoc, append-nil, arith, ◌⊎◌, inl, inr, Result, Ok, Err, OnOk}
 use Rattle.std.specs.List.{AllByRecursion}
 use Rattle.std.proofs.lemmas.Bool.Decides.{Decides-eqb}
 use Rattle.std.proofs.lemmas.List.{get_or-map}
@@ -7,7 +7,7 @@ use Rattle.std.proofs.lemmas.List.Quantifiers.{position-Some}
 use Rattle.std.proofs.lemmas.Slice.Eq.{slice_eq-Decides}
 use Rattle.purse.specs.declared.log.Entry.{Entry}
 use Rattle.purse.specs.declared.log.ElimLog.{ElimLog}
-use Rattle.proof_text.specs.Lines.{AnyEntries, entries_text, IsPart, IsPosition}
+use Rattle.proof_text.specs.Lines.{AnyEntries, entries_text, IsPart}
 use Rattle.proof_text.specs.Reading.{Cuts}
 use Rattle.proof_text.specs.Spellings.{IsEntry, spelled}
 use Rattle.proof_text.proofs.Apart.{entries_apart, one}
@@ -20,8 +20,8 @@ use Rattle.tree_lines.specs.declared.lines.TextLine.{TextLine}
 use Rattle.tree_lines.specs.declared.lines.TextLine.TheVariants as w
 use Rattle.tree_lines.specs.declared.lines.Owed.{Owed}
 use Rattle.tree_lines.specs.declared.lines.Owed.TheVariants as o
-use Rattle.tree_lines.specs.Lines.{proof_lines, tokens_of}
-use Rattle.tree_lines.specs.Owed.{Pays, IsWhole, IsConclusion, nodes_owed, last_owed, parts_owed, tree_owed, owes, start, Shallow}
+use Rattle.tree_lines.specs.Lines.{proof_lines}
+use Rattle.tree_lines.specs.Owed.{Pays, IsWhole, nodes_owed, last_owed, parts_owed, tree_owed, owes, start, Shallow}
 use Rattle.tree_text.specs.Expansion.{expanded, expansion, part_at}
 use Rattle.tree_text.specs.Shaped.{IsShaped, Holds}
 use Rattle.tree_text.proofs.Expanding.{AreOf, IsOf, are_append, last_are, nodes_are}
@@ -35,10 +35,10 @@ use Rattle.proof_writing.proofs.Tallying.{parts_most}
 
 -- Texts.
 
-text_same : (s u : List ℕ) → is_text s u ≡ true → s ≡ u
+pub text_same : (s u : List ℕ) → is_text s u ≡ true → s ≡ u
 text_same s u h = (slice_eq-Decides Decides-eqb s u (is_text s u) refl).0 h
 
-text_is : (s u : List ℕ) → s ≡ u → is_text s u ≡ true
+pub text_is : (s u : List ℕ) → s ≡ u → is_text s u ≡ true
 text_is s u e = (slice_eq-Decides Decides-eqb s u (is_text s u) refl).1 e
 
 -- logs that are written alike are the same

@@ -1,5 +1,5 @@
 -- Logs that are noted, in parts.
-use Rattle.std.proofs.Common.{ℕ, suc, ◌≡◌, ◌≤◌, ◌<◌, ◌+◌, ◌&&◌, Bool, true, false, cond, not, List, [], ◌∷◌, ◌++◌, length, map, drop, get_or, nat_lt, if◌then◌else◌, refl, sym, ap, subst, ◌∙◌, append_assoc, append-nil, length-append, arith, Result, Ok, Err, IfOk, OnOk}
+use Rattle.std.proofs.Common.{ℕ, ◌≡◌, ◌≤◌, ◌<◌, ◌+◌, ◌&&◌, Bool, true, false, cond, List, [], ◌∷◌, ◌++◌, length, map, drop, get_or, nat_lt, if◌then◌else◌, refl, sym, ap, subst, ◌∙◌, append_assoc, append-nil, length-append, arith, Result, Ok, Err, IfOk, OnOk}
 use Rattle.std.proofs.lemmas.Bool.Decides.{nat_tests}
 use Rattle.purse.specs.declared.log.Entry.{Entry}
 use Rattle.purse.proofs.Charging.{drop-item}
@@ -10,12 +10,12 @@ use Rattle.proof_tree.specs.declared.node.Conclusion.{Conclusion}
 use Rattle.proof_tree.specs.declared.node.Conclusion.TheVariants.{Solution, Nothing}
 use Rattle.proof_tree.specs.Proof.{Proof, Proofs, node, proofs}
 use Rattle.proof_tree.specs.Views.{proof_of}
-use Rattle.proof_tree.specs.Walk.{width, eliminates}
+use Rattle.proof_tree.specs.Walk.{eliminates}
 use Rattle.tree_lines.specs.declared.lines.TextLine.{TextLine}
 use Rattle.tree_lines.specs.declared.lines.TextLine.TheVariants as w
 use Rattle.tree_lines.specs.Lines.{last_lines, lines, lines_all}
 use Rattle.texts.specs.Texts.{is_among, picked, with_text}
-use Rattle.proof_writing.specs.Short.{again_in, has_two, key, keys, long_log, long_logs, most_parts, parts_of, plain_lines, seen_in}
+use Rattle.proof_writing.specs.Short.{again_in, key, keys, long_log, long_logs, most_parts, parts_of, plain_lines, seen_in}
 use Rattle.proof_writing.proofs.Nodes.{node_is}
 
 pub long_append : (ls ms : List TextLine) → long_logs (ls ++ ms) ≡ long_logs ls ++ long_logs ms

@@ -1,8 +1,8 @@
 -- The text of a proof in the second format: each log of two entries and more that stands on two lines at least is a part.
-use Rattle.std.specs.Prelude.{ℕ, ◌≤◌, ◌&&◌, Bool, true, false, cond, List, [], ◌∷◌, ◌++◌, length, map, position, Option, Some, None}
+use Rattle.std.specs.Prelude.{ℕ, ◌≡◌, ◌+◌, Bool, true, false, cond, List, [], ◌∷◌, ◌++◌, length, map, position, Option, Some, None}
 use Rattle.purse.specs.declared.log.Entry.{Entry}
 use Rattle.proof_tree.specs.declared.node.Conclusion.{Conclusion}
-use Rattle.proof_tree.specs.declared.node.Conclusion.TheVariants.{Solution, Nothing}
+use Rattle.proof_tree.specs.declared.node.Conclusion.TheVariants.{Nothing}
 use Rattle.proof_tree.specs.Proof.{Proof}
 use Rattle.proof_text.specs.declared.tokens.Token.{Token}
 use Rattle.proof_text.specs.Lines.{entries_text}
@@ -98,3 +98,13 @@ short_lines n x c =
 -- the text of a proof in the second format
 abbrev pub short_text : ℕ → Proof → Conclusion → List Token
 short_text n x c = tokens_of (short_lines n x c)
+
+-- on how many lines a log stands that is written so
+abbrev pub times : List ℕ → List (List ℕ) → ℕ
+times k [] = 0
+times k (j ∷ ks) = cond (is_text k j) (1 + times k ks) (times k ks)
+
+-- no text stands there twice
+abbrev pub AreDifferent : List (List ℕ) → Type 0
+AreDifferent [] = Unit {0}
+AreDifferent (k ∷ ks) = (is_among k ks ≡ false) × AreDifferent ks

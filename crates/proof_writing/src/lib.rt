@@ -10,5 +10,5 @@ mod text;
 
 pub use given::write_given;
 pub use knowing::know_typed;
-pub use laws::text_law;
+pub use laws::{parts_law, text_law};
 pub use text::{write_short, write_tree};

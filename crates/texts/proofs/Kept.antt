@@ -1,11 +1,10 @@
 -- Texts that are kept as vectors.
-use Rattle.std.proofs.Common.{◌≡◌, ℕ, ◌+◌, ◌<◌, Bool, true, false, ◌||◌, cond, not, List, [], ◌∷◌, ◌++◌, map, length, drop, get_or, refl, sym, ap, ◌∙◌, if◌then◌else◌, position, nat_lt, Some, None, append_assoc, arith}
+use Rattle.std.proofs.Common.{◌≡◌, ℕ, ◌+◌, Bool, true, false, ◌||◌, cond, not, List, [], ◌∷◌, ◌++◌, map, refl, sym, ap, ◌∙◌, if◌then◌else◌, position, nat_lt, Some, None}
 use Rattle.std.specs.Global.{Vec}
 use Rattle.std.specs.List.{list_any, prefix_len}
 use Rattle.std.proofs.lemmas.List.{length-map}
 use Rattle.indexmap.specs.IndexSet.{insert_key}
-use Rattle.purse.proofs.Charging.{drop-item}
-use Rattle.texts.specs.Texts.{each_behind, is_among, is_text, picked, with_text}
+use Rattle.texts.specs.Texts.{is_among, is_text, with_text}
 
 abbrev pub texts_of : List (Vec ℕ) → List (List ℕ)
 texts_of = map (λ k. k.items)

@@ -1,5 +1,5 @@
 -- What is refused as one kind of line is refused where it is owed.
-use Rattle.std.proofs.Common.{ℕ, ℤ, ◌≡◌, ◌≤◌, Bool, cond, List, [], ◌∷◌, ◌++◌, length, refl, sym, ap, subst, ◌∙◌}
+use Rattle.std.proofs.Common.{ℕ, ℤ, ◌≡◌, Bool, cond, List, [], ◌∷◌, refl, sym, ap, subst, ◌∙◌}
 use Rattle.sequent.specs.declared.member.Pick.{Pick}
 use Rattle.proof_tree.specs.declared.node.Conclusion.{Conclusion}
 use Rattle.proof_tree.specs.declared.node.Conclusion.TheVariants.{Solution, Nothing}
@@ -20,13 +20,11 @@ use Rattle.tree_lines.specs.declared.lines.TextLine.{TextLine}
 use Rattle.tree_lines.specs.declared.lines.TextLine.TheVariants as w
 use Rattle.tree_lines.specs.declared.lines.Owed.{Owed}
 use Rattle.tree_lines.specs.declared.lines.Owed.TheVariants as o
-use Rattle.tree_lines.specs.declared.text.Fault.{Fault}
-use Rattle.tree_lines.specs.declared.text.Fault.TheVariants as f
 use Rattle.tree_lines.specs.Conclusions.{IsEndWord}
 use Rattle.tree_lines.specs.Lines.{line_text}
 use Rattle.tree_lines.specs.Owed.{Any, IsConclusion, Pays}
 use Rattle.tree_lines.specs.Rows.{IsRow, IsRowWord, row_line}
-use Rattle.tree_lines.specs.Faults.{fault_of, BeginsNode, IsShallow, IsTooDeep, RefusesLine}
+use Rattle.tree_lines.specs.Faults.{fault_of, IsShallow, RefusesLine}
 
 -- a line of one kind
 pub record Kind {V : Type 0} (IsValue : V → Type 0) (make : V → TextLine) (l : TextLine) : Type 0 where

@@ -1,5 +1,5 @@
 -- No line that pays for what is owed begins another one.
-use Rattle.std.proofs.Common.{ℕ, ◌≡◌, List, [], ◌∷◌, ◌++◌, refl, sym, ap, subst, ◌∙◌}
+use Rattle.std.proofs.Common.{ℕ, ◌≡◌, List, [], ◌++◌, refl, sym, ap, ◌∙◌}
 use Rattle.linear_term.specs.Range.{InRange}
 use Rattle.sequent.specs.declared.member.Pick.{Pick}
 use Rattle.sequent.specs.declared.member.Pick.TheVariants as pick
@@ -14,13 +14,12 @@ use Rattle.proof_text.proofs.Integers.{value_apart}
 use Rattle.given_text.specs.Text.{AreClauses, gives_text}
 use Rattle.given_text.proofs.Gives.{gives_apart}
 use Rattle.tree_lines.specs.declared.lines.TextLine.{TextLine}
-use Rattle.tree_lines.specs.declared.lines.TextLine.TheVariants as w
 use Rattle.tree_lines.specs.declared.lines.Owed.{Owed}
 use Rattle.tree_lines.specs.declared.lines.Owed.TheVariants as o
 use Rattle.tree_lines.specs.Lines.{row_text, line_text}
 use Rattle.tree_lines.specs.Owed.{Any, HasWidth, Pays}
 use Rattle.tree_lines.specs.Rows.{IsRow, row_line}
-use Rattle.tree_lines.proofs.LineKinds.{Kind, head_made, parts_made, part_made, charges_made, row_made, log_made, log_is, log_said_text, gives_made, Ending, solved, unsolved, IsEnding, ending_text, end_made, end_is, paid_head, paid_parts, paid_part, paid_charges, paid_row, paid_log, paid_gives, paid_end}
+use Rattle.tree_lines.proofs.LineKinds.{Kind, head_made, parts_made, part_made, charges_made, row_made, log_made, log_is, log_said_text, gives_made, solved, unsolved, IsEnding, ending_text, end_made, end_is, paid_head, paid_parts, paid_part, paid_charges, paid_row, paid_log, paid_gives, paid_end}
 
 number_same : (n m : ℕ) (more : List Token) → numbered_text n ≡ numbered_text m ++ more → (n ≡ m) × (more ≡ [])
 number_same n m more q = let same : n ≡ m = cc in let h : [] ≡ more = cc in (same, sym h)

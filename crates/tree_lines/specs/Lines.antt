@@ -1,5 +1,5 @@
 -- The text of a proof: its lines in their order, and the tokens of each.
-use Rattle.std.specs.Prelude.{ℕ, Bool, true, false, cond, List, [], ◌∷◌, ◌++◌}
+use Rattle.std.specs.Prelude.{ℕ, cond, List, [], ◌∷◌, ◌++◌}
 use Rattle.purse.specs.declared.log.Entry.{Entry}
 use Rattle.clause_set.specs.declared.literal.Literal.{Literal}
 use Rattle.sequent.specs.declared.member.Pick.{Pick}

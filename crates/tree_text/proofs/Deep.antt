@@ -1,5 +1,5 @@
 -- The refusal of a line is that of the text in which it stands.
-use Rattle.std.proofs.Common.{ℕ, ◌≡◌, ◌≤◌, ◌<◌, List, [], ◌∷◌, ◌++◌, length, refl, sym, ap, subst, ◌∙◌, arith, drop}
+use Rattle.std.proofs.Common.{ℕ, ◌≡◌, ◌≤◌, ◌<◌, List, [], ◌∷◌, ◌++◌, refl, sym, subst, ◌∙◌, arith, drop}
 use Rattle.proof_text.specs.declared.tokens.Token.{Token}
 use Rattle.proof_text.specs.Reading.{Cuts, IsRefusedAt}
 use Rattle.proof_text.proofs.Apart.{one, not_refused}
@@ -12,7 +12,7 @@ use Rattle.tree_lines.specs.declared.text.Fault.TheVariants as f
 use Rattle.tree_lines.specs.Faults.{BeginsNode, IsShallow, IsTooDeep, RefusesLine}
 use Rattle.tree_lines.specs.Lines.{line_text, tokens_of}
 use Rattle.tree_lines.specs.Owed.{Pays, owes, Leads, IsWhole, start, Any, Shallow}
-use Rattle.tree_text.specs.Refusals.{IsDeepAt, IsRefusedText, RefusesText}
+use Rattle.tree_text.specs.Refusals.{IsDeepAt, RefusesText}
 use Rattle.tree_lines.proofs.LinesApart.{line_apart}
 use Rattle.tree_text.proofs.Leading.{pays_any, leads_any, text_refused}
 

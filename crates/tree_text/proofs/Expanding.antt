@@ -1,17 +1,16 @@
 -- The expansion of lines, one behind another, and that of whole texts.
-use Rattle.std.proofs.Common.{ℕ, zero, suc, ◌≡◌, ◌≤◌, ◌<◌, ◌+◌, ◌==◌, Bool, true, false, cond, List, [], ◌∷◌, ◌++◌, map, refl, sym, ap, subst, ◌∙◌, append_assoc, append-nil, arith}
+use Rattle.std.proofs.Common.{ℕ, zero, suc, ◌≡◌, ◌+◌, ◌==◌, Bool, true, false, cond, List, [], ◌∷◌, ◌++◌, map, refl, sym, ap, subst, ◌∙◌, append_assoc, append-nil, arith}
 use Rattle.purse.specs.declared.log.ElimLog.{ElimLog}
 use Rattle.sequent.specs.declared.member.Pick.{Pick}
 use Rattle.proof_tree.specs.declared.node.Conclusion.TheVariants.{Nothing}
 use Rattle.proof_tree.specs.Proof.{Proof, Proofs, node, no_proof, and_proof}
 use Rattle.proof_tree.specs.Walk.{eliminates}
-use Rattle.proof_text.specs.Lines.{IsFormat}
 use Rattle.tree_lines.specs.declared.lines.TextLine.{TextLine}
 use Rattle.tree_lines.specs.declared.lines.TextLine.TheVariants as w
 use Rattle.tree_lines.specs.declared.lines.Owed.{Owed}
 use Rattle.tree_lines.specs.declared.lines.Owed.TheVariants as o
 use Rattle.tree_lines.specs.Lines.{last_lines, lines, lines_all}
-use Rattle.tree_lines.specs.Owed.{Pays, IsWhole, nodes_owed, last_owed, opening_owed, parts_owed, tree_owed, owes, start, Shallow}
+use Rattle.tree_lines.specs.Owed.{Pays, IsWhole, nodes_owed, last_owed, parts_owed, tree_owed, owes, start, Shallow}
 use Rattle.tree_text.specs.Expansion.{expanded, expansion, part_at, parts_behind}
 use Rattle.tree_text.specs.Walks.{IsInner}
 

@@ -1,10 +1,10 @@
 -- Lines that lead from what is owed to what is still owed, and the first refusal of a text of lines.
-use Rattle.std.proofs.Common.{ℕ, zero, suc, ◌≡◌, ◌≤◌, List, [], ◌∷◌, ◌++◌, length, refl, sym, ap, subst, ◌∙◌, append_assoc, append-nil, arith, ◌⊎◌, inl, inr}
+use Rattle.std.proofs.Common.{ℕ, ◌≡◌, List, [], ◌∷◌, ◌++◌, refl, sym, ap, subst, ◌∙◌, append_assoc, append-nil, arith}
 use Rattle.purse.specs.declared.log.Entry.TheVariants as step
 use Rattle.sequent.specs.declared.member.Pick.TheVariants as pick
 use Rattle.proof_tree.specs.declared.node.Conclusion.TheVariants.{Solution, Nothing}
 use Rattle.proof_text.specs.declared.tokens.Token.{Token}
-use Rattle.proof_text.specs.Reading.{Cuts, Begins, IsFirstRefusal, IsRefusedAt}
+use Rattle.proof_text.specs.Reading.{Cuts, IsFirstRefusal, IsRefusedAt}
 use Rattle.proof_text.proofs.Cutting.{cut_append}
 use Rattle.proof_text.proofs.Behind.{front_same, no_text, no_end}
 use Rattle.tree_lines.specs.declared.lines.TextLine.{TextLine}

@@ -1,5 +1,5 @@
 -- What stands behind a line is shorter.
-use Rattle.std.proofs.Common.{ℕ, suc, ◌≡◌, ◌≤◌, ◌<◌, ◌+◌, ◌-◌, ◌==◌, ◌&&◌, Bool, true, false, List, [], ◌∷◌, ◌++◌, length, take, drop, Option, Some, None, if◌then◌else◌, refl, sym, ap, subst, ◌∙◌, arith, length-drop}
+use Rattle.std.proofs.Common.{ℕ, ◌≡◌, ◌≤◌, ◌<◌, ◌+◌, ◌==◌, ◌&&◌, true, List, [], ◌∷◌, length, take, drop, Some, refl, ap, subst, arith, length-drop}
 use Rattle.std.specs.Prelude.{cond, slice_index}
 use Rattle.std.specs.List.{prefix_len}
 use Rattle.pri_tokens.proofs.Tests.{if_begins}

@@ -1,5 +1,5 @@
 -- A reader of lines goes on from line to line.
-use Rattle.std.proofs.Common.{ℕ, zero, suc, ◌≡◌, ◌≤◌, ◌<◌, ◌+◌, ◌-◌, List, [], ◌∷◌, ◌++◌, length, refl, sym, ap, subst, ◌∙◌, append_assoc, append-nil, arith, length-append, Result, Ok, Err}
+use Rattle.std.proofs.Common.{ℕ, zero, suc, ◌≡◌, ◌≤◌, ◌<◌, ◌+◌, List, [], ◌∷◌, ◌++◌, length, refl, sym, ap, subst, ◌∙◌, append-nil, arith, length-append, Result, Ok, Err}
 use Rattle.std.specs.Prelude.{OnOk, IfErr}
 use Rattle.purse.specs.declared.log.ElimLog.{ElimLog}
 use Rattle.proof_tree.specs.declared.node.Conclusion.{Conclusion}
@@ -17,9 +17,9 @@ use Rattle.tree_lines.specs.Faults.{fault_of, RefusesLine}
 use Rattle.tree_lines.specs.Lines.{line_text, tokens_of, proof_lines}
 use Rattle.tree_lines.specs.Owed.{Pays, owes, Leads, IsWhole, opening_owed, parts_owed, start, Shallow}
 use Rattle.tree_text.specs.Expansion.{expanded, expansion, parts_behind}
-use Rattle.tree_text.specs.Shaped.{IsShaped, Holds}
+use Rattle.tree_text.specs.Shaped.{IsShaped}
 use Rattle.tree_text.specs.Stands.{Stands, IsOpened}
-use Rattle.tree_text.specs.Refusals.{IsRefusedText, RefusesText, HoldsSome}
+use Rattle.tree_text.specs.Refusals.{RefusesText, HoldsSome}
 use Rattle.tree_text.specs.Walks.{IsInner}
 use Rattle.tree_lines.proofs.LineKinds.{head_owed, parts_owed as parts_refused, part_owed as part_refused, charges_owed, line_refused}
 use Rattle.tree_text.proofs.Leading.{leads_more, cut_more, leads_any, token_behind}

@@ -1,12 +1,11 @@
 -- The lines of trees are the lines that pay for a node.
-use Rattle.std.proofs.Common.{ℕ, zero, suc, ◌+◌, ◌≡◌, ◌≤◌, Bool, true, false, cond, List, [], ◌∷◌, ◌++◌, length, refl, sym, ap, subst, ◌∙◌, append_assoc, append-nil, arith, length-append}
+use Rattle.std.proofs.Common.{ℕ, zero, suc, ◌+◌, ◌≡◌, ◌≤◌, Bool, true, false, cond, List, [], ◌∷◌, ◌++◌, length, refl, sym, ap, subst, ◌∙◌, append_assoc, arith, length-append}
 use Rattle.purse.specs.declared.log.Entry.{Entry}
 use Rattle.clause_set.specs.declared.literal.Literal.{Literal}
-use Rattle.sequent.specs.declared.member.Pick.{Pick}
 use Rattle.proof_tree.specs.declared.node.Conclusion.{Conclusion}
 use Rattle.proof_tree.specs.Proof.{Proof, Proofs, node, no_proof, and_proof}
 use Rattle.proof_tree.specs.Walk.{width, eliminates}
-use Rattle.proof_text.specs.Lines.{IsCharges, IsFormat}
+use Rattle.proof_text.specs.Lines.{IsCharges}
 use Rattle.given_text.specs.Text.{AreClauses}
 use Rattle.tree_lines.specs.declared.lines.TextLine.{TextLine}
 use Rattle.tree_lines.specs.declared.lines.TextLine.TheVariants as w

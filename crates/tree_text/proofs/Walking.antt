@@ -1,16 +1,14 @@
 -- What a walk owes behind each line.
-use Rattle.std.proofs.Common.{ℕ, zero, suc, ◌≡◌, ◌≤◌, ◌<◌, ◌+◌, ◌-◌, Bool, true, false, cond, List, [], ◌∷◌, ◌++◌, refl, sym, ap, subst, ◌∙◌, append_assoc, append-nil, arith}
+use Rattle.std.proofs.Common.{ℕ, zero, suc, ◌≡◌, ◌<◌, ◌-◌, Bool, true, false, cond, List, [], ◌∷◌, ◌++◌, refl, sym, ap, ◌∙◌, append_assoc, append-nil, arith}
 use Rattle.sequent.specs.declared.member.Pick.{Pick}
 use Rattle.proof_tree.specs.Walk.{eliminates}
-use Rattle.tree_lines.specs.declared.lines.TextLine.{TextLine}
-use Rattle.tree_lines.specs.declared.lines.TextLine.TheVariants as w
 use Rattle.tree_lines.specs.declared.lines.Owed.{Owed}
 use Rattle.tree_lines.specs.declared.lines.Owed.TheVariants as o
 use Rattle.tree_text.specs.declared.walk.Open.{Open}
 use Rattle.tree_text.specs.declared.walk.Place.{Place}
 use Rattle.tree_text.specs.declared.walk.Place.TheVariants as at
 use Rattle.tree_text.specs.declared.walk.Walk.{Walk}
-use Rattle.tree_lines.specs.Owed.{nodes_owed, last_owed, owes, Pays, Shallow}
+use Rattle.tree_lines.specs.Owed.{nodes_owed}
 use Rattle.tree_text.specs.Walks.{closing_owed, open_owed, opens_owed, owed_at, owed_of}
 
 pub opens_more : (parts : ℕ) (fs : List Open) (f : Open) → opens_owed parts (fs ++ f ∷ []) ≡ open_owed parts f ++ opens_owed parts fs

@@ -1,6 +1,5 @@
 -- Proofs that a text can hold, and the bytes that hold one.
 use Rattle.std.specs.Prelude.{ℕ, ◌+◌, ◌≡◌, false, List, []}
-use Rattle.purse.specs.declared.log.Entry.{Entry}
 use Rattle.proof_tree.specs.declared.node.Conclusion.{Conclusion}
 use Rattle.proof_tree.specs.Proof.{Proof, Proofs, node, no_proof, and_proof}
 use Rattle.proof_tree.specs.Walk.{width, eliminates}

@@ -1,4 +1,4 @@
-use Rattle.std.proofs.Common.{◌≡◌, ◌≤◌, length, sym, subst, IfOk}
+use Rattle.std.proofs.Common.{◌≡◌, ◌≤◌, length, sym, subst}
 use Rattle.proof_tree.specs.Views.{proof_of}
 use Rattle.proof_writing.specs.Short.{most_parts, parts_of, plain_lines}
 use Rattle.proof_writing.proofs.Tallying.{if_ok, parts_most, proof_tallied, tallied_parts}

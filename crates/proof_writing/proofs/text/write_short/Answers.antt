@@ -1,10 +1,10 @@
-use Rattle.std.proofs.Common.{ℕ, ◌++◌, ◌∙◌, ap, length}
+use Rattle.std.proofs.Common.{ℕ, ◌++◌, ◌∙◌, ap}
 use Rattle.proof_text.specs.Lines.{charges_text, parts_text}
 use Rattle.proof_text.specs.Spellings.{spelled}
 use Rattle.proof_tree.specs.Views.{proof_of}
-use Rattle.proof_writing.specs.Short.{long_logs, plain_lines}
+use Rattle.proof_writing.specs.Short.{plain_lines}
 use Rattle.proof_writing.proofs.GoodLines.{plain_good}
-use Rattle.proof_writing.proofs.Nodes.{AreWritten, short_ends}
+use Rattle.proof_writing.proofs.Nodes.{short_ends}
 use Rattle.proof_writing.proofs.Shortening.{parts_written, written_short}
 use Rattle.proof_writing.proofs.text.write_short.Goals as goal
 

@@ -1,7 +1,7 @@
 use Rattle.std.proofs.Common.{◌∙◌, ap}
 use Rattle.tree_lines.specs.Owed.{tree_owed}
 use Rattle.tree_lines.proofs.Failing.{fails}
-use Rattle.tree_text.specs.Refusals.{HoldsSome, RefusesText}
+use Rattle.tree_text.specs.Refusals.{RefusesText}
 use Rattle.tree_text.specs.Walks.{owed_of}
 use Rattle.tree_text.proofs.Standing.{inside, inside_more, line_fails, ended_held, ended_refused}
 use Rattle.tree_text.proofs.Shorter.{line_shorter}

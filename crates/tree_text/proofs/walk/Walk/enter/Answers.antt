@@ -1,10 +1,10 @@
-use Rattle.std.proofs.Common.{ℕ, ◌≡◌, ◌∷◌, ◌+◌, ◌-◌, ◌++◌, refl, ap, ◌∙◌, sym, subst, arith}
+use Rattle.std.proofs.Common.{◌≡◌, ◌∷◌, ◌+◌, ◌-◌, ◌++◌, refl, ap, ◌∙◌, sym, arith}
 use Rattle.tree_lines.specs.declared.lines.Owed.TheVariants as o
 use Rattle.tree_lines.specs.Owed.{last_owed, nodes_owed}
 use Rattle.tree_text.specs.declared.walk.Open.{Open}
 use Rattle.tree_text.specs.declared.walk.Place.TheVariants as at
 use Rattle.tree_text.specs.Walks.{owed_at}
-use Rattle.tree_text.proofs.Walking.{enter_inside, enter_outside, node_parts}
+use Rattle.tree_text.proofs.Walking.{enter_inside, node_parts}
 use Rattle.tree_text.proofs.walk.Walk.enter.Goals as goal
 
 pub returns-clause-ok : goal.returns-clause-ok

@@ -1,4 +1,3 @@
-use Rattle.std.proofs.Common.{◌∙◌}
 use Rattle.tree_text.proofs.Walking.{leave_none, leave_some}
 use Rattle.tree_text.proofs.walk.Walk.leave.Goals as goal
 
