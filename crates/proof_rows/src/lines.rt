@@ -2,9 +2,10 @@
 
 use given_text::{given, given_law};
 use proof_text::{
-    Refusal, charges, charges_law, log, log_law, solution, solution_law, written_law,
+    Refusal, charges, charges_law, part_law, said_law, solution, solution_law, written_law,
 };
 use std::alloc::{AllocError, Global};
+use tree_lines::log_line;
 
 // The place of a refusal in a text; 1,000 for want of memory.
 fn place(text: &str, refusal: Refusal) -> usize {
@@ -22,9 +23,9 @@ fn charges_at(text: &str) -> usize {
     }
 }
 
-// The same of a line `log`.
+// The same of a line `log`, in a text of two parts.
 fn log_at(alloc: Global, text: &str) -> usize {
-    match log(alloc, text.as_bytes()) {
+    match log_line(alloc, text.as_bytes(), 2) {
         Ok(_) => 2000,
         Err(refusal) => place(text, refusal),
     }
@@ -66,7 +67,8 @@ fn charges_are_numbers_up_to_a_limit(rt: HostRuntime) -> Result<(), AllocError> 
 
 #[test]
 fn logs_are_entries(rt: HostRuntime) -> Result<(), AllocError> {
-    log_law();
+    said_law();
+    part_law();
     for (text, at) in [
         ("log\n", 2000),
         ("log e0 n1 m0,2 s3 o x d\n", 2000),
@@ -75,6 +77,10 @@ fn logs_are_entries(rt: HostRuntime) -> Result<(), AllocError> {
         ("log e00\n", 4),
         ("log c0\n", 4),
         ("log e0", 6),
+        ("log u1\n", 2000),
+        ("log u2\n", 4),
+        ("log u1 e0\n", 6),
+        ("log e0 u1\n", 7),
     ] {
         assert_eq!(rt; log_at(rt.alloc(), text), at, "at {text}");
     }

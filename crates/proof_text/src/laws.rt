@@ -1,8 +1,9 @@
 // What the definition of tokens means for bytes.
 
-ghost use Rattle.proof_text.specs.Lines.{AnyEntries, AreValues, charges_text, head_text, IsCharges, IsFormat, log_text, none_text, part_text, parts_text, solution_text, use_text};
+ghost use Rattle.proof_text.specs.Lines.{AreValues, charges_text, head_text, IsCharges, IsFormat, IsPart, IsSaid, log_text, none_text, part_text, parts_text, said_text, solution_text, use_text};
 ghost use Rattle.proof_text.specs.Reading.{Cuts, IsRefusedAt};
 ghost use Rattle.proof_text.specs.Spellings.{AreSpaced, IsEntry, IsGood, spelled};
+ghost use Rattle.proof_text.specs.declared.part_lines.SaidLog.{SaidLog};
 ghost use Rattle.proof_text.specs.declared.tokens.Token.{Token};
 ghost use Rattle.proof_text.specs.declared.tokens.Token.TheVariants as t;
 ghost use Rattle.purse.specs.declared.log.Entry.{Entry};
@@ -15,16 +16,17 @@ pub fn spelling_law()
     ensures { (xs : List Token) (bytes rest : List ℕ) → AllByRecursion IsGood xs → Cuts xs bytes rest → bytes ≡ spelled xs ++ rest }
 {}
 
-/// A line `log` that bytes begin with is the only one, and it is not refused.
-pub fn log_law()
-    ensures one { (es fs : List Entry) (bytes r s : List ℕ) → Cuts (log_text es) bytes r → Cuts (log_text fs) bytes s → (es ≡ fs) × (r ≡ s) }
-    ensures taken { (es : List Entry) (bytes rest : List ℕ) (left : ℕ) → Cuts (log_text es) bytes rest → IsRefusedAt AnyEntries log_text bytes left → ⊥ }
+/// What bytes begin with behind the word of a line with a log, in a text of so many parts, is the only such log, and it is not
+/// refused.
+pub fn said_law()
+    ensures one { (parts : ℕ) (u v : SaidLog) (bytes r s : List ℕ) → IsSaid parts u → IsSaid parts v → Cuts (said_text u) bytes r → Cuts (said_text v) bytes s → (u ≡ v) × (r ≡ s) }
+    ensures taken { (parts : ℕ) (u : SaidLog) (bytes rest : List ℕ) (left : ℕ) → IsSaid parts u → Cuts (said_text u) bytes rest → IsRefusedAt (IsSaid parts) said_text bytes left → ⊥ }
 {}
 
-/// A line `none` that bytes begin with is the only one, and it is not refused.
-pub fn none_law()
-    ensures one { (es fs : List Entry) (bytes r s : List ℕ) → Cuts (none_text es) bytes r → Cuts (none_text fs) bytes s → (es ≡ fs) × (r ≡ s) }
-    ensures taken { (es : List Entry) (bytes rest : List ℕ) (left : ℕ) → Cuts (none_text es) bytes rest → IsRefusedAt AnyEntries none_text bytes left → ⊥ }
+/// A line `part` that bytes begin with is the only one, and it is not refused.
+pub fn part_law()
+    ensures one { (es fs : List Entry) (bytes r s : List ℕ) → IsPart es → IsPart fs → Cuts (part_text es) bytes r → Cuts (part_text fs) bytes s → (es ≡ fs) × (r ≡ s) }
+    ensures taken { (es : List Entry) (bytes rest : List ℕ) (left : ℕ) → IsPart es → Cuts (part_text es) bytes rest → IsRefusedAt IsPart part_text bytes left → ⊥ }
 {}
 
 /// A line `charges` that bytes begin with is the only one, and it is not refused.

@@ -13,9 +13,9 @@ mod words;
 mod writing;
 
 pub use laws::{
-    charges_law, cutting_law, head_law, log_law, none_law, solution_law, spelling_law, written_law,
+    charges_law, cutting_law, head_law, part_law, said_law, solution_law, spelling_law, written_law,
 };
-pub use lines::{charges, entries, head, log, none};
+pub use lines::{charges, entries, head};
 pub use numbers::{counted, position, solution, value, values};
 pub use part_lines::{SaidLog, part, parts, said};
 pub use reading::{Refusal, next};

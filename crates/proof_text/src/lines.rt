@@ -1,14 +1,12 @@
 // The lines of a proof that speak of no sequent, read.
 
-ghost use Rattle.proof_text.specs.Lines.{AnyEntries, charges_text, entries_text, head_text, IsCharges, IsFormat, IsIn, log_text, none_text, numbered_text};
+ghost use Rattle.proof_text.specs.Lines.{AnyEntries, charges_text, entries_text, head_text, IsCharges, IsFormat, IsIn, numbered_text};
 ghost use Rattle.proof_text.specs.Reading.{Cuts, Refuses};
 ghost use Rattle.std.specs.Prelude.{◌≤◌, IfErr, IfOk};
 
 use crate::reading::Refusal;
-use crate::single::{
-    blank, charges_word, entry, goes_on, line_feed, log_word, none_word, number_between, proof_word,
-};
-use purse::{ElimLog, Entry};
+use crate::single::{blank, charges_word, entry, goes_on, line_feed, number_between, proof_word};
+use purse::Entry;
 use sqlite_items::Items;
 use std::alloc::Global;
 
@@ -31,26 +29,6 @@ pub fn entries(alloc: Global, text: &[u8]) -> Result<(Items<Entry>, &[u8]), Refu
         found.push(step)?;
         rest = behind;
     }
-}
-
-/// The line `log`, with its entries, and the text behind it.
-pub fn log(alloc: Global, text: &[u8]) -> Result<(ElimLog, &[u8]), Refusal>
-    ensures found { IfOk result (λ x. Cuts (log_text x.0.entries) text.now x.1.now) }
-    ensures first { IfErr result (Refuses AnyEntries log_text text.now) }
-{
-    let inner = log_word(text)?;
-    let (entries, rest) = entries(alloc, inner)?;
-    Ok((ElimLog { entries }, rest))
-}
-
-/// The line `none`, with the entries of its log, and the text behind it.
-pub fn none(alloc: Global, text: &[u8]) -> Result<(ElimLog, &[u8]), Refusal>
-    ensures found { IfOk result (λ x. Cuts (none_text x.0.entries) text.now x.1.now) }
-    ensures first { IfErr result (Refuses AnyEntries none_text text.now) }
-{
-    let inner = none_word(text)?;
-    let (entries, rest) = entries(alloc, inner)?;
-    Ok((ElimLog { entries }, rest))
 }
 
 /// A blank, a number from `least` to `most` and the end of the line: the number, and the text behind it.
