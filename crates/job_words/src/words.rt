@@ -43,7 +43,7 @@ pub fn words_law()
     ensures { (words : List Text) (a : Task) (b : Task) → NamesJob words a → NamesJob words b → a ≡ b }
 {}
 
-// `solve FILE [--budget N] [--proof]`
+// `solve FILE [--budget N] [--proof] [--short]`, with one of the two flags at most
 fn solve_job(alloc: Global, line: &[String]) -> Result<Job, WordsFault>
     ensures named { IfOk result (λ job. NamesJob (codes "solve" ∷ map string_bytes line.now) (task_of job)) }
     ensures refused { IfErr result (λ e. e ≡ WordsFault.Words → (task : Task) → NamesJob (codes "solve" ∷ map string_bytes line.now) task → ⊥) }
@@ -52,10 +52,15 @@ fn solve_job(alloc: Global, line: &[String]) -> Result<Job, WordsFault>
     let file = text_in(alloc, &matches, "FILE")?;
     let budget = budget_in(&matches)?;
     let proof = matches.get_flag("proof");
+    let short = matches.get_flag("short");
+    if proof && short {
+        return Err(WordsFault::Words);
+    }
     Ok(Job::Solve {
         file,
         budget,
         proof,
+        short,
     })
 }
 
