@@ -3,7 +3,7 @@
 ghost use Rattle.clap.specs.Words.{first_value, found_of};
 ghost use Rattle.job_words.specs.Jobs.{IsBudget, IsNumber, NamesJob, Task, task_of};
 ghost use Rattle.job_words.specs.Uses.{listed, Text};
-ghost use Rattle.std.specs.Prelude.{◌≡◌, ◌∷◌, ℕ, List, map, codes, string_bytes, None, Some, IfOk, IfErr, MatchResult};
+ghost use Rattle.std.specs.Prelude.{◌≡◌, ◌∷◌, ◌&&◌, ℕ, List, map, codes, string_bytes, true, false, None, Some, IfOk, IfErr, MatchResult};
 
 use crate::commands::{check_command, drill_command, elim_command, read, solve_command};
 use crate::jobs::{Job, WordsFault};
@@ -53,9 +53,7 @@ fn solve_job(alloc: Global, line: &[String]) -> Result<Job, WordsFault>
     let budget = budget_in(&matches)?;
     let proof = matches.get_flag("proof");
     let short = matches.get_flag("short");
-    if proof && short {
-        return Err(WordsFault::Words);
-    }
+    one_form(proof, short)?;
     Ok(Job::Solve {
         file,
         budget,
@@ -106,6 +104,16 @@ fn text_in(alloc: Global, matches: &ArgMatches<'_>, id: &str) -> Result<String, 
         Some(text) => Ok(String::from_str(alloc, text)?),
         None => Err(WordsFault::Words),
     }
+}
+
+// The flags of `solve` ask for the proof in one form at most.
+fn one_form(proof: bool, short: bool) -> Result<(), WordsFault>
+    ensures { MatchResult result (λ _. (proof && short) ≡ false) (λ e. (proof && short) ≡ true) }
+{
+    if proof && short {
+        return Err(WordsFault::Words);
+    }
+    Ok(())
 }
 
 // The number that the operand of `drill` writes.
