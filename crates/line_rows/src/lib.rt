@@ -5,6 +5,8 @@
 mod files;
 #[cfg(test)]
 mod lines;
+#[cfg(test)]
+mod parts;
 mod telling;
 #[cfg(test)]
 mod trees;
