@@ -16,7 +16,7 @@ pub fn answer(alloc: Global, count: u32, budget: u64) -> Result<Output, Memory>
     ensures { IfOk result (λ output. IsDrilled budget count (answer_of output)) }
 {
     let problem = drill(alloc, count)?;
-    let solved = solve_job::answer(alloc, problem.as_slice(), budget, false)?;
+    let solved = solve_job::answer(alloc, problem.as_slice(), budget, None)?;
     told(alloc, count, &solved)
 }
 

@@ -89,6 +89,13 @@ flag_is name ids options line f given takes found on off =
     pick true e = on e
     pick false e = off e
 
+-- a number tells one flag
+pub one_flag : (p q : Bool) → tally p ≡ tally q → p ≡ q
+one_flag true true e = refl
+one_flag false false e = refl
+one_flag true false e = absurd (omega arith)
+one_flag false true e = absurd (omega arith)
+
 -- a flag is raised once at most
 pub flag_once : (n : ℕ) (given : Bool) → n ≡ tally given → n ≤ 1
 flag_once n true e = omega arith

@@ -1,28 +1,29 @@
 -- The job that the words after the program's name ask for.
-use Rattle.std.specs.Prelude.{◌≡◌, ◌≤◌, ℕ, Bool, true, false, List, [], ◌∷◌, codes, length, string_bytes}
+use Rattle.std.specs.Prelude.{◌≡◌, ◌≤◌, ◌&&◌, ℕ, Bool, true, false, List, [], ◌∷◌, codes, length, string_bytes}
 use Rattle.std.specs.Str.Parse.{digits_value, IsNumeral}
 use Rattle.job_words.specs.declared.jobs.Job.{Job}
 use Rattle.job_words.specs.declared.jobs.Job.TheVariants as job
 use Rattle.job_words.specs.Uses.{Text, Use, Options, Spells, operands, tally, times, values_of}
 
--- a job by the bytes of its words: to solve the problem in a file, with its proof or without, or to give its constraint, within a
--- budget, or to check the proof in a file, or to solve the problem of a size that the program makes, within a budget
+-- a job by the bytes of its words: to solve the problem in a file, with its proof, or that in the short form, or without, or to
+-- give its constraint, within a budget, or to check the proof in a file, or to solve the problem of a size that the program makes,
+-- within a budget
 pub data Task : Type 0 where
-  solve : (file : Text) → (budget : ℕ) → (proof : Bool) → Task
+  solve : (file : Text) → (budget : ℕ) → (proof short : Bool) → Task
   eliminate : (file : Text) → (budget : ℕ) → Task
   check : (file proof : Text) → Task
   drill : (count budget : ℕ) → Task
 
 -- a job as its words
 abbrev pub task_of : Job → Task
-task_of (job.Solve file budget proof) = solve (string_bytes file) budget proof
+task_of (job.Solve file budget proof short) = solve (string_bytes file) budget proof short
 task_of (job.Elim file budget) = eliminate (string_bytes file) budget
 task_of (job.Check file proof) = check (string_bytes file) (string_bytes proof)
 task_of (job.Drill count budget) = drill count budget
 
 -- the files that a job reads, in their order
 abbrev pub files_of : Task → List Text
-files_of (solve file budget proof) = file ∷ []
+files_of (solve file budget proof short) = file ∷ []
 files_of (eliminate file budget) = file ∷ []
 files_of (check file proof) = file ∷ proof ∷ []
 files_of (drill count budget) = []
@@ -45,17 +46,19 @@ IsBudget (text ∷ more ∷ rest) n = ⊥
 abbrev pub budget_option : Options
 budget_option = (codes "budget", true) ∷ []
 
--- the options of `solve`: a budget, and a flag for the proof
+-- the options of `solve`: a budget, and a flag for each form of the proof
 abbrev pub solve_options : Options
-solve_options = (codes "budget", true) ∷ (codes "proof", false) ∷ []
+solve_options = (codes "budget", true) ∷ (codes "proof", false) ∷ (codes "short", false) ∷ []
 
--- the words behind `solve` name a file and a budget, and ask for the proof or not
-pub record NamesSolve (line : List Text) (file : Text) (budget : ℕ) (proof : Bool) : Type 0 where
+-- the words behind `solve` name a file and a budget, and ask for the proof in one form at most
+pub record NamesSolve (line : List Text) (file : Text) (budget : ℕ) (proof short : Bool) : Type 0 where
   pub us : List Use
   pub spells : Spells solve_options line us
   pub file_is : operands us ≡ file ∷ []
   pub budget_is : IsBudget (values_of (codes "budget") us) budget
   pub proof_is : times (codes "proof") us ≡ tally proof
+  pub short_is : times (codes "short") us ≡ tally short
+  pub one_form : (proof && short) ≡ false
 
 -- the words behind `elim` name a file and a budget
 pub record NamesElim (line : List Text) (file : Text) (budget : ℕ) : Type 0 where
@@ -82,7 +85,7 @@ pub record NamesDrill (line : List Text) (count budget : ℕ) : Type 0 where
 -- the words name the job
 abbrev pub NamesJob : List Text → Task → Type 0
 NamesJob [] task = ⊥
-NamesJob (command ∷ line) (solve file budget proof) = (command ≡ codes "solve") × NamesSolve line file budget proof
+NamesJob (command ∷ line) (solve file budget proof short) = (command ≡ codes "solve") × NamesSolve line file budget proof short
 NamesJob (command ∷ line) (eliminate file budget) = (command ≡ codes "elim") × NamesElim line file budget
 NamesJob (command ∷ line) (check file proof) = (command ≡ codes "check") × NamesCheck line file proof
 NamesJob (command ∷ line) (drill count budget) = (command ≡ codes "drill") × NamesDrill line count budget

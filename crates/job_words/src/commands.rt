@@ -10,7 +10,7 @@ use clap::error::ErrorKind;
 use clap::{Arg, ArgAction, ArgMatches, Command};
 use std::alloc::{AllocError, Global};
 
-// `solve FILE [--budget N] [--proof]`
+// `solve FILE [--budget N] [--proof] [--short]`; `clap` lets both flags through.
 pub(crate) fn solve_command<'a>(alloc: Global) -> Result<Command<'a>, AllocError>
     ensures { IfOk result (λ c. app_of c ≡ command_app (codes "solve") (codes "FILE" ∷ []) solve_options) }
 {
@@ -19,13 +19,17 @@ pub(crate) fn solve_command<'a>(alloc: Global) -> Result<Command<'a>, AllocError
     let proof = Arg::new(alloc, "proof")
         .long("proof")
         .action(ArgAction::SetTrue);
+    let short = Arg::new(alloc, "short")
+        .long("short")
+        .action(ArgAction::SetTrue);
     Command::new(alloc, "solve")
         .no_binary_name(true)
         .disable_help_flag(true)
         .disable_version_flag(true)
         .arg(file)?
         .arg(budget)?
-        .arg(proof)
+        .arg(proof)?
+        .arg(short)
 }
 
 // `check FILE PROOF`

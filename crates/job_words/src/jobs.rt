@@ -7,11 +7,13 @@ use std::alloc::AllocError;
 /// A job that words name.
 #[derive(Debug, Drop)]
 pub enum Job {
-    /// To say whether the problem in this file is valid, within a budget, and with its proof where that is asked for.
+    /// To say whether the problem in this file is valid, within a budget, and with its proof, or its proof in the short form, where
+    /// one of them is asked for.
     Solve {
         file: String,
         budget: u64,
         proof: bool,
+        short: bool,
     },
     /// To give the constraint of the problem in this file, within a budget.
     Elim {

@@ -3,7 +3,7 @@
 ghost use Rattle.clap.specs.Words.{first_value, found_of};
 ghost use Rattle.job_words.specs.Jobs.{IsBudget, IsNumber, NamesJob, Task, task_of};
 ghost use Rattle.job_words.specs.Uses.{listed, Text};
-ghost use Rattle.std.specs.Prelude.{◌≡◌, ◌∷◌, ℕ, List, map, codes, string_bytes, None, Some, IfOk, IfErr, MatchResult};
+ghost use Rattle.std.specs.Prelude.{◌≡◌, ◌∷◌, ◌&&◌, ℕ, List, map, codes, string_bytes, true, false, None, Some, IfOk, IfErr, MatchResult};
 
 use crate::commands::{check_command, drill_command, elim_command, read, solve_command};
 use crate::jobs::{Job, WordsFault};
@@ -43,7 +43,7 @@ pub fn words_law()
     ensures { (words : List Text) (a : Task) (b : Task) → NamesJob words a → NamesJob words b → a ≡ b }
 {}
 
-// `solve FILE [--budget N] [--proof]`
+// `solve FILE [--budget N] [--proof] [--short]`, with one of the two flags at most
 fn solve_job(alloc: Global, line: &[String]) -> Result<Job, WordsFault>
     ensures named { IfOk result (λ job. NamesJob (codes "solve" ∷ map string_bytes line.now) (task_of job)) }
     ensures refused { IfErr result (λ e. e ≡ WordsFault.Words → (task : Task) → NamesJob (codes "solve" ∷ map string_bytes line.now) task → ⊥) }
@@ -52,10 +52,13 @@ fn solve_job(alloc: Global, line: &[String]) -> Result<Job, WordsFault>
     let file = text_in(alloc, &matches, "FILE")?;
     let budget = budget_in(&matches)?;
     let proof = matches.get_flag("proof");
+    let short = matches.get_flag("short");
+    one_form(proof, short)?;
     Ok(Job::Solve {
         file,
         budget,
         proof,
+        short,
     })
 }
 
@@ -101,6 +104,16 @@ fn text_in(alloc: Global, matches: &ArgMatches<'_>, id: &str) -> Result<String, 
         Some(text) => Ok(String::from_str(alloc, text)?),
         None => Err(WordsFault::Words),
     }
+}
+
+// The flags of `solve` ask for the proof in one form at most.
+fn one_form(proof: bool, short: bool) -> Result<(), WordsFault>
+    ensures { MatchResult result (λ _. (proof && short) ≡ false) (λ e. (proof && short) ≡ true) }
+{
+    if proof && short {
+        return Err(WordsFault::Words);
+    }
+    Ok(())
 }
 
 // The number that the operand of `drill` writes.

@@ -9,7 +9,7 @@ use tree_reading::read_tree;
 
 /// What a file is: a proof for so many charges, or refused at a place.
 #[derive(Clone, Copy, Debug, PartialEq, Eq)]
-enum Answer {
+pub enum Answer {
     Charges(u64),
     Syntax(u64),
     Deep(u64),
@@ -24,14 +24,14 @@ fn refused(refusal: ProofRefusal) -> Answer {
     }
 }
 
-fn by_lines(alloc: Global, file: &str) -> Answer {
+pub fn by_lines(alloc: Global, file: &str) -> Answer {
     match Lines::new(alloc, file.as_bytes()) {
         Ok(lines) => Answer::Charges(lines.charges()),
         Err(refusal) => refused(refusal),
     }
 }
 
-fn by_tree(alloc: Global, file: &str) -> Answer {
+pub fn by_tree(alloc: Global, file: &str) -> Answer {
     match read_tree(alloc, file.as_bytes()) {
         Ok(tree) => Answer::Charges(tree.charges),
         Err(refusal) => refused(refusal),

@@ -6,6 +6,8 @@ mod asked;
 mod files;
 #[cfg(test)]
 mod lines;
+#[cfg(test)]
+mod parts;
 mod telling;
 #[cfg(test)]
 mod trees;

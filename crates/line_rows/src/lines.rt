@@ -7,7 +7,7 @@ use std::alloc::{AllocError, Global};
 
 /// What comes next: a rule with its position and the number of its premises, or another line, which is told by its length.
 #[derive(Clone, Copy, Debug, PartialEq, Eq)]
-enum Step {
+pub enum Step {
     Alpha(u32, u32),
     Close(u32),
     OtherRow,
@@ -18,7 +18,7 @@ enum Step {
     Memory,
 }
 
-fn next_step<L: ProofLines>(alloc: Global, lines: &mut L) -> Step {
+pub fn next_step<L: ProofLines>(alloc: Global, lines: &mut L) -> Step {
     match lines.next(alloc) {
         Ok(Some(Line::Row(Pick::Alpha(position), count))) => Step::Alpha(position, count),
         Ok(Some(Line::Row(Pick::Close, count))) => Step::Close(count),

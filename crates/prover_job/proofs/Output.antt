@@ -1,5 +1,5 @@
--- The whole output of `solve --proof` is accepted as a proof's file.
-use Rattle.std.proofs.Common.{ℕ, ℤ, ◌≡◌, ◌≢◌, ◌∙◌, ◌⊎◌, inl, inr, true, List, [], ◌∷◌, ◌++◌, refl, sym, ap, subst, codes}
+-- The whole output of `solve --proof` and of `solve --short` is accepted as a proof's file.
+use Rattle.std.proofs.Common.{ℕ, ℤ, ◌≡◌, ◌≢◌, ◌∙◌, ◌⊎◌, inl, inr, Some, List, [], ◌∷◌, ◌++◌, refl, sym, ap, subst, codes}
 use Rattle.std.specs.List.{concat}
 use Rattle.purse.specs.Trace.{Funds}
 use Rattle.proof_tree.specs.declared.run.Verdict.{Verdict}
@@ -21,6 +21,7 @@ use Rattle.problem_file.proofs.Bytes.{reads_identifiers}
 use Rattle.search.specs.Run as run
 use Rattle.search.specs.Run.{Ending}
 use Rattle.solve_job.specs.Proved.{IsParted, IsSolvedAs, PrintsProofOf}
+use Rattle.solve_job.specs.declared.proving.ProofForm.{ProofForm}
 use Rattle.solve_job.specs.Solved.{AnswersEnd, IsSolved, closed, valid, invalid, saturated, branch, steps as cut_by_steps, overflow as out_of_range, run_end}
 use Rattle.solve_job.proofs.Printing.{parted}
 use Rattle.check_job.specs.Checked.{IsChecked}
@@ -92,8 +93,8 @@ solved_lines budget bytes a (posed p h (runs f k)) good = end_lines p (run_end b
 -- ---- the proof behind them
 
 -- behind such lines, what is printed of a proof is the part of the file that holds it
-whole_accepted : (bytes text part : List ℕ) (v : Verdict) → IsOfLines text → PrintsProofOf bytes v part → (b : Answer) → IsChecked (text ++ part) bytes b → b.status ≡ 0
-whole_accepted bytes text part v lines h b is =
+whole_accepted : (form : ProofForm) (bytes text part : List ℕ) (v : Verdict) → IsOfLines text → PrintsProofOf form bytes v part → (b : Answer) → IsChecked (text ++ part) bytes b → b.status ≡ 0
+whole_accepted form bytes text part v lines h b is =
     let printed = h.prints in
     let same : body (text ++ part) ≡ printed.text = ap (λ t. body (text ++ t)) printed.line ∙ part_after text printed.text lines in
     (decided (text ++ part) bytes b h.problem is h.poses h.fits).accepts.1 (record {
@@ -105,8 +106,8 @@ whole_accepted bytes text part v lines h b is =
       proves = h.proves;
     })
 
-accepted_by : (budget : ℕ) (bytes : List ℕ) (a b : Answer) → IsParted true budget bytes a → IsChecked a.text bytes b → (a.status ≡ 0) ⊎ (a.status ≡ 1) → b.status ≡ 0
-accepted_by budget bytes a b q is good = by good
+accepted_by : (form : ProofForm) (budget : ℕ) (bytes : List ℕ) (a b : Answer) → IsParted (Some form) budget bytes a → IsChecked a.text bytes b → (a.status ≡ 0) ⊎ (a.status ≡ 1) → b.status ≡ 0
+accepted_by form budget bytes a b q is good = by good
   where
     checked : IsChecked ((q.plain).text ++ q.part) bytes b
     checked = subst (λ t. IsChecked t bytes b) (ap text_of q.whole) is
@@ -114,10 +115,10 @@ accepted_by budget bytes a b q is good = by good
     by : (a.status ≡ 0) ⊎ (a.status ≡ 1) → b.status ≡ 0
     by (inl z) =
         let zero : (q.plain).status ≡ 0 = sym (ap status_of q.whole) ∙ z in
-        let v = q.valid refl zero in whole_accepted bytes (q.plain).text q.part (Valid v.0) (solved_lines budget bytes q.plain q.solved (inl zero)) v.1 b checked
+        let v = q.valid form refl zero in whole_accepted form bytes (q.plain).text q.part (Valid v.0) (solved_lines budget bytes q.plain q.solved (inl zero)) v.1 b checked
     by (inr z) =
         let one : (q.plain).status ≡ 1 = sym (ap status_of q.whole) ∙ z in
-        whole_accepted bytes (q.plain).text q.part Invalid (solved_lines budget bytes q.plain q.solved (inr one)) (q.invalid refl one) b checked
+        whole_accepted form bytes (q.plain).text q.part Invalid (solved_lines budget bytes q.plain q.solved (inr one)) (q.invalid form refl one) b checked
 
-pub output_accepted : (budget : ℕ) (bytes : List ℕ) (a b : Answer) → IsSolvedAs true budget bytes a → (a.status ≡ 0) ⊎ (a.status ≡ 1) → IsChecked a.text bytes b → b.status ≡ 0
-output_accepted budget bytes a b solved good is = accepted_by budget bytes a b (parted true budget bytes a solved) is good
+pub output_accepted : (form : ProofForm) (budget : ℕ) (bytes : List ℕ) (a b : Answer) → IsSolvedAs (Some form) budget bytes a → (a.status ≡ 0) ⊎ (a.status ≡ 1) → IsChecked a.text bytes b → b.status ≡ 0
+output_accepted form budget bytes a b solved good is = accepted_by form budget bytes a b (parted (Some form) budget bytes a solved) is good

@@ -1,5 +1,5 @@
 -- What a run answers, and what its end means.
-use Rattle.std.proofs.Common.{◌≡◌, ◌≢◌, ◌≤◌, ◌⊎◌, inl, inr, ℕ, ℤ, Bool, true, false, List, [], ◌∷◌, ◌++◌, length, Option, Result, Ok, Err, IfOk, refl, sym, ◌∙◌, ap, subst, append-nil, arith}
+use Rattle.std.proofs.Common.{◌≡◌, ◌≢◌, ◌≤◌, ◌⊎◌, inl, inr, ℕ, ℤ, List, [], ◌∷◌, ◌++◌, length, Option, Some, None, Result, Ok, Err, IfOk, refl, sym, ◌∙◌, ap, subst, append-nil, arith}
 use Rattle.typed_formula.specs.Truth.{Meaning}
 use Rattle.pri_typing.specs.Problems.{meaning_of}
 use Rattle.prover_io.specs.Outside.{IsLonger, IsWhole}
@@ -13,6 +13,7 @@ use Rattle.answers.proofs.Meeting.{long_answered, meets_more, whole_answered}
 use Rattle.job_words.specs.Jobs.{Task, solve, eliminate, check, drill, IsBudget, NamesJob}
 use Rattle.problem_gen.specs.Drills.{drill_text}
 use Rattle.solve_job.specs.Proved.{IsSolvedAs, PrintsProofOf}
+use Rattle.solve_job.specs.declared.proving.ProofForm.{ProofForm}
 use Rattle.proof_tree.specs.declared.run.Verdict.TheVariants as verdict
 use Rattle.solve_job.specs.Solved.{IsSolved}
 use Rattle.solve_job.proofs.Printing.{parted}
@@ -37,7 +38,7 @@ use Rattle.elim_job.proofs.Causing as elim_causing
 use Rattle.elim_job.proofs.Exactly.{eliminated_status}
 use Rattle.elim_job.proofs.Meaning.{means}
 use Rattle.prover_job.specs.declared.tasks.Stop.{Stop}
-use Rattle.prover_job.specs.Runs.{AnswersTask, AnswersWithProof, IsWithin, SaysChecked, SaysConstraint, SaysValid, SaysRefuted, IsSolveCaused, IsSolveCausedAs, IsElimCaused, IsCheckCaused, IsDrillCaused}
+use Rattle.prover_job.specs.Runs.{AnswersTask, AnswersWithProof, IsWithin, SaysChecked, SaysConstraint, SaysValid, SaysRefuted, IsSolveCaused, IsSolveCausedAs, IsElimCaused, IsCheckCaused, IsDrillCaused, asked_form}
 
 -- ---- files
 
@@ -71,7 +72,7 @@ bytes_status : (most : ℕ) (P : List ℕ → Answer → Type 0) → ((bytes : L
 bytes_status most P known bytes a (too_long l e) = subst (λ b. IsAnswerStatus b.status) (sym e) refl
 bytes_status most P known bytes a (within l is) = known bytes a is
 
-solved_as_status : (asked : Bool) (budget : ℕ) (bytes : List ℕ) (a : Answer) → IsSolvedAs asked budget bytes a → IsAnswerStatus a.status
+solved_as_status : (asked : Option ProofForm) (budget : ℕ) (bytes : List ℕ) (a : Answer) → IsSolvedAs asked budget bytes a → IsAnswerStatus a.status
 solved_as_status asked budget bytes a h = let s = parted asked budget bytes a h in subst (λ b. IsAnswerStatus b.status) (sym s.whole) (solved_status budget bytes s.plain s.solved)
 
 with_proof_status : (told : Option (List ℕ)) (bytes : List ℕ) (a : Answer) → AnswersWithProof told bytes a → IsAnswerStatus a.status
@@ -79,7 +80,7 @@ with_proof_status told bytes a h = bytes_status most_of_proof (λ proof. IsCheck
 
 -- each answer has a status of answers
 pub task_status : (bytes_of : List ℕ → Option (List ℕ)) (task : Task) (a : Answer) → AnswersTask bytes_of task a → IsAnswerStatus a.status
-task_status bytes_of (solve file budget proof) a h = bytes_status most_of_file (IsSolvedAs proof budget) (solved_as_status proof budget) h.bytes a h.is
+task_status bytes_of (solve file budget proof short) a h = bytes_status most_of_file (IsSolvedAs (asked_form proof short) budget) (solved_as_status (asked_form proof short) budget) h.bytes a h.is
 task_status bytes_of (eliminate file budget) a h = bytes_status most_of_file (IsEliminated budget) (eliminated_status budget) h.bytes a h.is
 task_status bytes_of (check file proof) a h = bytes_status most_of_file (AnswersWithProof (bytes_of proof)) (with_proof_status (bytes_of proof)) h.bytes a h.is
 task_status bytes_of (drill count budget) a h = subst (λ b. IsAnswerStatus b.status) (sym h.drilled) (solved_status budget (drill_text count) h.solved h.solves)
@@ -100,16 +101,16 @@ meets_answer P a b ends before after is same met = meets_more (λ answer. answer
 -- ---- what a run's end means
 
 -- the answer to the bytes of a file means what answers to shorter ones do, where a long file's means nothing
-record Means (w : Meaning) (asked : Bool) (bytes : List ℕ) (a : Answer) : Type 0 where
+record Means (w : Meaning) (asked : Option ProofForm) (bytes : List ℕ) (a : Answer) : Type 0 where
   text : List ℕ
   part : List ℕ
   whole : a.text ≡ text ++ part
-  none : asked ≡ false → part ≡ []
+  none : asked ≡ None → part ≡ []
   headline : Headline w bytes (record { status = a.status; text = text })
-  valid : asked ≡ true → a.status ≡ 0 → (vs : List ℤ) × PrintsProofOf bytes (verdict.Valid vs) part
-  invalid : asked ≡ true → a.status ≡ 1 → PrintsProofOf bytes verdict.Invalid part
+  valid : (form : ProofForm) → asked ≡ Some form → a.status ≡ 0 → (vs : List ℤ) × PrintsProofOf form bytes (verdict.Valid vs) part
+  invalid : (form : ProofForm) → asked ≡ Some form → a.status ≡ 1 → PrintsProofOf form bytes verdict.Invalid part
 
-bytes_headline : (w : Meaning) (asked : Bool) (budget : ℕ) (bytes : List ℕ) (a : Answer) → AnswersBytes most_of_file (IsSolvedAs asked budget) bytes a → Means w asked bytes a
+bytes_headline : (w : Meaning) (asked : Option ProofForm) (budget : ℕ) (bytes : List ℕ) (a : Answer) → AnswersBytes most_of_file (IsSolvedAs asked budget) bytes a → Means w asked bytes a
 bytes_headline w asked budget bytes a (too_long l e) = record {
   text = a.text;
   part = [];
@@ -119,8 +120,8 @@ bytes_headline w asked budget bytes a (too_long l e) = record {
     valid = λ z. let bad = sym z ∙ ap (λ b. b.status) e in absurd cc;
     invalid = λ z. let bad = sym z ∙ ap (λ b. b.status) e in absurd cc;
   };
-  valid = λ on z. let bad = sym z ∙ ap (λ b. b.status) e in absurd cc;
-  invalid = λ on z. let bad = sym z ∙ ap (λ b. b.status) e in absurd cc;
+  valid = λ form on z. let bad = sym z ∙ ap (λ b. b.status) e in absurd cc;
+  invalid = λ form on z. let bad = sym z ∙ ap (λ b. b.status) e in absurd cc;
 }
 bytes_headline w asked budget bytes a (within l is) =
     let s = parted asked budget bytes a is in
@@ -131,8 +132,8 @@ bytes_headline w asked budget bytes a (within l is) =
       whole = ap (λ b. b.text) s.whole;
       none = s.none;
       headline = subst (λ n. Headline w bytes (record { status = n; text = (s.plain).text })) (sym status) (headline w budget bytes s.plain s.solved);
-      valid = λ on z. s.valid on (sym status ∙ z);
-      invalid = λ on z. s.invalid on (sym status ∙ z);
+      valid = λ form on z. s.valid form on (sym status ∙ z);
+      invalid = λ form on z. s.invalid form on (sym status ∙ z);
     }
 
 bytes_means : (w : Meaning) (budget : ℕ) (bytes : List ℕ) (a : Answer) → AnswersBytes most_of_file (IsEliminated budget) bytes a → ElimMeans w bytes a
@@ -144,7 +145,7 @@ given_to : (P : Answer → Type 0) (ends n : ℕ) (before after : Option (List �
 given_to P ends n before after met e six seven eight = met.whole (λ z. six (sym e ∙ z)) (λ z. seven (sym e ∙ z)) (λ z. eight (sym e ∙ z))
 
 -- at status 0 a text says of the problem that it is valid
-pub says_valid : (w : Meaning) (asked : Bool) (budget : ℕ) (told : Option (List ℕ)) (ends : ℕ) (before after : Option (List ℕ)) → Meets (AnswersSource most_of_file (IsSolvedAs asked budget) told) ends before after
+pub says_valid : (w : Meaning) (asked : Option ProofForm) (budget : ℕ) (told : Option (List ℕ)) (ends : ℕ) (before after : Option (List ℕ)) → Meets (AnswersSource most_of_file (IsSolvedAs asked budget) told) ends before after
     → ends ≡ 0 → SaysValid w asked told before after
 says_valid w asked budget told ends before after met z =
     let given = given_to _ ends 0 before after met z (λ e. cc) (λ e. cc) (λ e. cc) in
@@ -157,11 +158,11 @@ says_valid w asked budget told ends before after met z =
       put = subst (PutsAll before after) m.whole given.put;
       valid = (m.headline).valid (sym given.status ∙ z);
       none = m.none;
-      proved = λ on. m.valid on (sym given.status ∙ z);
+      proved = λ form on. m.valid form on (sym given.status ∙ z);
     }
 
 -- at status 1 the problem is refuted
-pub says_refuted : (asked : Bool) (budget : ℕ) (told : Option (List ℕ)) (ends : ℕ) (before after : Option (List ℕ)) → Meets (AnswersSource most_of_file (IsSolvedAs asked budget) told) ends before after → ends ≡ 1
+pub says_refuted : (asked : Option ProofForm) (budget : ℕ) (told : Option (List ℕ)) (ends : ℕ) (before after : Option (List ℕ)) → Meets (AnswersSource most_of_file (IsSolvedAs asked budget) told) ends before after → ends ≡ 1
     → SaysRefuted asked told before after
 says_refuted asked budget told ends before after met z =
     let given = given_to _ ends 1 before after met z (λ e. cc) (λ e. cc) (λ e. cc) in
@@ -174,7 +175,7 @@ says_refuted asked budget told ends before after met z =
       put = subst (PutsAll before after) m.whole given.put;
       refuted = (m.headline).invalid (sym given.status ∙ z);
       none = m.none;
-      proved = λ on. m.invalid on (sym given.status ∙ z);
+      proved = λ form on. m.invalid form on (sym given.status ∙ z);
     }
 
 -- at status 0 of `check` a text says of the problem what is so
@@ -215,12 +216,12 @@ says_constraint w budget told ends before after met z =
 solve_so : (budget : ℕ) (bytes : List ℕ) (a : Answer) → IsSolved budget bytes a → IsSolveCaused budget bytes a
 solve_so budget bytes a is = record { causes = solve_causing.causes budget bytes a is; decides = solve_causing.decides budget bytes a is; enough = ground_enough budget bytes }
 
-solve_as_so : (asked : Bool) (budget : ℕ) (bytes : List ℕ) (a : Answer) → IsSolvedAs asked budget bytes a → IsSolveCausedAs asked budget bytes a
+solve_as_so : (asked : Option ProofForm) (budget : ℕ) (bytes : List ℕ) (a : Answer) → IsSolvedAs asked budget bytes a → IsSolveCausedAs asked budget bytes a
 solve_as_so asked budget bytes a is =
     let s = parted asked budget bytes a is in
     record { plain = s.plain; part = s.part; whole = s.whole; none = s.none; caused = solve_so budget bytes s.plain s.solved }
 
-pub solve_caused : (asked : Bool) (budget : ℕ) (told : Option (List ℕ)) (ends : ℕ) (before after : Option (List ℕ)) → Meets (AnswersSource most_of_file (IsSolvedAs asked budget) told) ends before after
+pub solve_caused : (asked : Option ProofForm) (budget : ℕ) (told : Option (List ℕ)) (ends : ℕ) (before after : Option (List ℕ)) → Meets (AnswersSource most_of_file (IsSolvedAs asked budget) told) ends before after
     → Meets (AnswersSource most_of_file (IsSolveCausedAs asked budget) told) ends before after
 solve_caused asked budget told ends before after met =
     meets_more _ _ ends before after (source_more most_of_file (IsSolvedAs asked budget) (IsSolveCausedAs asked budget) (solve_as_so asked budget) told) met
@@ -253,7 +254,7 @@ budget_small (text ∷ more ∷ rest) n h = absurd h
 -- the numbers of a job that words name are small enough
 pub named_within : (words : List (List ℕ)) (task : Task) → NamesJob words task → IsWithin task
 named_within [] task h = absurd h
-named_within (command ∷ line) (solve file budget proof) h = budget_small _ budget h.1.budget_is
+named_within (command ∷ line) (solve file budget proof short) h = budget_small _ budget h.1.budget_is
 named_within (command ∷ line) (eliminate file budget) h = let small = budget_small _ budget h.1.budget_is in omega (arith, small)
 named_within (command ∷ line) (check file proof) h = tt
 named_within (command ∷ line) (drill count budget) h = (h.1.count_is.within, budget_small _ budget h.1.budget_is)
@@ -265,6 +266,6 @@ pub met_as : (bytes_of : List ℕ → Option (List ℕ)) (words : List (List ℕ
 met_as bytes_of words job task ends before after one named names met = subst (λ t. Meets (AnswersTask bytes_of t) ends before after) (one words job task named names) met
 
 -- ---- the proof that is printed is accepted
-pub printed_accepted : (bytes : List ℕ) (v : Verdict) (part : List ℕ) (h : PrintsProofOf bytes v part) (a : Answer) → IsChecked (h.prints).text bytes a → a.status ≡ 0
-printed_accepted bytes v part h a is =
+pub printed_accepted : (form : ProofForm) (bytes : List ℕ) (v : Verdict) (part : List ℕ) (h : PrintsProofOf form bytes v part) (a : Answer) → IsChecked (h.prints).text bytes a → a.status ≡ 0
+printed_accepted form bytes v part h a is =
     accepted_text bytes (h.prints).text h.problem h.tree h.conclusion h.charges v a h.poses h.fits (h.prints).holds (h.prints).own h.proves is

@@ -1,5 +1,5 @@
 -- What a run answers to its words over a source of named bytes, and what its end means.
-use Rattle.std.specs.Prelude.{◌≡◌, ◌≤◌, ◌<◌, ◌^◌, ℕ, ℤ, Bool, true, false, List, [], ◌++◌, Option, Some, Contains}
+use Rattle.std.specs.Prelude.{◌≡◌, ◌≤◌, ◌<◌, ◌^◌, ℕ, ℤ, Bool, true, false, List, [], ◌++◌, Option, Some, None, Contains}
 use Rattle.typed_formula.specs.Truth.{Meaning}
 use Rattle.prover_io.specs.Outside.{Broke, IsWhole}
 use Rattle.answers.specs.Answer.{Answer}
@@ -8,6 +8,8 @@ use Rattle.answers.specs.Outside.{PutsAll}
 use Rattle.job_words.specs.Jobs.{Task, solve, eliminate, check, drill, files_of, NamesJob}
 use Rattle.proof_tree.specs.declared.run.Verdict.TheVariants as verdict
 use Rattle.solve_job.specs.Proved.{IsSolvedAs, PrintsProofOf, extended}
+use Rattle.solve_job.specs.declared.proving.ProofForm.{ProofForm}
+use Rattle.solve_job.specs.declared.proving.ProofForm.TheVariants.{Whole, Short}
 use Rattle.check_job.specs.Checked.{IsChecked}
 use Rattle.check_job.specs.Meaning.{Confirms}
 use Rattle.check_job.specs.Causes as check_causes
@@ -30,7 +32,7 @@ NameNoFile words = (task : Task) → NamesJob words task → files_of task ≡ [
 
 -- the numbers of a job are small enough for its work
 abbrev pub IsWithin : Task → Type 0
-IsWithin (solve file budget proof) = budget ≤ 1000000000
+IsWithin (solve file budget proof short) = budget ≤ 1000000000
 IsWithin (eliminate file budget) = budget < 2 ^ 32
 IsWithin (check file proof) = Unit {0}
 IsWithin (drill count budget) = (count ≤ 1000) × (budget ≤ 1000000000)
@@ -39,9 +41,15 @@ IsWithin (drill count budget) = (count ≤ 1000) × (budget ≤ 1000000000)
 abbrev pub AnswersWithProof : Option (List ℕ) → List ℕ → Answer → Type 0
 AnswersWithProof told bytes = AnswersSource most_of_proof (λ proof. IsChecked proof bytes) told
 
+-- the form of the proof that the flags of `solve` ask for
+abbrev pub asked_form : Bool → Bool → Option ProofForm
+asked_form true short = Some Whole
+asked_form false true = Some Short
+asked_form false false = None
+
 -- the answer of each job
 abbrev pub AnswersTask : (List ℕ → Option (List ℕ)) → Task → Answer → Type 0
-AnswersTask bytes_of (solve file budget proof) = AnswersSource most_of_file (IsSolvedAs proof budget) (bytes_of file)
+AnswersTask bytes_of (solve file budget proof short) = AnswersSource most_of_file (IsSolvedAs (asked_form proof short) budget) (bytes_of file)
 AnswersTask bytes_of (eliminate file budget) = AnswersSource most_of_file (IsEliminated budget) (bytes_of file)
 AnswersTask bytes_of (check file proof) = AnswersSource most_of_file (AnswersWithProof (bytes_of proof)) (bytes_of file)
 AnswersTask bytes_of (drill count budget) = IsDrilled budget count
@@ -55,16 +63,16 @@ abbrev pub BrokeAt : Task → Option (List ℕ) → Bool → Type 0
 BrokeAt task name broken = (file : List ℕ) × Contains (files_of task) file × Broke (Some file) name broken
 
 -- the bytes of a file, where they are told, read as a problem of which the text put says that it is valid; behind it comes nothing,
--- or the part with a proof of that, where the proof is asked for
-pub record SaysValid (w : Meaning) (asked : Bool) (told before after : Option (List ℕ)) : Type 0 where
+-- or the part with a proof of that, in the form that is asked for
+pub record SaysValid (w : Meaning) (asked : Option ProofForm) (told before after : Option (List ℕ)) : Type 0 where
   pub bytes : List ℕ
   pub whole : IsWhole told bytes
   pub text : List ℕ
   pub part : List ℕ
   pub put : PutsAll before after (text ++ part)
   pub valid : Validates w bytes text
-  pub none : asked ≡ false → part ≡ []
-  pub proved : asked ≡ true → (vs : List ℤ) × PrintsProofOf bytes (verdict.Valid vs) part
+  pub none : asked ≡ None → part ≡ []
+  pub proved : (form : ProofForm) → asked ≡ Some form → (vs : List ℤ) × PrintsProofOf form bytes (verdict.Valid vs) part
 
 -- the bytes of a file, where they are told, read as a problem of which the text put says what is so
 pub record SaysChecked (w : Meaning) (told before after : Option (List ℕ)) : Type 0 where
@@ -75,16 +83,16 @@ pub record SaysChecked (w : Meaning) (told before after : Option (List ℕ)) : T
   pub confirms : Confirms w bytes text
 
 -- the bytes of a file, where they are told, read as a problem that is refuted; behind the text put comes nothing, or the part with a
--- proof of that, where the proof is asked for
-pub record SaysRefuted (asked : Bool) (told before after : Option (List ℕ)) : Type 0 where
+-- proof of that, in the form that is asked for
+pub record SaysRefuted (asked : Option ProofForm) (told before after : Option (List ℕ)) : Type 0 where
   pub bytes : List ℕ
   pub whole : IsWhole told bytes
   pub text : List ℕ
   pub part : List ℕ
   pub put : PutsAll before after (text ++ part)
   pub refuted : Refutes bytes
-  pub none : asked ≡ false → part ≡ []
-  pub proved : asked ≡ true → PrintsProofOf bytes verdict.Invalid part
+  pub none : asked ≡ None → part ≡ []
+  pub proved : (form : ProofForm) → asked ≡ Some form → PrintsProofOf form bytes verdict.Invalid part
 
 -- the bytes of a file, where they are told, read as a problem, and the text put is a constraint that is true exactly where it holds
 pub record SaysConstraint (w : Meaning) (told before after : Option (List ℕ)) : Type 0 where
@@ -102,11 +110,11 @@ pub record IsSolveCaused (budget : ℕ) (bytes : List ℕ) (answer : Answer) : T
   pub enough : IsEnough budget bytes
 
 -- such an answer with the proof behind it, where that is asked for
-pub record IsSolveCausedAs (asked : Bool) (budget : ℕ) (bytes : List ℕ) (answer : Answer) : Type 0 where
+pub record IsSolveCausedAs (asked : Option ProofForm) (budget : ℕ) (bytes : List ℕ) (answer : Answer) : Type 0 where
   pub plain : Answer
   pub part : List ℕ
   pub whole : answer ≡ extended plain part
-  pub none : asked ≡ false → part ≡ []
+  pub none : asked ≡ None → part ≡ []
   pub caused : IsSolveCaused budget bytes plain
 
 -- the same of `elim`

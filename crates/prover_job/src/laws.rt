@@ -4,15 +4,17 @@ ghost use Rattle.answers.specs.Answer.{Answer};
 ghost use Rattle.check_job.specs.Checked.{IsChecked};
 ghost use Rattle.proof_tree.specs.declared.run.Verdict.{Verdict};
 ghost use Rattle.solve_job.specs.Proved.{IsSolvedAs, PrintsProofOf};
-ghost use Rattle.std.specs.Prelude.{◌≡◌, ◌⊎◌, List, true, ℕ};
+ghost use Rattle.solve_job.specs.declared.proving.ProofForm.{ProofForm};
+ghost use Rattle.std.specs.Prelude.{◌≡◌, ◌⊎◌, List, Some, ℕ};
 
-/// The proof that `solve` prints behind the line `proof:` is accepted: `check` of the same file and of these bytes answers with
-/// status 0.
+/// The proof that `solve` prints behind the line `proof:`, in whichever form, is accepted: `check` of the same file and of these
+/// bytes answers with status 0.
 pub fn printed_law()
-    ensures { (bytes : List ℕ) (v : Verdict) (part : List ℕ) (h : PrintsProofOf bytes v part) (a : Answer) → IsChecked (h.prints).text bytes a → a.status ≡ 0 }
+    ensures { (form : ProofForm) (bytes : List ℕ) (v : Verdict) (part : List ℕ) (h : PrintsProofOf form bytes v part) (a : Answer) → IsChecked (h.prints).text bytes a → a.status ≡ 0 }
 {}
 
-/// So is the whole output of `solve --proof` as a proof's file, at each answer that the problem is valid or invalid.
+/// So is the whole output of `solve --proof` and of `solve --short` as a proof's file, at each answer that the problem is valid or
+/// invalid.
 pub fn output_law()
-    ensures { (budget : ℕ) (bytes : List ℕ) (a b : Answer) → IsSolvedAs true budget bytes a → (a.status ≡ 0) ⊎ (a.status ≡ 1) → IsChecked a.text bytes b → b.status ≡ 0 }
+    ensures { (form : ProofForm) (budget : ℕ) (bytes : List ℕ) (a b : Answer) → IsSolvedAs (Some form) budget bytes a → (a.status ≡ 0) ⊎ (a.status ≡ 1) → IsChecked a.text bytes b → b.status ≡ 0 }
 {}

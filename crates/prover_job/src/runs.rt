@@ -5,7 +5,7 @@ ghost use Rattle.answers.specs.Files.{AnswersSource, most_of_file};
 ghost use Rattle.answers.specs.Outside.{Meets};
 ghost use Rattle.job_words.specs.Jobs.{NamesJob, Task, check, drill, eliminate, files_of, solve, task_of};
 ghost use Rattle.prover_io.specs.Outside.{Rose};
-ghost use Rattle.prover_job.specs.Runs.{AnswersTask, BrokeAt, IsCheckCaused, IsDrillCaused, IsElimCaused, IsJobFile, IsSolveCausedAs, IsWithin, NameNoFile, NameNoJob, SaysChecked, SaysConstraint, SaysRefuted, SaysValid};
+ghost use Rattle.prover_job.specs.Runs.{AnswersTask, BrokeAt, IsCheckCaused, IsDrillCaused, IsElimCaused, IsJobFile, IsSolveCausedAs, IsWithin, NameNoFile, NameNoJob, SaysChecked, SaysConstraint, SaysRefuted, SaysValid, asked_form};
 ghost use Rattle.std.specs.Prelude.{◌≡◌, ◌≢◌, ◌⊎◌, ℕ, Bool, List, [], map, string_bytes};
 
 use crate::tasks::{Stop, job_output};
@@ -30,16 +30,16 @@ pub fn run<S: Source, K: Sink, W: World>(
     ensures answered { (task : Task) → NamesJob (map string_bytes words.now) task
         → Meets (AnswersTask (S.bytes_of source.old) task) result (K.taken sink.old) (K.taken sink.new) }
     ensures no_job { NameNoJob (map string_bytes words.now) → Meets (λ answer. answer ≡ words_answer) result (K.taken sink.old) (K.taken sink.new) }
-    ensures valid { (file : List ℕ) (budget : ℕ) (proof : Bool) → NamesJob (map string_bytes words.now) (solve file budget proof) → result ≡ 0
-        → SaysValid (record { truth = W.truth world.now; value = W.value world.now }) proof (S.bytes_of source.old file) (K.taken sink.old) (K.taken sink.new) }
-    ensures refuted { (file : List ℕ) (budget : ℕ) (proof : Bool) → NamesJob (map string_bytes words.now) (solve file budget proof) → result ≡ 1
-        → SaysRefuted proof (S.bytes_of source.old file) (K.taken sink.old) (K.taken sink.new) }
+    ensures valid { (file : List ℕ) (budget : ℕ) (proof short : Bool) → NamesJob (map string_bytes words.now) (solve file budget proof short) → result ≡ 0
+        → SaysValid (record { truth = W.truth world.now; value = W.value world.now }) (asked_form proof short) (S.bytes_of source.old file) (K.taken sink.old) (K.taken sink.new) }
+    ensures refuted { (file : List ℕ) (budget : ℕ) (proof short : Bool) → NamesJob (map string_bytes words.now) (solve file budget proof short) → result ≡ 1
+        → SaysRefuted (asked_form proof short) (S.bytes_of source.old file) (K.taken sink.old) (K.taken sink.new) }
     ensures checked { (file proof : List ℕ) → NamesJob (map string_bytes words.now) (check file proof) → result ≡ 0
         → SaysChecked (record { truth = W.truth world.now; value = W.value world.now }) (S.bytes_of source.old file) (K.taken sink.old) (K.taken sink.new) }
     ensures constraint { (file : List ℕ) (budget : ℕ) → NamesJob (map string_bytes words.now) (eliminate file budget) → result ≡ 0
         → SaysConstraint (record { truth = W.truth world.now; value = W.value world.now }) (S.bytes_of source.old file) (K.taken sink.old) (K.taken sink.new) }
-    ensures solve_causes { (file : List ℕ) (budget : ℕ) (proof : Bool) → NamesJob (map string_bytes words.now) (solve file budget proof)
-        → Meets (AnswersSource most_of_file (IsSolveCausedAs proof budget) (S.bytes_of source.old file)) result (K.taken sink.old) (K.taken sink.new) }
+    ensures solve_causes { (file : List ℕ) (budget : ℕ) (proof short : Bool) → NamesJob (map string_bytes words.now) (solve file budget proof short)
+        → Meets (AnswersSource most_of_file (IsSolveCausedAs (asked_form proof short) budget) (S.bytes_of source.old file)) result (K.taken sink.old) (K.taken sink.new) }
     ensures elim_causes { (file : List ℕ) (budget : ℕ) → NamesJob (map string_bytes words.now) (eliminate file budget)
         → Meets (AnswersSource most_of_file (IsElimCaused budget) (S.bytes_of source.old file)) result (K.taken sink.old) (K.taken sink.new) }
     ensures check_causes { (file proof : List ℕ) → NamesJob (map string_bytes words.now) (check file proof)

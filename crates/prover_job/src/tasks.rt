@@ -6,7 +6,7 @@ ghost use Rattle.elim_job.specs.Eliminated.{IsEliminated};
 ghost use Rattle.job_words.specs.Jobs.{check, files_of, task_of};
 ghost use Rattle.prover_io.specs.Outside.{Broke, Rose};
 ghost use Rattle.prover_io.specs.declared.whole.ReadFault.{ReadFault};
-ghost use Rattle.prover_job.specs.Runs.{AnswersTask, AnswersWithProof, BrokeAt, IsJobFile, IsWithin};
+ghost use Rattle.prover_job.specs.Runs.{AnswersTask, AnswersWithProof, BrokeAt, IsJobFile, IsWithin, asked_form};
 ghost use Rattle.prover_job.specs.declared.tasks.Stop.{Stop};
 ghost use Rattle.solve_job.specs.Proved.{IsSolvedAs};
 ghost use Rattle.std.specs.Prelude.{◌≡◌, ◌≢◌, ◌<◌, ◌≤◌, ◌^◌, length, IfOk, IsErrOf, Some, []};
@@ -16,6 +16,7 @@ use answers::{Output, say};
 use job_words::Job;
 use linear_term::Memory;
 use prover_io::{ReadFault, Source, read_all};
+use solve_job::ProofForm;
 use std::alloc::Global;
 
 // How many bytes a problem's file has at most.
@@ -60,29 +61,47 @@ pub(crate) fn job_output<S: Source>(
             file,
             budget,
             proof,
-        } => solve_output(alloc, source, file.as_str(), *budget, *proof),
+            short,
+        } => solve_output(
+            alloc,
+            source,
+            file.as_str(),
+            *budget,
+            proof_form(*proof, *short),
+        ),
         Job::Check { file, proof } => check_output(alloc, source, file.as_str(), proof.as_str()),
         Job::Elim { file, budget } => elim_output(alloc, source, file.as_str(), *budget),
         Job::Drill { count, budget } => Ok(drill_job::answer(alloc, *count, *budget)?),
     }
 }
 
-// What `solve` answers to a file, with the proof or without.
+// The form of the proof that the flags of `solve` ask for, if they ask for one.
+fn proof_form(proof: bool, short: bool) -> Option<ProofForm>
+    ensures { result ≡ asked_form proof short }
+{
+    match (proof, short) {
+        (true, _) => Some(ProofForm::Whole),
+        (false, true) => Some(ProofForm::Short),
+        (false, false) => None,
+    }
+}
+
+// What `solve` answers to a file, with the proof in the form that is asked for, if one is.
 fn solve_output<S: Source>(
     alloc: Global,
     source: &mut S,
     file: &str,
     budget: u64,
-    proof: bool,
+    asked: Option<ProofForm>,
 ) -> Result<Output, Stop>
     requires { budget ≤ 1000000000 }
-    ensures answered { IfOk result (λ output. AnswersSource most_of_file (IsSolvedAs proof budget) (S.bytes_of source.old file.now) (answer_of output)) }
+    ensures answered { IfOk result (λ output. AnswersSource most_of_file (IsSolvedAs asked budget) (S.bytes_of source.old file.now) (answer_of output)) }
     ensures rose { IsErrOf result Stop.Source → Rose (S.faults source.old) (S.faults source.new) }
     ensures broke { IsErrOf result Stop.Source → Broke (Some file.now) (S.at source.new) (S.broken source.new) }
     ensures begun { ¬ (IsErrOf result Stop.Memory) → S.at source.new ≡ Some file.now }
 {
     match read_all(alloc, source, file, FILE) {
-        Ok(bytes) => Ok(solve_job::answer(alloc, bytes.as_slice(), budget, proof)?),
+        Ok(bytes) => Ok(solve_job::answer(alloc, bytes.as_slice(), budget, asked)?),
         Err(fault) => unread(alloc, fault),
     }
 }

@@ -49,7 +49,7 @@ solution\n";
 // Each token in its order, what it is changed to, and the answers where it is left out, doubled and changed.
 const ROWS: &str = "\
 princess-proof;charges;Syntax at 0;Syntax at 15;Syntax at 0\n\
-1;2;Syntax at 15;Syntax at 16;Syntax at 15\n\
+1;3;Syntax at 15;Syntax at 16;Syntax at 15\n\
 charges;close;Syntax at 17;Syntax at 25;Syntax at 17\n\
 439;440;Syntax at 25;Syntax at 28;accepted\n\
 alpha;delta;Syntax at 29;Syntax at 35;Syntax at 488\n\

@@ -18,6 +18,8 @@ mod refused;
 #[cfg(test)]
 mod runs;
 #[cfg(test)]
+mod short;
+#[cfg(test)]
 mod solved;
 #[cfg(test)]
 mod strangers;

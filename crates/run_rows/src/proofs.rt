@@ -6,10 +6,24 @@ use std::alloc::Global;
 use std::process::Abort;
 use std::test::Fail;
 
-const APART: &str = "\\problem { \\exists int x; 2*x = 1 }";
+pub const APART: &str = "\\problem { \\exists int x; 2*x = 1 }";
 
-const UNIFIED: &str =
+pub const UNIFIED: &str =
     "\\existentialConstants { int a; } \\predicates { p(int); } \\problem { p(3) -> p(a) }";
+
+const PROVED: [&str; 11] = [
+    APART,
+    UNIFIED,
+    "\\problem { true }",
+    "\\problem { false }",
+    "\\problem { \\forall int x; \\exists int y; (x = 2*y | x = 2*y + 1) }",
+    "\\existentialConstants { int a; } \\problem { \\exists int x; (3*x >= a & 3*x <= a + 1) }",
+    "\\existentialConstants { int a, b; } \\problem { \\forall int x; (x >= a + b -> x >= 3) }",
+    "\\problem { \\exists int x, y; (27 <= 11*x + 13*y & 11*x + 13*y <= 45 & -10 <= 7*x - 9*y & 7*x - 9*y <= 4) }",
+    "\\universalConstants { int a, b; } \\functions { int f(int); } \\problem { a = b -> f(a) = f(b) }",
+    "\\predicates { p(int); } \\problem { p(0) & \\forall int x; (p(x) -> p(x + 2)) -> p(4) }",
+    "\\universalConstants { int n, m, j; } \\functions { int a(int); } \\problem { \\forall int i; (0 <= i & i < n -> a(i) <= m) & 0 <= j & j < n -> a(j) <= m }",
+];
 
 // Asks for the answer of `check` to a problem and these bytes of a proof's file.
 pub fn checks_to(
@@ -56,30 +70,28 @@ fn proofs_stand_behind_answers(rt: HostRuntime) -> Result<(), Fail> {
     Ok(())
 }
 
+// Asks that the whole output of `solve` with this flag is accepted as a proof's file.
+fn prints_accepted(rt: &impl Abort, alloc: Global, flag: &str, file: &str) -> Result<(), Fail> {
+    let words = ["solve", "f", flag];
+    let (solved, printed) = ends_over(alloc, &words, &[("f", file.as_bytes())], &[], &[])?;
+    let files = [("f", file.as_bytes()), ("g", printed.as_slice())];
+    let (ended, taken) = ends_over(alloc, &["check", "f", "g"], &files, &[], &[])?;
+    assert!(rt; solved <= 1, "at {flag} {file}");
+    assert_eq!(rt; ended, 0, "at {flag} {file}");
+    assert!(rt;
+        taken.as_slice().starts_with(b"CHECKED "),
+        "at {flag} {file}"
+    );
+    let told = taken.as_slice().get(8..).unwrap_or(&[]);
+    assert!(rt; printed.as_slice().starts_with(told), "at {flag} {file}");
+    Ok(())
+}
+
 #[test]
 fn printed_proofs_are_accepted(rt: HostRuntime) -> Result<(), Fail> {
-    for file in [
-        APART,
-        UNIFIED,
-        "\\problem { true }",
-        "\\problem { false }",
-        "\\problem { \\forall int x; \\exists int y; (x = 2*y | x = 2*y + 1) }",
-        "\\existentialConstants { int a; } \\problem { \\exists int x; (3*x >= a & 3*x <= a + 1) }",
-        "\\existentialConstants { int a, b; } \\problem { \\forall int x; (x >= a + b -> x >= 3) }",
-        "\\problem { \\exists int x, y; (27 <= 11*x + 13*y & 11*x + 13*y <= 45 & -10 <= 7*x - 9*y & 7*x - 9*y <= 4) }",
-        "\\universalConstants { int a, b; } \\functions { int f(int); } \\problem { a = b -> f(a) = f(b) }",
-        "\\predicates { p(int); } \\problem { p(0) & \\forall int x; (p(x) -> p(x + 2)) -> p(4) }",
-        "\\universalConstants { int n, m, j; } \\functions { int a(int); } \\problem { \\forall int i; (0 <= i & i < n -> a(i) <= m) & 0 <= j & j < n -> a(j) <= m }",
-    ] {
-        let words = ["solve", "f", "--proof"];
-        let (solved, printed) = ends_over(rt.alloc(), &words, &[("f", file.as_bytes())], &[], &[])?;
-        let files = [("f", file.as_bytes()), ("g", printed.as_slice())];
-        let (ended, taken) = ends_over(rt.alloc(), &["check", "f", "g"], &files, &[], &[])?;
-        assert!(rt; solved <= 1, "at {file}");
-        assert_eq!(rt; ended, 0, "at {file}");
-        assert!(rt; taken.as_slice().starts_with(b"CHECKED "), "at {file}");
-        let told = taken.as_slice().get(8..).unwrap_or(&[]);
-        assert!(rt; printed.as_slice().starts_with(told), "at {file}");
+    for file in PROVED {
+        prints_accepted(&rt, rt.alloc(), "--proof", file)?;
+        prints_accepted(&rt, rt.alloc(), "--short", file)?;
     }
     Ok(())
 }
@@ -123,7 +135,7 @@ fn changed_proofs_are_refused(rt: HostRuntime) -> Result<(), Fail> {
 
 #[test]
 fn spellings_of_strangers_are_refused(rt: HostRuntime) -> Result<(), Fail> {
-    let rows: [(&str, &str, (u8, &str)); 8] = [
+    let rows: [(&str, &str, (u8, &str)); 9] = [
         (
             "charges 18",
             "charges 018\n",
@@ -146,8 +158,13 @@ fn spellings_of_strangers_are_refused(rt: HostRuntime) -> Result<(), Fail> {
         ),
         (
             "princess-proof 1",
-            "princess-proof 2\n",
+            "princess-proof 3\n",
             (4, "refused proof: Syntax at 15\n"),
+        ),
+        (
+            "princess-proof 1",
+            "princess-proof 2\n",
+            (4, "refused proof: Syntax at 17\n"),
         ),
         ("close", "\nclose\n", (4, "refused proof: Syntax at 36\n")),
         (

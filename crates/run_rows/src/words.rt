@@ -9,7 +9,7 @@ const TRUE: &[u8] = b"\\problem { true }";
 fn words_name_a_job_or_are_refused(rt: HostRuntime) -> Result<(), Fail> {
     let refused = (5, "refused words\n");
     let valid = (0, "VALID\n");
-    let rows: [(&[&str], (u8, &str)); 21] = [
+    let rows: [(&[&str], (u8, &str)); 23] = [
         (&["solve", "f"], valid),
         (&["solve", "-"], valid),
         (&["solve", "g"], (6, "")),
@@ -24,6 +24,8 @@ fn words_name_a_job_or_are_refused(rt: HostRuntime) -> Result<(), Fail> {
         (&["solve", "f", "--budget", "0"], refused),
         (&["solve", "f", "--budget", "1000000001"], refused),
         (&["solve", "f", "--budget", "9", "--budget=9"], refused),
+        (&["solve", "f", "--proof", "--short"], refused),
+        (&["solve", "f", "--short", "--short"], refused),
         (&["f", "solve"], refused),
         (&[], refused),
         (&["drill", "1"], (0, "drill 1: VALID\n")),

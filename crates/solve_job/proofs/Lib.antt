@@ -3,4 +3,5 @@ pub mod Exactly
 pub mod Grounded
 pub mod Meaning
 mod Outcomes
+mod Own
 pub mod Printing

@@ -1,5 +1,5 @@
 -- An answer with a proof behind it, and the answer without it.
-use Rattle.std.proofs.Common.{◌≡◌, ◌≢◌, ◌∙◌, ◌≤◌, ℕ, ℤ, Bool, true, false, List, [], ◌++◌, length, Result, Ok, Err, IfOk, refl, sym, ap, subst, append_assoc, append-nil, codes}
+use Rattle.std.proofs.Common.{◌≡◌, ◌≢◌, ◌∙◌, ◌≤◌, ℕ, ℤ, List, [], ◌++◌, length, Option, Some, None, Result, Ok, Err, IfOk, refl, sym, ap, subst, append_assoc, append-nil, codes}
 use Rattle.linear_term.specs.declared.range.Memory.{Memory}
 use Rattle.purse.specs.Runs.{total}
 use Rattle.purse.specs.Trace.{Funds, At, at}
@@ -19,11 +19,7 @@ use Rattle.search.specs.Outcomes.{EndsAs, IsTree}
 use Rattle.search.specs.Run as run
 use Rattle.search.specs.Run.{Ending, ends_with, out_of_steps, overflows}
 use Rattle.proof_text.specs.Spellings.{spelled}
-use Rattle.tree_lines.specs.Lines.{proof_text}
-use Rattle.tree_text.specs.Shaped.{Holds, IsShaped}
-use Rattle.proof_lines.proofs.Own.{own_body}
-use Rattle.proof_writing.specs.Typed.{IsTypedConclusion, IsTypedProof}
-use Rattle.proof_writing.proofs.Reread.{proof_spaced, text_holds}
+use Rattle.tree_text.specs.Shaped.{Holds}
 use Rattle.canonical_proofs.proofs.Proving.{proved_invalid, proved_valid}
 use Rattle.purse.specs.declared.log.Entry.{Entry}
 use Rattle.proof_tree.specs.declared.run.Verdict.TheVariants as verdict
@@ -35,7 +31,8 @@ use Rattle.answers.specs.Answer.{Answer, answer_of}
 use Rattle.answers.specs.declared.output.Output.{Output}
 use Rattle.problem_file.specs.Answers.{Poses, refused, unsupported, posed}
 use Rattle.problem_file.specs.Encoded.{Fits, IsEncoded, large, leaves, runs}
-use Rattle.solve_job.specs.Proved.{AnswersRunAs, IsPart, IsParted, IsProofTold, IsSolvedAs, PrintsEnd, PrintsOutcome, PrintsProof, PrintsProofOf, PrintsTree, charges_of, extended}
+use Rattle.solve_job.specs.Proved.{AnswersRunAs, IsPart, IsParted, IsProofTold, IsSolvedAs, PrintsEnd, PrintsOutcome, PrintsProof, PrintsProofOf, PrintsTree, charges_of, extended, form_text}
+use Rattle.solve_job.specs.declared.proving.ProofForm.{ProofForm}
 use Rattle.solve_job.specs.Solved.{AnswersEnd, IsSolved, branch, closed, invalid, overflow, run_end, saturated, steps, valid}
 use Rattle.solve_job.specs.Shaping.{CanBePrinted}
 use Rattle.solve_job.specs.Told.{TellsOutcome}
@@ -44,6 +41,7 @@ use Rattle.printed_proofs.specs.Bounds.{IsSearched}
 use Rattle.printed_proofs.proofs.Printed.{invalid_outcome, valid_outcome}
 use Rattle.problem_file.proofs.Reduced.{problem_reduced}
 use Rattle.solve_job.proofs.Outcomes.{run_is, start, told_so}
+use Rattle.solve_job.proofs.Own.{own_text}
 
 unextended : (a : Answer) → a ≡ extended a []
 unextended a = ap (λ t. record { status = a.status; text = t }) (sym (append-nil a.text))
@@ -64,48 +62,52 @@ printable budget p e h few most (Invalid d t) new k = λ typed conclusion. inval
 printable budget p e h few most (Unknown y r) new k = tt
 
 -- ---- the text of the proof behind an answer
-pub printed_behind : (t : Tree) (status : ℕ) (old mid out : List ℕ) → IsShaped t.charges (proof_of t.root) t.conclusion → IsTypedProof (proof_of t.root) → IsTypedConclusion t.conclusion → mid ≡ old ++ codes "proof:\n"
-    → out ≡ mid ++ spelled (proof_text t.charges (proof_of t.root) t.conclusion) → (part : List ℕ) × PrintsTree t part × (record { status = status; text = out } ≡ extended (record { status = status; text = old }) part)
-printed_behind t status old mid out shaped typed end e q =
-    let tokens = proof_text t.charges (proof_of t.root) t.conclusion in
+pub printed_behind : (form : ProofForm) (t : Tree) (status : ℕ) (old mid out : List ℕ) → mid ≡ old ++ codes "proof:\n" → out ≡ mid ++ spelled (form_text form t.charges (proof_of t.root) t.conclusion)
+    → Holds (spelled (form_text form t.charges (proof_of t.root) t.conclusion)) t.charges (proof_of t.root) t.conclusion
+    → (part : List ℕ) × PrintsTree form t part × (record { status = status; text = out } ≡ extended (record { status = status; text = old }) part)
+printed_behind form t status old mid out e q holds =
+    let tokens = form_text form t.charges (proof_of t.root) t.conclusion in
     let whole : out ≡ old ++ (codes "proof:\n" ++ spelled tokens) = q ∙ ap (λ z. z ++ spelled tokens) e ∙ append_assoc old (codes "proof:\n") (spelled tokens) in (
       codes "proof:\n" ++ spelled tokens,
       record {
         text = spelled tokens;
         line = refl;
-        holds = text_holds t.charges (proof_of t.root) t.conclusion shaped typed end;
-        own = own_body tokens (proof_spaced t.charges (proof_of t.root) t.conclusion shaped typed end);
+        is = refl;
+        holds = holds;
+        own = own_text (spelled tokens) t.charges (proof_of t.root) t.conclusion holds;
       },
       ap (λ z. record { status = status; text = z }) whole,
     )
 
 -- ---- the proof that is printed is that of the run
 -- the tree of the code, as a tree of the problem's run
-tree_prints : (p : Problem) (e : Encoded) → IsEncoded p e → (x : Proof) (c : Conclusion) (t : Tree) (part : List ℕ) → IsTree (form e.root) e.constants x c t → PrintsTree t part → PrintsProof (charges_of p x c) x c part
-tree_prints p e h x c t part is prints =
+tree_prints : (wanted : ProofForm) (p : Problem) (e : Encoded) → IsEncoded p e → (x : Proof) (c : Conclusion) (t : Tree) (part : List ℕ) → IsTree (form e.root) e.constants x c t → PrintsTree wanted t part
+    → PrintsProof wanted (charges_of p x c) x c part
+tree_prints wanted p e h x c t part is prints =
     let of : Form → ℕ → ℕ = λ f n. total (proof_walk f n x c).events in
     let charges : t.charges ≡ charges_of p x c = is.charges ∙ ap (λ f. of f e.constants) h.root ∙ ap (of (problem_root p).value) h.constants in
     let held = prints.holds in
     record {
       text = prints.text;
       line = prints.line;
+      is = prints.is ∙ (λ i. spelled (form_text wanted (charges i) (is.root i) (is.conclusion i)));
       holds = subst (λ n. Holds prints.text n x c) charges (subst (λ y. Holds prints.text t.charges y c) is.root (subst (λ d. Holds prints.text t.charges (proof_of t.root) d) is.conclusion held));
       own = prints.own;
     }
 
-end_prints : (budget : ℕ) (p : Problem) (e : Encoded) → IsEncoded p e → (o : Outcome) (new : Funds) (part : List ℕ) → EndsAs (form e.root) e.constants (start budget) (Ok o) new → PrintsOutcome o part
-    → PrintsEnd p (run_end budget p) part
-end_prints budget p e h (Valid d vs t) new part k prints =
-    subst (λ end. PrintsEnd p end part) (sym k.2 ∙ run_is budget p e h) (tree_prints p e h k.1 (Solution vs) t part k.4 prints)
-end_prints budget p e h (Invalid d t) new part k prints =
-    subst (λ end. PrintsEnd p end part) (sym k.3 ∙ run_is budget p e h) (tree_prints p e h k.2 (Nothing k.1) t part k.5 prints)
-end_prints budget p e h (Unknown why.Saturated r) new part k prints = subst (λ end. PrintsEnd p end part) (sym k.3 ∙ run_is budget p e h) prints
-end_prints budget p e h (Unknown why.Branch r) new part k prints = subst (λ end. PrintsEnd p end part) (sym k.1 ∙ run_is budget p e h) prints
-end_prints budget p e h (Unknown why.Steps r) new part k prints = subst (λ end. PrintsEnd p end part) (sym k.1 ∙ run_is budget p e h) prints
-end_prints budget p e h (Unknown (why.Overflow place) r) new part k prints = subst (λ end. PrintsEnd p end part) (sym k.2 ∙ run_is budget p e h) prints
+end_prints : (wanted : ProofForm) (budget : ℕ) (p : Problem) (e : Encoded) → IsEncoded p e → (o : Outcome) (new : Funds) (part : List ℕ) → EndsAs (form e.root) e.constants (start budget) (Ok o) new → PrintsOutcome wanted o part
+    → PrintsEnd wanted p (run_end budget p) part
+end_prints wanted budget p e h (Valid d vs t) new part k prints =
+    subst (λ end. PrintsEnd wanted p end part) (sym k.2 ∙ run_is budget p e h) (tree_prints wanted p e h k.1 (Solution vs) t part k.4 prints)
+end_prints wanted budget p e h (Invalid d t) new part k prints =
+    subst (λ end. PrintsEnd wanted p end part) (sym k.3 ∙ run_is budget p e h) (tree_prints wanted p e h k.2 (Nothing k.1) t part k.5 prints)
+end_prints wanted budget p e h (Unknown why.Saturated r) new part k prints = subst (λ end. PrintsEnd wanted p end part) (sym k.3 ∙ run_is budget p e h) prints
+end_prints wanted budget p e h (Unknown why.Branch r) new part k prints = subst (λ end. PrintsEnd wanted p end part) (sym k.1 ∙ run_is budget p e h) prints
+end_prints wanted budget p e h (Unknown why.Steps r) new part k prints = subst (λ end. PrintsEnd wanted p end part) (sym k.1 ∙ run_is budget p e h) prints
+end_prints wanted budget p e h (Unknown (why.Overflow place) r) new part k prints = subst (λ end. PrintsEnd wanted p end part) (sym k.2 ∙ run_is budget p e h) prints
 
 -- the answer without a proof
-pub told_plain : (budget : ℕ) (p : Problem) (e : Encoded) → IsEncoded p e → (o : Outcome) (new : Funds) → EndsAs (form e.root) e.constants (start budget) (Ok o) new → (asked : Bool) → asked ≡ false → (out : Output)
+pub told_plain : (budget : ℕ) (p : Problem) (e : Encoded) → IsEncoded p e → (o : Outcome) (new : Funds) → EndsAs (form e.root) e.constants (start budget) (Ok o) new → (asked : Option ProofForm) → asked ≡ None → (out : Output)
     → TellsOutcome p new o (answer_of out) → AnswersRunAs asked budget p (answer_of out)
 told_plain budget p e h o new k asked off out told = record {
   plain = answer_of out;
@@ -116,93 +118,91 @@ told_plain budget p e h o new k asked off out told = record {
 }
 
 -- the answer with its proof
-pub told_proved : (budget : ℕ) (p : Problem) (e : Encoded) → IsEncoded p e → (o : Outcome) (new : Funds) → EndsAs (form e.root) e.constants (start budget) (Ok o) new → (asked : Bool) → asked ≡ true → (plain : Output)
-    → TellsOutcome p new o (answer_of plain) → (r : Result Output Memory) → IfOk r (λ out. IsProofTold o (answer_of plain) (answer_of out)) → IfOk r (λ out. AnswersRunAs asked budget p (answer_of out))
-told_proved budget p e h o new k asked on plain told (Ok out) is = record {
+pub told_proved : (budget : ℕ) (p : Problem) (e : Encoded) → IsEncoded p e → (o : Outcome) (new : Funds) → EndsAs (form e.root) e.constants (start budget) (Ok o) new → (asked : Option ProofForm) (wanted : ProofForm) → asked ≡ Some wanted
+    → (plain : Output) → TellsOutcome p new o (answer_of plain) → (r : Result Output Memory) → IfOk r (λ out. IsProofTold wanted o (answer_of plain) (answer_of out)) → IfOk r (λ out. AnswersRunAs asked budget p (answer_of out))
+told_proved budget p e h o new k asked wanted on plain told (Ok out) is = record {
   plain = answer_of plain;
   answers = told_so budget p e h o new k (Ok plain) told;
   part = is.part;
-  is_part = subst (λ b. IsPart b p (run_end budget p) is.part) (sym on) (end_prints budget p e h o new is.part k is.prints);
+  is_part = subst (λ b. IsPart b p (run_end budget p) is.part) (sym on) (end_prints wanted budget p e h o new is.part k is.prints);
   whole = is.whole;
 }
-told_proved budget p e h o new k asked on plain told (Err m) is = tt
+told_proved budget p e h o new k asked wanted on plain told (Err m) is = tt
 
 -- ---- the answer without its proof
-not_asked : (budget : ℕ) (bytes : List ℕ) (a : Answer) (asked : Bool) → IsSolved budget bytes a → a.status ≢ 0 → a.status ≢ 1 → IsParted asked budget bytes a
+not_asked : (budget : ℕ) (bytes : List ℕ) (a : Answer) (asked : Option ProofForm) → IsSolved budget bytes a → a.status ≢ 0 → a.status ≢ 1 → IsParted asked budget bytes a
 not_asked budget bytes a asked solved zero one = record {
   plain = a;
   solved = solved;
   part = [];
   whole = unextended a;
   none = λ off. refl;
-  valid = λ on z. absurd (zero z);
-  invalid = λ on z. absurd (one z);
+  valid = λ form on z. absurd (zero z);
+  invalid = λ form on z. absurd (one z);
 }
 
-no_part : (asked : Bool) (p : Problem) (end : Ending run.Answer) (part : List ℕ) → IsPart asked p end part → asked ≡ false → part ≡ []
-no_part true p end part is off = absurd cc
-no_part false p end part is off = is
+no_part : (asked : Option ProofForm) (p : Problem) (end : Ending run.Answer) (part : List ℕ) → IsPart asked p end part → asked ≡ None → part ≡ []
+no_part asked p end part is off = subst (λ a. IsPart a p end part) off is
 
-its_part : (asked : Bool) (p : Problem) (end : Ending run.Answer) (part : List ℕ) → IsPart asked p end part → asked ≡ true → PrintsEnd p end part
-its_part true p end part is on = is
-its_part false p end part is on = absurd cc
+its_part : (asked : Option ProofForm) (wanted : ProofForm) (p : Problem) (end : Ending run.Answer) (part : List ℕ) → IsPart asked p end part → asked ≡ Some wanted → PrintsEnd wanted p end part
+its_part asked wanted p end part is on = subst (λ a. IsPart a p end part) on is
 
 -- the run on the encoded problem starts from nothing
 funds : ℕ → Funds
 funds budget = record { budget = budget; spent = 0 }
 
-valid_part : (budget : ℕ) (bytes : List ℕ) (p : Problem) (vs : List ℤ) (x : Proof) (stands : At) (part : List ℕ) → Poses bytes p → Fits p → run_end budget p ≡ ends_with (run.valid vs x) stands → PrintsEnd p (run_end budget p) part
-    → PrintsProofOf bytes (verdict.Valid vs) part
+valid_part : (wanted : ProofForm) (budget : ℕ) (bytes : List ℕ) (p : Problem) (vs : List ℤ) (x : Proof) (stands : At) (part : List ℕ) → Poses bytes p → Fits p → run_end budget p ≡ ends_with (run.valid vs x) stands → PrintsEnd wanted p (run_end budget p) part
+    → PrintsProofOf wanted bytes (verdict.Valid vs) part
 unfolding funds
-valid_part budget bytes p vs x stands part poses fits is prints = record {
+valid_part wanted budget bytes p vs x stands part poses fits is prints = record {
   problem = p;
   poses = poses;
   fits = fits;
   tree = x;
   conclusion = Solution vs;
   charges = charges_of p x (Solution vs);
-  prints = subst (λ end. PrintsEnd p end part) is prints;
+  prints = subst (λ end. PrintsEnd wanted p end part) is prints;
   proves = proved_valid (problem_root p).value (length p.existentials) (funds budget) vs x stands (root_over p) (problem_reduced p) is;
 }
 
-invalid_part : (budget : ℕ) (bytes : List ℕ) (p : Problem) (log : List Entry) (x : Proof) (stands : At) (part : List ℕ) → Poses bytes p → Fits p → run_end budget p ≡ ends_with (run.invalid log x) stands → PrintsEnd p (run_end budget p) part
-    → PrintsProofOf bytes verdict.Invalid part
+invalid_part : (wanted : ProofForm) (budget : ℕ) (bytes : List ℕ) (p : Problem) (log : List Entry) (x : Proof) (stands : At) (part : List ℕ) → Poses bytes p → Fits p → run_end budget p ≡ ends_with (run.invalid log x) stands → PrintsEnd wanted p (run_end budget p) part
+    → PrintsProofOf wanted bytes verdict.Invalid part
 unfolding funds
-invalid_part budget bytes p log x stands part poses fits is prints = record {
+invalid_part wanted budget bytes p log x stands part poses fits is prints = record {
   problem = p;
   poses = poses;
   fits = fits;
   tree = x;
   conclusion = Nothing (record { entries = log });
   charges = charges_of p x (Nothing (record { entries = log }));
-  prints = subst (λ end. PrintsEnd p end part) is prints;
+  prints = subst (λ end. PrintsEnd wanted p end part) is prints;
   proves = proved_invalid (problem_root p).value (length p.existentials) (funds budget) (record { entries = log }) x stands (root_over p) (problem_reduced p) is;
 }
 
-end_valid : (budget : ℕ) (bytes : List ℕ) (p : Problem) (a : Answer) (part : List ℕ) → Poses bytes p → Fits p → AnswersEnd p (run_end budget p) a → PrintsEnd p (run_end budget p) part → a.status ≡ 0
-    → (vs : List ℤ) × PrintsProofOf bytes (verdict.Valid vs) part
-end_valid budget bytes p a part poses fits (closed vs x stands text is none told e) prints z = (vs, valid_part budget bytes p vs x stands part poses fits is prints)
-end_valid budget bytes p a part poses fits (valid vs x stands text is some printed e) prints z = (vs, valid_part budget bytes p vs x stands part poses fits is prints)
-end_valid budget bytes p a part poses fits (invalid log x stands is e) prints z = let bad = sym z ∙ ap (λ b. b.status) e in absurd cc
-end_valid budget bytes p a part poses fits (saturated log x stands is e) prints z = let bad = sym z ∙ ap (λ b. b.status) e in absurd cc
-end_valid budget bytes p a part poses fits (branch stands is e) prints z = let bad = sym z ∙ ap (λ b. b.status) e in absurd cc
-end_valid budget bytes p a part poses fits (steps stands is e) prints z = let bad = sym z ∙ ap (λ b. b.status) e in absurd cc
-end_valid budget bytes p a part poses fits (overflow numbers stands is e) prints z = let bad = sym z ∙ ap (λ b. b.status) e in absurd cc
+end_valid : (wanted : ProofForm) (budget : ℕ) (bytes : List ℕ) (p : Problem) (a : Answer) (part : List ℕ) → Poses bytes p → Fits p → AnswersEnd p (run_end budget p) a → PrintsEnd wanted p (run_end budget p) part → a.status ≡ 0
+    → (vs : List ℤ) × PrintsProofOf wanted bytes (verdict.Valid vs) part
+end_valid wanted budget bytes p a part poses fits (closed vs x stands text is none told e) prints z = (vs, valid_part wanted budget bytes p vs x stands part poses fits is prints)
+end_valid wanted budget bytes p a part poses fits (valid vs x stands text is some printed e) prints z = (vs, valid_part wanted budget bytes p vs x stands part poses fits is prints)
+end_valid wanted budget bytes p a part poses fits (invalid log x stands is e) prints z = let bad = sym z ∙ ap (λ b. b.status) e in absurd cc
+end_valid wanted budget bytes p a part poses fits (saturated log x stands is e) prints z = let bad = sym z ∙ ap (λ b. b.status) e in absurd cc
+end_valid wanted budget bytes p a part poses fits (branch stands is e) prints z = let bad = sym z ∙ ap (λ b. b.status) e in absurd cc
+end_valid wanted budget bytes p a part poses fits (steps stands is e) prints z = let bad = sym z ∙ ap (λ b. b.status) e in absurd cc
+end_valid wanted budget bytes p a part poses fits (overflow numbers stands is e) prints z = let bad = sym z ∙ ap (λ b. b.status) e in absurd cc
 
-end_invalid : (budget : ℕ) (bytes : List ℕ) (p : Problem) (a : Answer) (part : List ℕ) → Poses bytes p → Fits p → AnswersEnd p (run_end budget p) a → PrintsEnd p (run_end budget p) part → a.status ≡ 1
-    → PrintsProofOf bytes verdict.Invalid part
-end_invalid budget bytes p a part poses fits (closed vs x stands text is none told e) prints z = let bad = sym z ∙ ap (λ b. b.status) e in absurd cc
-end_invalid budget bytes p a part poses fits (valid vs x stands text is some printed e) prints z = let bad = sym z ∙ ap (λ b. b.status) e in absurd cc
-end_invalid budget bytes p a part poses fits (invalid log x stands is e) prints z = invalid_part budget bytes p log x stands part poses fits is prints
-end_invalid budget bytes p a part poses fits (saturated log x stands is e) prints z = let bad = sym z ∙ ap (λ b. b.status) e in absurd cc
-end_invalid budget bytes p a part poses fits (branch stands is e) prints z = let bad = sym z ∙ ap (λ b. b.status) e in absurd cc
-end_invalid budget bytes p a part poses fits (steps stands is e) prints z = let bad = sym z ∙ ap (λ b. b.status) e in absurd cc
-end_invalid budget bytes p a part poses fits (overflow numbers stands is e) prints z = let bad = sym z ∙ ap (λ b. b.status) e in absurd cc
+end_invalid : (wanted : ProofForm) (budget : ℕ) (bytes : List ℕ) (p : Problem) (a : Answer) (part : List ℕ) → Poses bytes p → Fits p → AnswersEnd p (run_end budget p) a → PrintsEnd wanted p (run_end budget p) part → a.status ≡ 1
+    → PrintsProofOf wanted bytes verdict.Invalid part
+end_invalid wanted budget bytes p a part poses fits (closed vs x stands text is none told e) prints z = let bad = sym z ∙ ap (λ b. b.status) e in absurd cc
+end_invalid wanted budget bytes p a part poses fits (valid vs x stands text is some printed e) prints z = let bad = sym z ∙ ap (λ b. b.status) e in absurd cc
+end_invalid wanted budget bytes p a part poses fits (invalid log x stands is e) prints z = invalid_part wanted budget bytes p log x stands part poses fits is prints
+end_invalid wanted budget bytes p a part poses fits (saturated log x stands is e) prints z = let bad = sym z ∙ ap (λ b. b.status) e in absurd cc
+end_invalid wanted budget bytes p a part poses fits (branch stands is e) prints z = let bad = sym z ∙ ap (λ b. b.status) e in absurd cc
+end_invalid wanted budget bytes p a part poses fits (steps stands is e) prints z = let bad = sym z ∙ ap (λ b. b.status) e in absurd cc
+end_invalid wanted budget bytes p a part poses fits (overflow numbers stands is e) prints z = let bad = sym z ∙ ap (λ b. b.status) e in absurd cc
 
 apart : (n m : ℕ) (a : Answer) (e : a.status ≡ n) → n ≢ m → a.status ≢ m
 apart n m a e differ z = differ (sym e ∙ z)
 
-pub parted : (asked : Bool) (budget : ℕ) (bytes : List ℕ) (a : Answer) → IsSolvedAs asked budget bytes a → IsParted asked budget bytes a
+pub parted : (asked : Option ProofForm) (budget : ℕ) (bytes : List ℕ) (a : Answer) → IsSolvedAs asked budget bytes a → IsParted asked budget bytes a
 parted asked budget bytes a (refused r h e) = not_asked budget bytes a asked (refused r h e) (apart 3 0 a (ap (λ b. b.status) e) (λ z. cc)) (apart 3 1 a (ap (λ b. b.status) e) (λ z. cc))
 parted asked budget bytes a (unsupported at h e) = not_asked budget bytes a asked (unsupported at h e) (apart 3 0 a (ap (λ b. b.status) e) (λ z. cc)) (apart 3 1 a (ap (λ b. b.status) e) (λ z. cc))
 parted asked budget bytes a (posed p h (large l e)) = not_asked budget bytes a asked (posed p h (large l e)) (apart 3 0 a (ap (λ b. b.status) e) (λ z. cc)) (apart 3 1 a (ap (λ b. b.status) e) (λ z. cc))
@@ -213,12 +213,12 @@ parted asked budget bytes a (posed p h (runs f k)) = record {
   part = k.part;
   whole = k.whole;
   none = no_part asked p (run_end budget p) k.part k.is_part;
-  valid = λ on z. end_valid budget bytes p k.plain k.part h f k.answers (its_part asked p (run_end budget p) k.part k.is_part on) z;
-  invalid = λ on z. end_invalid budget bytes p k.plain k.part h f k.answers (its_part asked p (run_end budget p) k.part k.is_part on) z;
+  valid = λ wanted on z. end_valid wanted budget bytes p k.plain k.part h f k.answers (its_part asked wanted p (run_end budget p) k.part k.is_part on) z;
+  invalid = λ wanted on z. end_invalid wanted budget bytes p k.plain k.part h f k.answers (its_part asked wanted p (run_end budget p) k.part k.is_part on) z;
 }
 
 -- where no proof is asked for, the answer is that of `solve` alone
-pub plain_solved : (budget : ℕ) (bytes : List ℕ) (a : Answer) → IsSolvedAs false budget bytes a → IsSolved budget bytes a
+pub plain_solved : (budget : ℕ) (bytes : List ℕ) (a : Answer) → IsSolvedAs None budget bytes a → IsSolved budget bytes a
 plain_solved budget bytes a h =
-    let s = parted false budget bytes a h in
+    let s = parted None budget bytes a h in
     subst (IsSolved budget bytes) (sym (s.whole ∙ ap (extended s.plain) (s.none refl) ∙ sym (unextended s.plain))) s.solved

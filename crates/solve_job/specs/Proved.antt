@@ -1,5 +1,5 @@
--- What `solve` answers where the proof is asked for: the same, and behind it the text of the proof.
-use Rattle.std.specs.Prelude.{◌≡◌, ℕ, ℤ, Bool, true, false, List, [], ◌++◌, length, codes}
+-- What `solve` answers where the proof is asked for: the same, and behind it the text of the proof in the form that is asked for.
+use Rattle.std.specs.Prelude.{◌≡◌, ℕ, ℤ, List, [], ◌++◌, length, codes, Option, Some, None}
 use Rattle.purse.specs.Runs.{total}
 use Rattle.proof_tree.specs.declared.node.Conclusion.{Conclusion}
 use Rattle.proof_tree.specs.declared.node.Conclusion.TheVariants.{Solution, Nothing}
@@ -13,19 +13,31 @@ use Rattle.search.specs.declared.judge.Outcome.{Outcome}
 use Rattle.search.specs.declared.judge.Outcome.TheVariants.{Valid, Invalid, Unknown}
 use Rattle.search.specs.Run as run
 use Rattle.search.specs.Run.{Ending, ends_with}
+use Rattle.proof_text.specs.declared.tokens.Token.{Token}
+use Rattle.proof_text.specs.Spellings.{spelled}
+use Rattle.tree_lines.specs.Lines.{proof_text}
 use Rattle.tree_text.specs.Shaped.{Holds}
+use Rattle.proof_writing.specs.Short.{short_text}
 use Rattle.proof_lines.specs.Body.{body}
 use Rattle.encoding.specs.Problems.{problem_root}
 use Rattle.pri_typing.specs.declared.problem.Problem.{Problem}
 use Rattle.answers.specs.Answer.{Answer, line}
 use Rattle.problem_file.specs.Answers.{AnswersFile, Poses}
 use Rattle.problem_file.specs.Encoded.{AnswersEncoded, Fits}
+use Rattle.solve_job.specs.declared.proving.ProofForm.{ProofForm}
+use Rattle.solve_job.specs.declared.proving.ProofForm.TheVariants.{Whole, Short}
 use Rattle.solve_job.specs.Solved.{AnswersRun, IsSolved, run_end}
 
--- the part is the line `proof:`, and behind it the text of this proof, which as a file of its own holds it too
-pub record PrintsProof (charges : ℕ) (x : Proof) (c : Conclusion) (part : List ℕ) : Type 0 where
+-- the text of a proof in a form
+abbrev pub form_text : ProofForm → ℕ → Proof → Conclusion → List Token
+form_text Whole n x c = proof_text n x c
+form_text Short n x c = short_text n x c
+
+-- the part is the line `proof:`, and behind it the text of this proof in this form, which as a file of its own holds it too
+pub record PrintsProof (form : ProofForm) (charges : ℕ) (x : Proof) (c : Conclusion) (part : List ℕ) : Type 0 where
   pub text : List ℕ
   pub line : part ≡ line (codes "proof:") ++ text
+  pub is : text ≡ spelled (form_text form charges x c)
   pub holds : Holds text charges x c
   pub own : body text ≡ text
 
@@ -34,22 +46,22 @@ abbrev pub charges_of : Problem → Proof → Conclusion → ℕ
 charges_of p x c = total (proof_walk (problem_root p).value (length p.existentials) x c).events
 
 -- what is printed of the proof of a run that ends so
-abbrev pub PrintsEnd : Problem → Ending run.Answer → List ℕ → Type 0
-PrintsEnd p (ends_with (run.valid vs x) stands) part = PrintsProof (charges_of p x (Solution vs)) x (Solution vs) part
-PrintsEnd p (ends_with (run.invalid log x) stands) part = PrintsProof (charges_of p x (Nothing (record { entries = log }))) x (Nothing (record { entries = log })) part
-PrintsEnd p _ part = part ≡ []
+abbrev pub PrintsEnd : ProofForm → Problem → Ending run.Answer → List ℕ → Type 0
+PrintsEnd form p (ends_with (run.valid vs x) stands) part = PrintsProof form (charges_of p x (Solution vs)) x (Solution vs) part
+PrintsEnd form p (ends_with (run.invalid log x) stands) part = PrintsProof form (charges_of p x (Nothing (record { entries = log }))) x (Nothing (record { entries = log })) part
+PrintsEnd form p _ part = part ≡ []
 
--- the part behind the answer: the proof, where it is asked for
-abbrev pub IsPart : Bool → Problem → Ending run.Answer → List ℕ → Type 0
-IsPart true p end part = PrintsEnd p end part
-IsPart false p end part = part ≡ []
+-- the part behind the answer: the proof, in the form that is asked for
+abbrev pub IsPart : Option ProofForm → Problem → Ending run.Answer → List ℕ → Type 0
+IsPart (Some form) p end part = PrintsEnd form p end part
+IsPart None p end part = part ≡ []
 
 -- an answer with a part of its text behind it
 abbrev pub extended : Answer → List ℕ → Answer
 extended answer part = record { status = answer.status; text = answer.text ++ part }
 
 -- the answer to a problem whose encoding fits, with its proof or without
-pub record AnswersRunAs (asked : Bool) (budget : ℕ) (p : Problem) (answer : Answer) : Type 0 where
+pub record AnswersRunAs (asked : Option ProofForm) (budget : ℕ) (p : Problem) (answer : Answer) : Type 0 where
   pub plain : Answer
   pub answers : AnswersRun budget p plain
   pub part : List ℕ
@@ -57,42 +69,42 @@ pub record AnswersRunAs (asked : Bool) (budget : ℕ) (p : Problem) (answer : An
   pub whole : answer ≡ extended plain part
 
 -- the answer of `solve` with this budget to the bytes of a file, with the proof or without
-abbrev pub IsSolvedAs : Bool → ℕ → List ℕ → Answer → Type 0
+abbrev pub IsSolvedAs : Option ProofForm → ℕ → List ℕ → Answer → Type 0
 IsSolvedAs asked budget = AnswersFile (AnswersEncoded (AnswersRunAs asked budget))
 
--- the part is the line `proof:`, and behind it the text of a proof of this, of the problem that the bytes pose
-pub record PrintsProofOf (bytes : List ℕ) (v : Verdict) (part : List ℕ) : Type 0 where
+-- the part is the line `proof:`, and behind it the text in this form of a proof of this, of the problem that the bytes pose
+pub record PrintsProofOf (form : ProofForm) (bytes : List ℕ) (v : Verdict) (part : List ℕ) : Type 0 where
   pub problem : Problem
   pub poses : Poses bytes problem
   pub fits : Fits problem
   pub tree : Proof
   pub conclusion : Conclusion
   pub charges : ℕ
-  pub prints : PrintsProof charges tree conclusion part
+  pub prints : PrintsProof form charges tree conclusion part
   pub proves : Proves (problem_root problem).value (length problem.existentials) tree conclusion charges v
 
 -- an answer is one of `solve` with a part behind it; where the proof is asked for the part has it, at each answer that the problem is
 -- valid or invalid, and else there is none
-pub record IsParted (asked : Bool) (budget : ℕ) (bytes : List ℕ) (answer : Answer) : Type 0 where
+pub record IsParted (asked : Option ProofForm) (budget : ℕ) (bytes : List ℕ) (answer : Answer) : Type 0 where
   pub plain : Answer
   pub solved : IsSolved budget bytes plain
   pub part : List ℕ
   pub whole : answer ≡ extended plain part
-  pub none : asked ≡ false → part ≡ []
-  pub valid : asked ≡ true → plain.status ≡ 0 → (vs : List ℤ) × PrintsProofOf bytes (verdict.Valid vs) part
-  pub invalid : asked ≡ true → plain.status ≡ 1 → PrintsProofOf bytes verdict.Invalid part
+  pub none : asked ≡ None → part ≡ []
+  pub valid : (form : ProofForm) → asked ≡ Some form → plain.status ≡ 0 → (vs : List ℤ) × PrintsProofOf form bytes (verdict.Valid vs) part
+  pub invalid : (form : ProofForm) → asked ≡ Some form → plain.status ≡ 1 → PrintsProofOf form bytes verdict.Invalid part
 
 -- ---- as the code prints it
-abbrev pub PrintsTree : Tree → List ℕ → Type 0
-PrintsTree t part = PrintsProof t.charges (proof_of t.root) t.conclusion part
+abbrev pub PrintsTree : ProofForm → Tree → List ℕ → Type 0
+PrintsTree form t part = PrintsProof form t.charges (proof_of t.root) t.conclusion part
 
-abbrev pub PrintsOutcome : Outcome → List ℕ → Type 0
-PrintsOutcome (Valid d vs t) part = PrintsTree t part
-PrintsOutcome (Invalid d t) part = PrintsTree t part
-PrintsOutcome (Unknown y r) part = part ≡ []
+abbrev pub PrintsOutcome : ProofForm → Outcome → List ℕ → Type 0
+PrintsOutcome form (Valid d vs t) part = PrintsTree form t part
+PrintsOutcome form (Invalid d t) part = PrintsTree form t part
+PrintsOutcome form (Unknown y r) part = part ≡ []
 
 -- the answer with the proof of the outcome behind it
-pub record IsProofTold (outcome : Outcome) (plain answer : Answer) : Type 0 where
+pub record IsProofTold (form : ProofForm) (outcome : Outcome) (plain answer : Answer) : Type 0 where
   pub part : List ℕ
-  pub prints : PrintsOutcome outcome part
+  pub prints : PrintsOutcome form outcome part
   pub whole : answer ≡ extended plain part

@@ -7,7 +7,7 @@ ghost use Rattle.problem_file.specs.Special.{HasPlainCuts};
 ghost use Rattle.solve_job.specs.Proved.{AnswersRunAs, IsSolvedAs};
 ghost use Rattle.std.specs.Prelude.{◌≤◌, ◌<◌, ◌^◌, length, IfOk};
 
-use crate::proving::tell_proof;
+use crate::proving::{ProofForm, tell_proof};
 use crate::telling::tell;
 use answers::Output;
 use function_encoding::Encoded;
@@ -18,14 +18,20 @@ use purse::Purse;
 use search::prove;
 use std::alloc::Global;
 
-/// The answer of `solve` with a budget to a problem's file of these bytes, with the proof behind it where that is asked for.
-pub fn answer(alloc: Global, bytes: &[u8], budget: u64, proof: bool) -> Result<Output, Memory>
+/// The answer of `solve` with a budget to a problem's file of these bytes, with the proof behind it in the form that is asked for, if
+/// one is.
+pub fn answer(
+    alloc: Global,
+    bytes: &[u8],
+    budget: u64,
+    asked: Option<ProofForm>,
+) -> Result<Output, Memory>
     requires bytes { length bytes.now < 2 ^ 32 }
     requires budget { budget ≤ 1000000000 }
-    ensures { IfOk result (λ output. IsSolvedAs proof budget bytes.now (answer_of output)) }
+    ensures { IfOk result (λ output. IsSolvedAs asked budget bytes.now (answer_of output)) }
 {
     match read_problem(alloc, bytes) {
-        Ok(problem) => problem_answer(alloc, &problem, budget, proof),
+        Ok(problem) => problem_answer(alloc, &problem, budget, asked),
         Err(fault) => refuse(alloc, fault),
     }
 }
@@ -35,17 +41,17 @@ fn problem_answer(
     alloc: Global,
     problem: &Problem,
     budget: u64,
-    proof: bool,
+    asked: Option<ProofForm>,
 ) -> Result<Output, Memory>
     requires well_formed { IsWellFormed problem.now }
     requires distinct { HasDistinctNames problem.now }
     requires identifiers { HasIdentifiers problem.now }
     requires cuts { HasPlainCuts problem.now }
     requires budget { budget ≤ 1000000000 }
-    ensures { IfOk result (λ output. AnswersEncoded (AnswersRunAs proof budget) problem.now (answer_of output)) }
+    ensures { IfOk result (λ output. AnswersEncoded (AnswersRunAs asked budget) problem.now (answer_of output)) }
 {
     match encode_problem(alloc, problem) {
-        Ok(encoded) => run_answer(alloc, problem, &encoded, budget, proof),
+        Ok(encoded) => run_answer(alloc, problem, &encoded, budget, asked),
         Err(refusal) => refuse_encoding(alloc, refusal),
     }
 }
@@ -56,7 +62,7 @@ fn run_answer(
     problem: &Problem,
     encoded: &Encoded,
     budget: u64,
-    proof: bool,
+    asked: Option<ProofForm>,
 ) -> Result<Output, Memory>
     requires well_formed { IsWellFormed problem.now }
     requires distinct { HasDistinctNames problem.now }
@@ -64,13 +70,13 @@ fn run_answer(
     requires cuts { HasPlainCuts problem.now }
     requires encoded { IsEncoded problem.now encoded.now }
     requires budget { budget ≤ 1000000000 }
-    ensures { IfOk result (λ output. AnswersRunAs proof budget problem.now (answer_of output)) }
+    ensures { IfOk result (λ output. AnswersRunAs asked budget problem.now (answer_of output)) }
 {
     let mut purse = Purse::new(budget);
     let outcome = prove(alloc, &encoded.root, encoded.constants, &mut purse)?;
     let plain = tell(alloc, problem, &outcome, &mut purse)?;
-    if proof {
-        return tell_proof(alloc, plain, &outcome);
+    match asked {
+        Some(form) => tell_proof(alloc, plain, &outcome, form),
+        None => Ok(plain),
     }
-    Ok(plain)
 }

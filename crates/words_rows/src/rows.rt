@@ -17,8 +17,9 @@ fn named(alloc: Global, words: &[&str]) -> Result<String, Fail> {
                 file,
                 budget,
                 proof,
+                short,
             },
-        ) => Ok(format!(in alloc; "solve {file} {budget} {proof}")?),
+        ) => Ok(format!(in alloc; "solve {file} {budget} {proof} {short}")?),
         Ok(Job::Elim { file, budget }) => Ok(format!(in alloc; "elim {file} {budget}")?),
         Ok(Job::Drill { count, budget }) => Ok(format!(in alloc; "drill {count} {budget}")?),
         Ok(Job::Check { file, proof }) => Ok(format!(in alloc; "check {file} {proof}")?),
@@ -37,47 +38,62 @@ fn check(rt: &impl Abort, alloc: Global, rows: &[(&[&str], &str)]) -> Result<(),
 
 #[test]
 fn words_name_jobs(rt: HostRuntime) -> Result<(), Fail> {
-    let rows: [(&[&str], &str); 24] = [
-        (&["solve", "f"], "solve f 50000000 false"),
+    let rows: [(&[&str], &str); 27] = [
+        (&["solve", "f"], "solve f 50000000 false false"),
         (&["elim", "f"], "elim f 50000000"),
-        (&["solve", "f", "--budget", "1"], "solve f 1 false"),
+        (&["solve", "f", "--budget", "1"], "solve f 1 false false"),
         (
             &["elim", "--budget", "1000000000", "f"],
             "elim f 1000000000",
         ),
-        (&["solve", "--budget=0000000007", "f"], "solve f 7 false"),
-        (&["solve", "-"], "solve - 50000000 false"),
-        (&["solve", ""], "solve  50000000 false"),
-        (&["solve", "solve"], "solve solve 50000000 false"),
-        (&["solve", "--", "f"], "solve f 50000000 false"),
-        (&["solve", "f", "--"], "solve f 50000000 false"),
-        (&["solve", "--", "--"], "solve -- 50000000 false"),
-        (&["solve", "--", "-x"], "solve -x 50000000 false"),
+        (
+            &["solve", "--budget=0000000007", "f"],
+            "solve f 7 false false",
+        ),
+        (&["solve", "-"], "solve - 50000000 false false"),
+        (&["solve", ""], "solve  50000000 false false"),
+        (&["solve", "solve"], "solve solve 50000000 false false"),
+        (&["solve", "--", "f"], "solve f 50000000 false false"),
+        (&["solve", "f", "--"], "solve f 50000000 false false"),
+        (&["solve", "--", "--"], "solve -- 50000000 false false"),
+        (&["solve", "--", "-x"], "solve -x 50000000 false false"),
         (&["elim", "--", "--budget"], "elim --budget 50000000"),
         (
             &["elim", "--budget", "5", "--", "--budget=6"],
             "elim --budget=6 5",
         ),
-        (&["solve", "f=g", "--budget=5"], "solve f=g 5 false"),
-        (&["solve", "--proof", "f"], "solve f 50000000 true"),
+        (&["solve", "f=g", "--budget=5"], "solve f=g 5 false false"),
+        (&["solve", "--proof", "f"], "solve f 50000000 true false"),
         (
             &["solve", "--budget", "5", "f", "--proof", "--"],
-            "solve f 5 true",
+            "solve f 5 true false",
         ),
-        (&["solve", "--", "--proof"], "solve --proof 50000000 false"),
+        (
+            &["solve", "--", "--proof"],
+            "solve --proof 50000000 false false",
+        ),
+        (&["solve", "--short", "f"], "solve f 50000000 false true"),
+        (
+            &["solve", "f", "--short", "--budget=5"],
+            "solve f 5 false true",
+        ),
+        (
+            &["solve", "--", "--short"],
+            "solve --short 50000000 false false",
+        ),
         (&["check", "f", "g"], "check f g"),
         (&["check", "--", "g", "-f"], "check g -f"),
         (&["check", "-", "-"], "check - -"),
         (&["drill", "1"], "drill 1 50000000"),
         (&["drill", "--budget", "7", "0000001000"], "drill 1000 7"),
-        (&["solve", "ä", "--budget=5"], "solve ä 5 false"),
+        (&["solve", "ä", "--budget=5"], "solve ä 5 false false"),
     ];
     check(&rt, rt.alloc(), &rows)
 }
 
 #[test]
 fn words_name_none(rt: HostRuntime) -> Result<(), Fail> {
-    let rows: [&[&str]; 49] = [
+    let rows: [&[&str]; 55] = [
         &[],
         &["f"],
         &["f", "solve"],
@@ -122,11 +138,17 @@ fn words_name_none(rt: HostRuntime) -> Result<(), Fail> {
         &["solve", "f", "--proof="],
         &["solve", "f", "--proof=true"],
         &["solve", "f", "--pro"],
+        &["solve", "f", "--proof", "--short"],
+        &["solve", "--short", "f", "--proof"],
+        &["solve", "f", "--short", "--short"],
+        &["solve", "f", "--short=true"],
         &["elim", "f", "--proof"],
+        &["elim", "f", "--short"],
         &["check", "f"],
         &["check", "f", "g", "h"],
         &["check", "f", "g", "--budget", "1"],
         &["check", "f", "--proof"],
+        &["check", "f", "g", "--short"],
     ];
     for words in rows {
         check(&rt, rt.alloc(), &[(words, "no job")])?;

@@ -36,14 +36,14 @@ tell_proof-requires c =
     printable c.args.budget c.args.problem.now c.args.encoded.now c.requires.encoded (let few = c.requires.well_formed.few in omega (arith, few)) c.requires.budget c.in_ok-outcome.outcome _
     (subst (λ old. EndsAs (form c.args.encoded.now.root) c.args.encoded.now.constants old (Ok c.in_ok-outcome.outcome) c.prove.new.purse) c.new-purse.ensures c.in_ok-outcome.ensures)
 
-pub returns-then-proof : goal.returns-then-proof
-returns-then-proof c =
+pub returns-in-Some : goal.returns-in-Some
+returns-in-Some c =
     told_proved c.args.budget c.args.problem.now c.args.encoded.now c.requires.encoded c.in_ok-outcome.outcome _
-    (subst (λ old. EndsAs (form c.args.encoded.now.root) c.args.encoded.now.constants old (Ok c.in_ok-outcome.outcome) c.prove.new.purse) c.new-purse.ensures c.in_ok-outcome.ensures) c.args.proof c.if-proof.true
+    (subst (λ old. EndsAs (form c.args.encoded.now.root) c.args.encoded.now.constants old (Ok c.in_ok-outcome.outcome) c.prove.new.purse) c.new-purse.ensures c.in_ok-outcome.ensures) c.args.asked c.in-Some.form c.in-Some.is
     c.in_ok-plain.plain c.in_ok-plain.ensures _ c.tell_proof.ensures
 
 pub returns : goal.returns
 returns c =
     told_plain c.args.budget c.args.problem.now c.args.encoded.now c.requires.encoded c.in_ok-outcome.outcome _
-    (subst (λ old. EndsAs (form c.args.encoded.now.root) c.args.encoded.now.constants old (Ok c.in_ok-outcome.outcome) c.prove.new.purse) c.new-purse.ensures c.in_ok-outcome.ensures) c.args.proof c.if-proof.false
+    (subst (λ old. EndsAs (form c.args.encoded.now.root) c.args.encoded.now.constants old (Ok c.in_ok-outcome.outcome) c.prove.new.purse) c.new-purse.ensures c.in_ok-outcome.ensures) c.args.asked c.in-None.is
     c.in_ok-plain.plain c.in_ok-plain.ensures
