@@ -70,28 +70,25 @@ fn proofs_stand_behind_answers(rt: HostRuntime) -> Result<(), Fail> {
     Ok(())
 }
 
-// Asks that the whole output of `solve` with this flag is accepted as a proof's file.
-fn prints_accepted(rt: &impl Abort, alloc: Global, flag: &str, file: &str) -> Result<(), Fail> {
-    let words = ["solve", "f", flag];
-    let (solved, printed) = ends_over(alloc, &words, &[("f", file.as_bytes())], &[], &[])?;
-    let files = [("f", file.as_bytes()), ("g", printed.as_slice())];
-    let (ended, taken) = ends_over(alloc, &["check", "f", "g"], &files, &[], &[])?;
-    assert!(rt; solved <= 1, "at {flag} {file}");
-    assert_eq!(rt; ended, 0, "at {flag} {file}");
-    assert!(rt;
-        taken.as_slice().starts_with(b"CHECKED "),
-        "at {flag} {file}"
-    );
-    let told = taken.as_slice().get(8..).unwrap_or(&[]);
-    assert!(rt; printed.as_slice().starts_with(told), "at {flag} {file}");
-    Ok(())
-}
-
 #[test]
 fn printed_proofs_are_accepted(rt: HostRuntime) -> Result<(), Fail> {
     for file in PROVED {
-        prints_accepted(&rt, rt.alloc(), "--proof", file)?;
-        prints_accepted(&rt, rt.alloc(), "--short", file)?;
+        for words in [["solve", "f", "--proof"], ["solve", "f", "--short"]] {
+            let (solved, printed) = ends_over(
+                rt.alloc(),
+                &words,
+                &[("f", file.as_bytes())],
+                &[],
+                &[],
+            )?;
+            let files = [("f", file.as_bytes()), ("g", printed.as_slice())];
+            let (ended, taken) = ends_over(rt.alloc(), &["check", "f", "g"], &files, &[], &[])?;
+            assert!(rt; solved <= 1, "at {file}");
+            assert_eq!(rt; ended, 0, "at {file}");
+            assert!(rt; taken.as_slice().starts_with(b"CHECKED "), "at {file}");
+            let told = taken.as_slice().get(8..).unwrap_or(&[]);
+            assert!(rt; printed.as_slice().starts_with(told), "at {file}");
+        }
     }
     Ok(())
 }
