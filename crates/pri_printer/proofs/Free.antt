@@ -8,7 +8,7 @@ use Rattle.std.proofs.lemmas.Bool.{false≢true, cases_lt}
 use Rattle.pri_tokens.proofs.Tests.{left_true, right_true}
 use Rattle.pri_printer.proofs.Lexing.{digit_is_name_byte}
 use Rattle.pri_tokens.specs.Lexemes.{is_name_byte}
-use Rattle.pri_typing.specs.Scope.{is_text, is_among}
+use Rattle.texts.specs.Texts.{is_text, is_among}
 use Rattle.pri_printer.specs.Quotient.{quotient_name, free_from}
 use Rattle.pri_tokens.specs.Written.{IsIdentifier}
 use Rattle.pri_typing.proofs.Distinct.{text_same}

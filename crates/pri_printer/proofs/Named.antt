@@ -12,7 +12,8 @@ use Rattle.pri_typing.specs.declared.problem.Symbol.{Symbol}
 use Rattle.pri_typing.specs.declared.problem.Problem.{Problem}
 use Rattle.pri_typing.specs.declared.symbols.Entry.{Entry}
 use Rattle.pri_typing.specs.declared.scope.Referent.TheVariants as referent
-use Rattle.pri_typing.specs.Scope.{is_text, is_among, existentials, universals, existential_text, universal_text, declared_from, refers, bound_or_declared}
+use Rattle.texts.specs.Texts.{is_text, is_among}
+use Rattle.pri_typing.specs.Scope.{existentials, universals, existential_text, universal_text, declared_from, refers, bound_or_declared}
 use Rattle.pri_tokens.specs.declared.terminals.Terminal.TheVariants as t
 use Rattle.pri_tokens.specs.Kinds.{is_name}
 use Rattle.pri_tokens.specs.Spellings.{word_of}

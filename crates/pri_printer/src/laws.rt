@@ -8,7 +8,7 @@ ghost use Rattle.pri_printer.specs.Printed.{dnf_formula};
 ghost use Rattle.pri_printer.specs.Quotient.{quotient_name, quotient_number};
 ghost use Rattle.pri_typing.specs.declared.problem.Problem.{Problem};
 ghost use Rattle.pri_typing.specs.Problems.{IsTrueAt, SpeaksOfExistentials};
-ghost use Rattle.pri_typing.specs.Scope.{is_among};
+ghost use Rattle.texts.specs.Texts.{is_among};
 ghost use Rattle.pri_typing.specs.WellFormed.{IsWellFormed, names_of_symbols};
 ghost use Rattle.typed_formula.specs.Truth.{Meaning};
 

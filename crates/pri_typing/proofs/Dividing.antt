@@ -8,7 +8,8 @@ use Rattle.typed_formula.specs.Formula.{Formula, Expression, Expressions}
 use Rattle.pri_typing.specs.declared.scope.Referent.{Referent}
 use Rattle.pri_typing.specs.declared.scope.Referent.TheVariants as referent
 use Rattle.pri_typing.specs.Phrase.{Phrase, number, truth, used, group, choice, absolute, lesser, greater, minus, product, sum, compared, negation, quantified, part, conjunction, disjunction, implication, equivalence, Phrases, no_phrase, and_phrase, Addends, no_addend, and_addend}
-use Rattle.pri_typing.specs.Scope.{Scope, inside, refers, place}
+use Rattle.texts.specs.Texts.{place}
+use Rattle.pri_typing.specs.Scope.{Scope, inside, refers}
 use Rattle.pri_typing.specs.Typing.{says, value, members, terms, signed_terms, use_says, use_value, parts_in, all_parts, addend_parts}
 use Rattle.pri_typing.specs.Parts.{components, all_components, component_faults, formula_faults, parts_at}
 use Rattle.pri_typing.specs.Everywhere.{Property, Everywhere, AllEverywhere, TermEverywhere, TermsEverywhere}

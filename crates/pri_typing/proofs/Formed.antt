@@ -9,7 +9,8 @@ use Rattle.pri_typing.specs.declared.problem.Problem.{Problem}
 use Rattle.pri_typing.specs.declared.declaration.Declaration.{Declaration}
 use Rattle.pri_typing.specs.declared.scope.Category.TheVariants as category
 use Rattle.pri_typing.specs.Phrase.{Phrase, first_token}
-use Rattle.pri_typing.specs.Scope.{declarations, functions, predicates, constants, is_text}
+use Rattle.texts.specs.Texts.{is_text}
+use Rattle.pri_typing.specs.Scope.{declarations, functions, predicates, constants}
 use Rattle.pri_typing.specs.Faults.{faults}
 use Rattle.pri_typing.specs.Typing.{says, parts_in, part_names}
 use Rattle.pri_typing.specs.Parts.{formula_faults, block_faults, is_cut, cuts_in}

@@ -8,7 +8,8 @@ use Rattle.pri_typing.specs.declared.problem.Symbol.{Symbol}
 use Rattle.pri_typing.specs.declared.declaration.Kind.{Kind}
 use Rattle.pri_typing.specs.declared.declaration.Kind.TheVariants.{Existential, Universal, Function, Predicate}
 use Rattle.pri_typing.specs.declared.declaration.Declaration.{Declaration}
-use Rattle.pri_typing.specs.Scope.{existentials, universals, functions, predicates, is_text, is_among}
+use Rattle.texts.specs.Texts.{is_text, is_among}
+use Rattle.pri_typing.specs.Scope.{existentials, universals, functions, predicates}
 use Rattle.pri_typing.specs.Files.{declaration_faults, own_faults, most_symbols}
 use Rattle.pri_typing.specs.WellFormed.{names_of_symbols}
 use Rattle.pri_typing.proofs.WellFormed.{nil_cons, nil_split}

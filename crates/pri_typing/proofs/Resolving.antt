@@ -9,7 +9,8 @@ use Rattle.pri_typing.specs.declared.problem.TypeRefusal.TheVariants.{Many, Rede
 use Rattle.pri_typing.specs.declared.scope.Site.{Site}
 use Rattle.pri_typing.specs.declared.scope.Category.TheVariants.{Formula}
 use Rattle.pri_typing.specs.Phrase.{Phrase, first_token}
-use Rattle.pri_typing.specs.Scope.{declarations, existentials, universals, functions, predicates, is_among}
+use Rattle.texts.specs.Texts.{is_among}
+use Rattle.pri_typing.specs.Scope.{declarations, existentials, universals, functions, predicates}
 use Rattle.pri_typing.specs.Sites.{bound_texts, scope_at}
 use Rattle.pri_typing.specs.Faults.{least, earlier, faults}
 use Rattle.pri_typing.specs.Typing.{says, applications, first_of, part_names}

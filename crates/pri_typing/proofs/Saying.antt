@@ -11,7 +11,8 @@ use Rattle.pri_typing.specs.declared.scope.Category.{Category}
 use Rattle.pri_typing.specs.declared.scope.Category.TheVariants as category
 use Rattle.pri_typing.specs.declared.scope.Referent.TheVariants as referent
 use Rattle.pri_typing.specs.Phrase.{Phrase, phrase, number, truth, used, group, choice, absolute, lesser, greater, minus, product, sum, compared, negation, quantified, part, conjunction, disjunction, implication, equivalence, Phrases, no_phrase, and_phrase, Addends, no_addend, and_addend, first_token, count}
-use Rattle.pri_typing.specs.Scope.{Scope, inside, bind, refers, constants, place, declarations, depth_of, declared_from, bound_or_declared}
+use Rattle.texts.specs.Texts.{place}
+use Rattle.pri_typing.specs.Scope.{Scope, inside, bind, refers, constants, declarations, depth_of, declared_from, bound_or_declared}
 use Rattle.pri_typing.specs.Faults.{faults, all_faults, addend_faults, use_faults, needs, product_faults}
 use Rattle.pri_typing.specs.Typing.{says, value, members, terms, signed_terms, use_says, use_value, signed, relation_of, quantifiers, part_names}
 use Rattle.pri_typing.specs.Files.{declaration_faults, problem_of, scope_of, parts_faults, file_faults, has_existential, IsTyped}

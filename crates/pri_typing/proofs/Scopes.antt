@@ -1,46 +1,15 @@
--- Texts among others, and what names stand for.
+-- What names stand for.
 use Rattle.std.proofs.Common.{◌≡◌, ℕ, suc, ◌+◌, Bool, true, false, ◌||◌, cond, not, List, [], ◌∷◌, ◌++◌, map, length, Option, Some, None, refl, sym, ap, ◌∙◌, arith, is_some, if◌then◌else◌, position, nat_lt, ◌<◌, take, get_or, Bor}
 use Rattle.std.proofs.lemmas.List.{take_more, length-take-le}
-use Rattle.std.specs.Global.{Vec}
-use Rattle.std.specs.List.{list_any, prefix_len}
-use Rattle.std.proofs.lemmas.List.Sums.{prefix_len-le-length}
-use Rattle.std.proofs.lemmas.List.{length-map}
-use Rattle.indexmap.specs.IndexSet.{insert_key}
 use Rattle.pri_reader.specs.declared.tree.Name.{Name}
-use Rattle.pri_typing.specs.Scope.{place, is_text, is_among, with_text, bind, depth_of}
+use Rattle.texts.specs.Texts.{is_text}
+use Rattle.pri_typing.specs.Scope.{bind, depth_of}
 use Rattle.pri_typing.specs.Sites.{last_or, last_place, bound_texts}
 use Rattle.pri_typing.specs.declared.scope.BoundNames.{BoundNames}
 use Rattle.pri_typing.specs.declared.scope.BoundNames.TheViews as bound
 use Rattle.std.specs.Option.{IfSome}
 
--- Texts that are kept as vectors.
-
-abbrev pub texts_of : List (Vec ℕ) → List (List ℕ)
-texts_of = map (λ k. k.items)
-
-pub among_is : (t : List ℕ) (ks : List (Vec ℕ)) → list_any (λ k. is_text t k.items) ks ≡ is_among t (texts_of ks)
-among_is t [] = refl
-among_is t (k ∷ ks) = ap (λ z. is_text t k.items || z) (among_is t ks)
-
-prefix_is : (t : List ℕ) (ks : List (Vec ℕ)) → prefix_len (λ k. not (is_text t k.items)) ks ≡ prefix_len (λ x. not (is_text t x)) (texts_of ks)
-prefix_is t [] = refl
-prefix_is t (k ∷ ks) = ap (λ z. cond (not (is_text t k.items)) (1 + z) 0) (prefix_is t ks)
-
-pub position_is : (t : List ℕ) (ks : List (Vec ℕ)) → position (λ k. is_text t k.items) ks ≡ position (is_text t) (texts_of ks)
-position_is t ks = λ i. if nat_lt (prefix_is t ks i) (sym (length-map ks (λ k. k.items)) i) then Some (prefix_is t ks i) else None
-
-map-append : (xs ys : List (Vec ℕ)) → texts_of (xs ++ ys) ≡ texts_of xs ++ texts_of ys
-map-append [] ys = refl
-map-append (x ∷ xs) ys = ap (λ z. x.items ∷ z) (map-append xs ys)
-
-pub inserted_is : (ks : List (Vec ℕ)) (k : Vec ℕ) → texts_of (insert_key (λ x y. is_text x.items y.items) ks k) ≡ with_text k.items (texts_of ks)
-inserted_is ks k = by (list_any (λ y. is_text k.items y.items) ks) ∙ ap (λ z. if z then texts_of ks else texts_of ks ++ k.items ∷ []) (among_is k.items ks)
-  where
-    by : (b : Bool) → texts_of (if b then ks else ks ++ k ∷ []) ≡ (if b then texts_of ks else texts_of ks ++ k.items ∷ [])
-    by true = refl
-    by false = map-append ks (k ∷ [])
-
--- BoundNames names.
+-- Bound names.
 
 pub last_place-append : (t : List ℕ) (names : List Name) (n : Name) → last_place t (names ++ n ∷ []) ≡ (if is_text t n.text then Some (length names) else last_place t names)
 last_place-append t [] n = refl
@@ -111,12 +80,3 @@ depth_of-within t (x ∷ outer) = by (is_text t x) (depth_of t outer) (depth_of-
     by false (Some d) h = omega arith
 
 pub ruleset bounding = (bound_more, depth_of-more)
-
--- the place of a text that is not there
-pub place_missing : (t : List ℕ) (texts : List (List ℕ)) → position (is_text t) texts ≡ None → place t texts ≡ length texts
-place_missing t texts h = by (nat_lt (prefix_len (λ x. not (is_text t x)) texts) (length texts)) refl h
-  where
-    by : (b : Bool) → nat_lt (prefix_len (λ x. not (is_text t x)) texts) (length texts) ≡ b
-        → (if b then Some (prefix_len (λ x. not (is_text t x)) texts) else None) ≡ None → prefix_len (λ x. not (is_text t x)) texts ≡ length texts
-    by true e k = absurd cc
-    by false e k = grind (arith, e, prefix_len-le-length (λ x. not (is_text t x)) texts)

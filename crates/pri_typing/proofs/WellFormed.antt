@@ -10,7 +10,8 @@ use Rattle.pri_typing.specs.declared.declaration.Declaration.{Declaration}
 use Rattle.pri_typing.specs.declared.scope.Referent.{Referent}
 use Rattle.pri_typing.specs.declared.scope.Referent.TheVariants as referent
 use Rattle.pri_typing.specs.Phrase.{Phrase, number, truth, used, group, choice, absolute, lesser, greater, minus, product, sum, compared, negation, quantified, part, conjunction, disjunction, implication, equivalence, Phrases, no_phrase, and_phrase, Addends, no_addend, and_addend, first_token, count}
-use Rattle.pri_typing.specs.Scope.{Scope, inside, refers, functions, predicates, constants, is_among, is_text, place}
+use Rattle.texts.specs.Texts.{is_among, is_text, place}
+use Rattle.pri_typing.specs.Scope.{Scope, inside, refers, functions, predicates, constants}
 use Rattle.pri_typing.specs.Faults.{faults, all_faults, addend_faults, use_faults, is_numeral, are_numerals, product_faults}
 use Rattle.pri_typing.specs.Typing.{says, value, members, terms, signed_terms, use_says, use_value, signed, parts_in, all_parts, addend_parts}
 use Rattle.pri_typing.specs.Ranges.{IsRanged, AreRanged, AreAddedRanged}

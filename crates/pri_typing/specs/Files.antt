@@ -10,7 +10,8 @@ use Rattle.pri_typing.specs.declared.problem.TypeRefusal.{TypeRefusal}
 use Rattle.pri_typing.specs.declared.problem.TypeRefusal.TheVariants.{Redeclared, Many}
 use Rattle.pri_typing.specs.Phrase.{Phrase, truth, phrase, first_token}
 use Rattle.pri_typing.specs.declared.declaration.Declaration.{Declaration}
-use Rattle.pri_typing.specs.Scope.{declarations, existentials, universals, functions, predicates, Scope, is_among}
+use Rattle.texts.specs.Texts.{is_among}
+use Rattle.pri_typing.specs.Scope.{declarations, existentials, universals, functions, predicates, Scope}
 use Rattle.pri_typing.specs.declared.scope.Category.TheVariants.{Formula}
 use Rattle.pri_typing.specs.Faults.{faults}
 use Rattle.pri_typing.specs.Parts.{formula_faults, block_faults, is_cut, cuts_in}

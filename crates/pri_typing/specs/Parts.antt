@@ -9,7 +9,7 @@ use Rattle.pri_typing.specs.declared.problem.Cut.{Cut}
 use Rattle.pri_typing.specs.declared.problem.TypeRefusal.{TypeRefusal}
 use Rattle.pri_typing.specs.declared.problem.TypeRefusal.TheVariants.{Parts}
 use Rattle.pri_typing.specs.Phrase.{Phrase, truth, group, negation, part, conjunction, disjunction, implication, Phrases, no_phrase, and_phrase, first_token}
-use Rattle.pri_typing.specs.Scope.{is_among, place, with_text}
+use Rattle.texts.specs.Texts.{is_among, place, with_text, misses}
 use Rattle.pri_typing.specs.Typing.{distinct_from, parts_in}
 
 -- a formula with its sign, true for plus
@@ -61,10 +61,6 @@ name_faults parts given (n ∷ names) = own_name_faults (is_among n.text parts) 
 -- the names of all sets
 abbrev pub names_of : List NameSet → List Name
 names_of = flat_map (λ s. s.names)
-
--- some part is not given
-abbrev pub misses : List (List ℕ) → List (List ℕ) → Bool
-misses parts given = list_any (λ p. not (is_among p given)) parts
 
 -- the faults of the sets of a block, whose first token is `at`
 abbrev pub cut_faults : List (List ℕ) → Bool → ℕ → List NameSet → List TypeRefusal

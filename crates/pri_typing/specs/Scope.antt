@@ -1,7 +1,7 @@
 -- What a file declares, and what a name of a formula stands for.
-use Rattle.std.specs.Prelude.{ℕ, zero, suc, ◌+◌, Bool, List, [], ◌∷◌, ◌++◌, length, map, Option, Some, None, nat_eq, if◌then◌else◌}
-use Rattle.std.specs.List.{flat_map, filter_map, list_any, position_or_len}
-use Rattle.std.specs.Cmp.Lexicographic.{pointwise}
+use Rattle.std.specs.Prelude.{ℕ, zero, suc, ◌+◌, Bool, List, [], ◌∷◌, ◌++◌, length, map, Option, Some, None, if◌then◌else◌}
+use Rattle.std.specs.List.{flat_map, filter_map}
+use Rattle.texts.specs.Texts.{is_text}
 use Rattle.pri_reader.specs.declared.tree.Name.{Name}
 use Rattle.pri_reader.specs.declared.tree.Block.{Block}
 use Rattle.pri_reader.specs.declared.tree.Block.TheVariants as block
@@ -60,22 +60,6 @@ abbrev pub predicates : List Declaration → List Symbol
 predicates = filter_map predicate_symbol
 
 -- Names.
-
--- the texts are the same
-abbrev pub is_text : List ℕ → List ℕ → Bool
-is_text = pointwise nat_eq
-
--- the text is one of the list
-abbrev pub is_among : List ℕ → List (List ℕ) → Bool
-is_among text texts = list_any (is_text text) texts
-
--- the text put behind the others, if it is not among them
-abbrev pub with_text : List ℕ → List (List ℕ) → List (List ℕ)
-with_text text texts = if is_among text texts then texts else texts ++ text ∷ []
-
--- the place of a text in a list
-abbrev pub place : List ℕ → List (List ℕ) → ℕ
-place text texts = position_or_len (is_text text) texts
 
 -- how many symbols of this kind are declared
 abbrev pub rank : Kind → List Declaration → ℕ

@@ -4,7 +4,8 @@ use Rattle.pri_reader.specs.declared.tree.Name.{Name}
 use Rattle.pri_typing.specs.declared.scope.BoundNames.{BoundNames, Nothing, More'}
 use Rattle.pri_typing.specs.declared.scope.Site.{Site}
 use Rattle.pri_typing.specs.Files.{most_symbols}
-use Rattle.pri_typing.specs.Scope.{Scope, bind, is_text}
+use Rattle.texts.specs.Texts.{is_text}
+use Rattle.pri_typing.specs.Scope.{Scope, bind}
 
 -- the most names that are bound at one site
 abbrev pub most_bound : ℕ

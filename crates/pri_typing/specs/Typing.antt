@@ -10,7 +10,8 @@ use Rattle.typed_formula.specs.declared.typed.Relation.TheVariants as relation
 use Rattle.pri_typing.specs.declared.scope.Referent.{Referent}
 use Rattle.pri_typing.specs.declared.scope.Referent.TheVariants as referent
 use Rattle.pri_typing.specs.Phrase.{Phrase, number, truth, used, group, choice, absolute, lesser, greater, minus, product, sum, compared, negation, quantified, part, conjunction, disjunction, implication, equivalence, Phrases, no_phrase, and_phrase, Addends, no_addend, and_addend}
-use Rattle.pri_typing.specs.Scope.{Scope, inside, refers, with_text, place}
+use Rattle.texts.specs.Texts.{with_text, place}
+use Rattle.pri_typing.specs.Scope.{Scope, inside, refers}
 
 abbrev pub relation_of : Comparison → Relation
 relation_of comparison.Equal = relation.Eq

@@ -9,7 +9,7 @@ use Rattle.pri_typing.specs.declared.problem.Symbol.{Symbol}
 use Rattle.pri_typing.specs.declared.problem.Cut.{Cut}
 use Rattle.pri_typing.specs.Everywhere.{Property, Everywhere}
 use Rattle.pri_typing.specs.Files.{most_symbols}
-use Rattle.pri_typing.specs.Scope.{is_text}
+use Rattle.texts.specs.Texts.{is_text}
 
 -- Numbers, names, applications, sums, products and parts.
 

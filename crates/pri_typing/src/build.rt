@@ -5,7 +5,8 @@ ghost use Rattle.typed_formula.specs.Formula.{and_expression, expression, expres
 ghost use Rattle.pri_typing.specs.Sites.{IsFit, scope_at};
 ghost use Rattle.pri_typing.specs.Limits.{AddendsAreReady, AreReady, IsReady, IsReadyUnder};
 ghost use Rattle.pri_typing.specs.Phrase.{addends_of, phrase, phrases_of};
-ghost use Rattle.pri_typing.specs.Scope.{inside, place, refers};
+ghost use Rattle.texts.specs.Texts.{place};
+ghost use Rattle.pri_typing.specs.Scope.{inside, refers};
 ghost use Rattle.pri_typing.specs.Typing.{members, quantifiers, relation_of, says, signed, signed_terms, terms, use_says, use_value, value};
 
 use crate::scope::{BoundNames, Referent, Site, refer};

@@ -15,7 +15,6 @@ mod refusals;
 mod resolution;
 mod scope;
 mod symbols;
-mod texts;
 
 pub use laws::{
     components_law, cuts_law, existentials_law, holds_law, least_law, limits_law, names_law,

@@ -22,10 +22,10 @@ use crate::problem::{Problem, TypeRefusal};
 use crate::refusals::earlier_of;
 use crate::scope::{BoundNames, Category, Site};
 use crate::symbols::Symbols;
-use crate::texts::Texts;
 use linear_term::Memory;
 use pri_reader::{Block, Expr, File};
 use std::alloc::Global;
+use texts::Texts;
 
 /// The formula of the `\problem` block.
 fn find_problem(blocks: &[Block]) -> &Expr

@@ -10,8 +10,8 @@ ghost use Rattle.pri_typing.specs.declared.declaration.Declaration.{Declaration}
 
 use crate::declaration::Kind;
 use crate::symbols::Symbols;
-use crate::texts::Texts;
 use pri_reader::Name;
+use texts::Texts;
 
 /// What an expression is: a formula, or a term.
 #[derive(Clone, Copy, Debug, PartialEq, Eq)]

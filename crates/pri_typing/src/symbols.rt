@@ -3,7 +3,8 @@
 ghost use Rattle.std.specs.Prelude.{◌≡◌, List, ℕ, IfOk, OnOk, IfErr, ◌++◌, ◌∷◌, [], map, length, Some, None, is_some, if◌then◌else◌, ◌≤◌};
 ghost use Rattle.indexmap.specs.IndexMap.{insert_entry};
 ghost use Rattle.pri_typing.specs.declared.declaration.Declaration.{Declaration};
-ghost use Rattle.pri_typing.specs.Scope.{is_text, declaration, declared_by, declarations, existentials, universals, functions, predicates, entry, rank};
+ghost use Rattle.texts.specs.Texts.{is_text};
+ghost use Rattle.pri_typing.specs.Scope.{declaration, declared_by, declarations, existentials, universals, functions, predicates, entry, rank};
 ghost use Rattle.pri_typing.specs.Symbols.{entry_at, first_entry, listed, IsListed, IsKept, Extends};
 ghost use Rattle.pri_typing.specs.Scope.{constants, declared_from, function_kind, symbol_of};
 ghost use Rattle.std.specs.Option.{IfSome};

@@ -1,10 +1,11 @@
 -- Texts that are kept as vectors.
-use Rattle.std.proofs.Common.{◌≡◌, ℕ, ◌+◌, Bool, true, false, ◌||◌, cond, not, List, [], ◌∷◌, ◌++◌, map, refl, sym, ap, ◌∙◌, if◌then◌else◌, position, nat_lt, Some, None}
+use Rattle.std.proofs.Common.{◌≡◌, ℕ, ◌+◌, ◌<◌, Bool, true, false, ◌||◌, cond, not, List, [], ◌∷◌, ◌++◌, map, length, refl, sym, ap, ◌∙◌, arith, if◌then◌else◌, position, nat_lt, Some, None}
 use Rattle.std.specs.Global.{Vec}
 use Rattle.std.specs.List.{list_any, prefix_len}
 use Rattle.std.proofs.lemmas.List.{length-map}
+use Rattle.std.proofs.lemmas.List.Sums.{prefix_len-le-length}
 use Rattle.indexmap.specs.IndexSet.{insert_key}
-use Rattle.texts.specs.Texts.{is_among, is_text, with_text}
+use Rattle.texts.specs.Texts.{is_among, is_text, place, with_text}
 
 abbrev pub texts_of : List (Vec ℕ) → List (List ℕ)
 texts_of = map (λ k. k.items)
@@ -30,3 +31,12 @@ inserted_is ks k = by (list_any (λ y. is_text k.items y.items) ks) ∙ ap (λ z
     by : (b : Bool) → texts_of (if b then ks else ks ++ k ∷ []) ≡ (if b then texts_of ks else texts_of ks ++ k.items ∷ [])
     by true = refl
     by false = map-append ks (k ∷ [])
+
+-- the place of a text that is not there
+pub place_missing : (t : List ℕ) (texts : List (List ℕ)) → position (is_text t) texts ≡ None → place t texts ≡ length texts
+place_missing t texts h = by (nat_lt (prefix_len (λ x. not (is_text t x)) texts) (length texts)) refl h
+  where
+    by : (b : Bool) → nat_lt (prefix_len (λ x. not (is_text t x)) texts) (length texts) ≡ b
+        → (if b then Some (prefix_len (λ x. not (is_text t x)) texts) else None) ≡ None → prefix_len (λ x. not (is_text t x)) texts ≡ length texts
+    by true e k = absurd cc
+    by false e k = grind (arith, e, prefix_len-le-length (λ x. not (is_text t x)) texts)

@@ -1,6 +1,6 @@
 -- Lists of different texts.
-use Rattle.std.specs.Prelude.{ℕ, ◌&&◌, Bool, cond, List, [], ◌∷◌, ◌++◌, length, nat_eq, nat_lt, if◌then◌else◌}
-use Rattle.std.specs.List.{list_any}
+use Rattle.std.specs.Prelude.{ℕ, ◌&&◌, not, Bool, cond, List, [], ◌∷◌, ◌++◌, length, nat_eq, nat_lt, if◌then◌else◌}
+use Rattle.std.specs.List.{list_any, position_or_len}
 use Rattle.std.specs.Cmp.Lexicographic.{pointwise}
 
 -- the same bytes
@@ -14,6 +14,14 @@ is_among text texts = list_any (is_text text) texts
 -- the texts with this one, if it is none of them
 abbrev pub with_text : List ℕ → List (List ℕ) → List (List ℕ)
 with_text text texts = if is_among text texts then texts else texts ++ text ∷ []
+
+-- the place of a text in a list, from 0 on; the number of texts where it is not there
+abbrev pub place : List ℕ → List (List ℕ) → ℕ
+place text texts = position_or_len (is_text text) texts
+
+-- some text is not among those given
+abbrev pub misses : List (List ℕ) → List (List ℕ) → Bool
+misses texts given = list_any (λ t. not (is_among t given)) texts
 
 -- these texts, with those of a list that are among the others; so many at most
 abbrev pub picked : List (List ℕ) → ℕ → List (List ℕ) → List (List ℕ) → List (List ℕ)

@@ -2,12 +2,13 @@
 #![tactic(auto)]
 
 ghost use Rattle.std.specs.Option.{IfSome};
-ghost use Rattle.std.specs.Prelude.{◌≡◌, ◌<◌, ◌++◌, [], length, not, position, IfOk, OnOk};
-ghost use Rattle.texts.specs.Texts.{each_behind, is_among, is_text, picked, with_text};
+ghost use Rattle.std.specs.Prelude.{◌≡◌, ◌<◌, ◌^◌, ◌++◌, [], length, not, position, IfOk, OnOk};
+ghost use Rattle.texts.specs.Texts.{each_behind, is_among, is_text, misses, picked, place, with_text};
 
 use indexmap::IndexSet;
 use linear_term::Memory;
-use std::alloc::Global;
+use sqlite_items::Items;
+use std::alloc::{AllocError, Global};
 use std::marker::Model;
 
 /// Different texts in the order in which they were added.
@@ -68,6 +69,40 @@ impl Texts {
         ensures { result ≡ length self.now }
     {
         self.set.len()
+    }
+
+    /// The place of a text, or the number of texts where it is not there.
+    pub fn number(&self, text: &[u8]) -> u32
+        requires { length self.now < 2 ^ 32 }
+        ensures { result ≡ place text.now self.now }
+    {
+        match self.place(text) {
+            Some(i) => i as u32,
+            None => self.len() as u32,
+        }
+    }
+
+    /// Whether some text is not among those given.
+    pub fn misses_some(&self, given: &Texts) -> bool
+        ensures { result ≡ misses self.now given.now }
+    {
+        for text in self.set.as_slice() {
+            if !given.contains(text.as_slice()) {
+                return true;
+            }
+        }
+        false
+    }
+
+    /// The texts once more, as a list.
+    pub fn to_items(&self, alloc: Global) -> Result<Items<Items<u8>>, AllocError>
+        ensures { IfOk result (λ ts. ts ≡ self.now) }
+    {
+        let mut out = Items::new(alloc);
+        for text in self.set.as_slice() {
+            out.push(Items::from_slice(alloc, text.as_slice())?)?;
+        }
+        Ok(out)
     }
 
     /// The texts that are among the others too, in their order; so many at most.
