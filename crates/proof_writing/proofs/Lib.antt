@@ -8,3 +8,4 @@ pub mod Tallying
 pub mod GoodLines
 pub mod Shortening
 pub mod Parting
+pub mod Ordering

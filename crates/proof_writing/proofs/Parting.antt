@@ -7,11 +7,11 @@ use Rattle.proof_writing.specs.Short.{AreDifferent, again_in, keys, most_parts, 
 use Rattle.proof_writing.proofs.Shortening.{text_is, text_same}
 use Rattle.proof_writing.proofs.Tallying.{picked_most}
 
-abbrev Among : List ℕ → List (List ℕ) → Type 0
+abbrev pub Among : List ℕ → List (List ℕ) → Type 0
 Among k ks = is_among k ks ≡ true
 
 -- a text among others: the first, or one behind it
-first_or : (b c : Bool) → (b || c) ≡ true → (b ≡ true) ⊎ (c ≡ true)
+pub first_or : (b c : Bool) → (b || c) ≡ true → (b ≡ true) ⊎ (c ≡ true)
 first_or true c h = inl refl
 first_or false c h = inr h
 
@@ -140,7 +140,7 @@ comes_on false k j seen again ks e (inr (inl h)) = inr (inl (with_kept k j seen 
 comes_on true k j seen again ks e (inr (inr h)) = inr (inl (subst (λ z. Among z (with_text j seen)) (sym (text_same k j e)) (with_there j seen), omega (arith, h)))
 comes_on false k j seen again ks e (inr (inr h)) = inr (inr h)
 
-comes_again : (k : List ℕ) (seen again ks : List (List ℕ)) → Comes k seen again ks → Among k (again_in seen again ks)
+pub comes_again : (k : List ℕ) (seen again ks : List (List ℕ)) → Comes k seen again ks → Among k (again_in seen again ks)
 comes_again k seen again [] (inl h) = h
 comes_again k seen again [] (inr (inl h)) = absurd (let some = h.1 in omega arith)
 comes_again k seen again [] (inr (inr h)) = absurd (omega arith)

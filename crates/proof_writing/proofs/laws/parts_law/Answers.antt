@@ -1,3 +1,4 @@
+use Rattle.proof_writing.proofs.Ordering.{parts_ordered}
 use Rattle.proof_writing.proofs.Parting.{all_parts, different_parts, parts_again}
 use Rattle.proof_writing.proofs.laws.parts_law.Goals as goal
 
@@ -9,3 +10,6 @@ returns-clause-all c = all_parts
 
 pub returns-clause-different : goal.returns-clause-different
 returns-clause-different c = different_parts
+
+pub returns-clause-order : goal.returns-clause-order
+returns-clause-order c = parts_ordered
