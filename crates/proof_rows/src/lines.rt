@@ -1,11 +1,9 @@
 // Where single lines are refused: the offset of the first token with which no such line goes on.
 
 use given_text::{given, given_law};
-use proof_text::{
-    Refusal, charges, charges_law, part_law, said_law, solution, solution_law, written_law,
-};
+use proof_text::{Refusal, charges, charges_law, part_law, said_law, values_law, written_law};
 use std::alloc::{AllocError, Global};
-use tree_lines::log_line;
+use tree_lines::{end_line, log_line};
 
 // The place of a refusal in a text; 1,000 for want of memory.
 fn place(text: &str, refusal: Refusal) -> usize {
@@ -31,9 +29,9 @@ fn log_at(alloc: Global, text: &str) -> usize {
     }
 }
 
-// The same of a line `solution`.
-fn solution_at(alloc: Global, text: &str) -> usize {
-    match solution(alloc, text.as_bytes()) {
+// The same of a last line, in a text of two parts.
+fn end_at(alloc: Global, text: &str) -> usize {
+    match end_line(alloc, text.as_bytes(), 2) {
         Ok(_) => 2000,
         Err(refusal) => place(text, refusal),
     }
@@ -89,7 +87,7 @@ fn logs_are_entries(rt: HostRuntime) -> Result<(), AllocError> {
 
 #[test]
 fn solutions_are_integers(rt: HostRuntime) -> Result<(), AllocError> {
-    solution_law();
+    values_law();
     for (text, at) in [
         ("solution\n", 2000),
         ("solution 3 -1 0\n", 2000),
@@ -97,7 +95,7 @@ fn solutions_are_integers(rt: HostRuntime) -> Result<(), AllocError> {
         ("solution - 1\n", 10),
         ("solution 170141183460469231731687303715884105728\n", 9),
     ] {
-        assert_eq!(rt; solution_at(rt.alloc(), text), at, "at {text}");
+        assert_eq!(rt; end_at(rt.alloc(), text), at, "at {text}");
     }
     Ok(())
 }

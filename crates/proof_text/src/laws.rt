@@ -1,6 +1,6 @@
 // What the definition of tokens means for bytes.
 
-ghost use Rattle.proof_text.specs.Lines.{AreValues, charges_text, head_text, IsCharges, IsFormat, IsPart, IsSaid, log_text, none_text, part_text, parts_text, said_text, solution_text, use_text};
+ghost use Rattle.proof_text.specs.Lines.{AreValues, charges_text, head_text, IsCharges, IsFormat, IsPart, IsSaid, log_text, none_text, part_text, parts_text, said_text, solution_text, use_text, values_text};
 ghost use Rattle.proof_text.specs.Reading.{Cuts, IsRefusedAt};
 ghost use Rattle.proof_text.specs.Spellings.{AreSpaced, IsEntry, IsGood, spelled};
 ghost use Rattle.proof_text.specs.declared.part_lines.SaidLog.{SaidLog};
@@ -35,15 +35,16 @@ pub fn charges_law()
     ensures taken { (n : ℕ) (bytes rest : List ℕ) (left : ℕ) → IsCharges n → Cuts (charges_text n) bytes rest → IsRefusedAt IsCharges charges_text bytes left → ⊥ }
 {}
 
-/// A first line that bytes begin with is not refused.
+/// A first line that bytes begin with is the only one, and it is not refused.
 pub fn head_law()
+    ensures one { (n m : ℕ) (bytes r s : List ℕ) → IsFormat n → IsFormat m → Cuts (head_text n) bytes r → Cuts (head_text m) bytes s → (n ≡ m) × (r ≡ s) }
     ensures taken { (n : ℕ) (bytes rest : List ℕ) (left : ℕ) → IsFormat n → Cuts (head_text n) bytes rest → IsRefusedAt IsFormat head_text bytes left → ⊥ }
 {}
 
-/// A line `solution` that bytes begin with is the only one, and it is not refused.
-pub fn solution_law()
-    ensures one { (us vs : List ℤ) (bytes r s : List ℕ) → AreValues us → AreValues vs → Cuts (solution_text us) bytes r → Cuts (solution_text vs) bytes s → (us ≡ vs) × (r ≡ s) }
-    ensures taken { (vs : List ℤ) (bytes rest : List ℕ) (left : ℕ) → AreValues vs → Cuts (solution_text vs) bytes rest → IsRefusedAt AreValues solution_text bytes left → ⊥ }
+/// The integers to the end of a line that bytes begin with are the only ones, and they are not refused.
+pub fn values_law()
+    ensures one { (us vs : List ℤ) (bytes r s : List ℕ) → AreValues us → AreValues vs → Cuts (values_text us) bytes r → Cuts (values_text vs) bytes s → (us ≡ vs) × (r ≡ s) }
+    ensures taken { (vs : List ℤ) (bytes rest : List ℕ) (left : ℕ) → AreValues vs → Cuts (values_text vs) bytes rest → IsRefusedAt AreValues values_text bytes left → ⊥ }
 {}
 
 /// Tokens as texts have them, written one behind another, are read as themselves, whatever stands behind them.

@@ -13,16 +13,16 @@ mod words;
 mod writing;
 
 pub use laws::{
-    charges_law, cutting_law, head_law, part_law, said_law, solution_law, spelling_law, written_law,
+    charges_law, cutting_law, head_law, part_law, said_law, spelling_law, values_law, written_law,
 };
 pub use lines::{charges, entries, head};
-pub use numbers::{counted, position, solution, value, values};
+pub use numbers::{counted, position, value, values};
 pub use part_lines::{SaidLog, part, parts, said};
 pub use reading::{Refusal, next};
 pub use scanner::{Piece, first_piece};
 pub use single::{
     blank, charges_word, entry, gives_word, goes_on, line_feed, log_word, none_word,
-    number_between, proof_word, solution_word, value_start,
+    number_between, proof_word, value_start,
 };
 pub use tokens::Token;
 pub use writing::{

@@ -1,13 +1,13 @@
-// The line `solution`, and the numbers behind the word of a rule, read.
+// Integers, and the numbers behind the word of a rule, read.
 
 ghost use Rattle.linear_term.specs.Range.{InRange};
-ghost use Rattle.proof_text.specs.Lines.{AreValues, counted_text, IsCounted, IsPosition, numbered_text, solution_text, value_text, values_text};
+ghost use Rattle.proof_text.specs.Lines.{AreValues, counted_text, IsCounted, IsPosition, numbered_text, value_text, values_text};
 ghost use Rattle.proof_text.specs.Reading.{Cuts, Refuses};
 ghost use Rattle.std.specs.Prelude.{◌<◌, length, IfErr, IfOk};
 
 use crate::lines::numbered;
 use crate::reading::Refusal;
-use crate::single::{blank, goes_on, number_between, solution_word, value_start};
+use crate::single::{blank, goes_on, number_between, value_start};
 use sqlite_items::Items;
 use std::alloc::Global;
 
@@ -47,16 +47,6 @@ pub fn values(alloc: Global, text: &[u8]) -> Result<(Items<i128>, &[u8]), Refusa
         found.push(number)?;
         rest = behind;
     }
-}
-
-/// The line `solution`, with its values, and the text behind it.
-pub fn solution(alloc: Global, text: &[u8]) -> Result<(Items<i128>, &[u8]), Refusal>
-    ensures found { IfOk result (λ x. AreValues x.0 × Cuts (solution_text x.0) text.now x.1.now) }
-    ensures first { IfErr result (Refuses AreValues solution_text text.now) }
-{
-    let inner = solution_word(text)?;
-    let (numbers, rest) = values(alloc, inner)?;
-    Ok((numbers, rest))
 }
 
 /// A blank, a position and the end of the line: the position, and the text behind it.

@@ -135,20 +135,6 @@ pub fn gives_word(text: &[u8]) -> Result<&[u8], Refusal>
     }
 }
 
-/// The text behind the word `solution`.
-pub fn solution_word(text: &[u8]) -> Result<&[u8], Refusal>
-    ensures found { IfOk result (λ rest. Cuts (t.Solution ∷ []) text.now rest.now) }
-    ensures lacks { IfErr result (Lacks (λ x. x ≡ t.Solution) text.now) }
-{
-    let Some((token, rest)) = next(text) else {
-        return Err(Refusal::Syntax(0));
-    };
-    match token {
-        Token::Solution => Ok(rest),
-        _ => Err(Refusal::Syntax(text.len())),
-    }
-}
-
 /// A number from `least` to `most`, and the text behind it.
 pub fn number_between(text: &[u8], least: u128, most: u128) -> Result<(u128, &[u8]), Refusal>
     ensures found { IfOk result (λ x. (least ≤ x.0) × (x.0 ≤ most) × Cuts (t.Number x.0 ∷ []) text.now x.1.now) }

@@ -1,7 +1,10 @@
 use Rattle.proof_text.specs.declared.tokens.Token.TheVariants as t
 use Rattle.proof_text.specs.Lines.{IsFormat, numbered_text, head_text}
-use Rattle.proof_text.proofs.Apart.{not_refused, behind_apart, numbered_apart}
+use Rattle.proof_text.proofs.Apart.{one, not_refused, behind_apart, numbered_apart}
 use Rattle.proof_text.proofs.laws.head_law.Goals as goal
 
-pub returns : goal.returns
-returns c = record { taken = λ n bytes rest left i p f. not_refused IsFormat head_text (behind_apart IsFormat numbered_text t.PrincessProof (numbered_apart IsFormat)) n bytes rest left i p f }
+pub returns-clause-one : goal.returns-clause-one
+returns-clause-one c = λ n m bytes r s i j p q. one IsFormat head_text (behind_apart IsFormat numbered_text t.PrincessProof (numbered_apart IsFormat)) n m bytes r s i j p q
+
+pub returns-clause-taken : goal.returns-clause-taken
+returns-clause-taken c = λ n bytes rest left i p f. not_refused IsFormat head_text (behind_apart IsFormat numbered_text t.PrincessProof (numbered_apart IsFormat)) n bytes rest left i p f
