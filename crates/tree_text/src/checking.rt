@@ -1,6 +1,6 @@
 // Whether bytes are the text of a proof.
 
-ghost use Rattle.std.specs.Prelude.{◌≡◌, [], length, IfErr, IfOk, OnOk};
+ghost use Rattle.std.specs.Prelude.{◌≡◌, [], length, IfErr, IfOk, OnErr, OnOk};
 ghost use Rattle.tree_lines.specs.Faults.{RefusesLine};
 ghost use Rattle.tree_lines.specs.declared.text.Fault.TheVariants as f;
 ghost use Rattle.tree_text.specs.Refusals.{HoldsSome, RefusesText};
@@ -18,7 +18,7 @@ pub(crate) fn discard(line: TextLine) {
     let _ = &line;
 }
 
-/// Reads the line that is owed first, and pays with it.
+/// Reads the line that is owed first, and pays with it. Where none is read, nothing changes.
 fn advance<'a>(
     alloc: Global,
     walk: &mut Walk,
@@ -27,6 +27,7 @@ fn advance<'a>(
 ) -> Result<&'a [u8], Fault>
     ensures ok { IfOk result (λ behind. Advanced walk.old walk.new owed text.now behind.now) }
     ensures err { IfErr result (RefusesLine owed text.now) }
+    ensures unchanged { OnErr result (walk.new ≡ walk.old) }
 {
     let (line, behind) = line_for(alloc, owed, text)?;
     let paid = walk.pay(owed, &line);
