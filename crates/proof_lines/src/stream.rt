@@ -148,7 +148,7 @@ impl<'a> ProofLines for Lines<'a> {
     fn next(&mut self, alloc: Global) -> Result<Option<Line>, Memory>
         ensures line { (l : TextLine) (ls : List TextLine) → Coming self.old.parts self.old.walk self.old.rest.now (l ∷ ls) → IfOk result (λ x. Tells x (log_said self.new.parts self.new.used self.new.own) self.new.conclusion l × Coming self.new.parts self.new.walk self.new.rest.now ls) }
         ensures log { IfOk result (λ x. KeepsLog x (log_said self.old.parts self.old.used self.old.own) (log_said self.new.parts self.new.used self.new.own)) }
-        ensures end { Coming self.old.parts self.old.walk self.old.rest.now [] → IfOk result (λ x. x ≡ None) }
+        ensures end { Coming self.old.parts self.old.walk self.old.rest.now [] → IfOk result (λ x. (x ≡ None) × (self.new ≡ self.old)) }
         ensures memory { IfErr result (λ _. self.new ≡ self.old) }
     {
         let Some(owed) = self.walk.owed() else {

@@ -39,11 +39,11 @@ pub trait ProofLines {
     // The conclusion, once it has come.
     ghost end_of: { Self → Conclusion };
 
-    /// The line that comes next; none behind the end. At want of memory nothing changes.
+    /// The line that comes next; none behind the end, where nothing changes. Nor does anything at want of memory.
     fn next(&mut self, alloc: Global) -> Result<Option<Line>, Memory>
         ensures line { (l : TextLine) (ls : List TextLine) → coming self.old (l ∷ ls) → IfOk result (λ x. Tells x (log_of self.new) (end_of self.new) l × coming self.new ls) }
         ensures log { IfOk result (λ x. KeepsLog x (log_of self.old) (log_of self.new)) }
-        ensures end { coming self.old [] → IfOk result (λ x. x ≡ None) }
+        ensures end { coming self.old [] → IfOk result (λ x. (x ≡ None) × (self.new ≡ self.old)) }
         ensures memory { IfErr result (λ _. self.new ≡ self.old) };
 
     /// The log that came last.

@@ -186,7 +186,7 @@ impl<'a> ProofLines for TreeLines<'a> {
     fn next(&mut self, alloc: Global) -> Result<Option<Line>, Memory>
         ensures line { (l : TextLine) (ls : List TextLine) → l ∷ ls ≡ still_due self.old.stage self.old.tree.now self.old.outer → IfOk result (λ x. Tells x self.new.log.now self.new.tree.now.conclusion l × (ls ≡ still_due self.new.stage self.new.tree.now self.new.outer)) }
         ensures log { IfOk result (λ x. KeepsLog x self.old.log.now self.new.log.now) }
-        ensures end { [] ≡ still_due self.old.stage self.old.tree.now self.old.outer → IfOk result (λ x. x ≡ None) }
+        ensures end { [] ≡ still_due self.old.stage self.old.tree.now self.old.outer → IfOk result (λ x. (x ≡ None) × (self.new ≡ self.old)) }
         ensures memory { IfErr result (λ _. self.new ≡ self.old) }
     {
         match self.stage {
