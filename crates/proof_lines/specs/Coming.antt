@@ -1,10 +1,12 @@
 -- The lines of a text that are still to come.
-use Rattle.std.specs.Prelude.{ℕ, ◌≡◌, ◌<◌, List, [], ◌∷◌, ◌++◌, length, get_or, Option, Some, None}
+use Rattle.std.specs.Prelude.{ℕ, ◌≡◌, ◌<◌, Bool, true, false, List, [], ◌∷◌, ◌++◌, length, get_or, Option, Some, None}
 use Rattle.purse.specs.declared.log.ElimLog.{ElimLog}
 use Rattle.proof_tree.specs.declared.node.Conclusion.{Conclusion}
 use Rattle.proof_tree.specs.declared.node.Conclusion.TheVariants.{Nothing}
 use Rattle.proof_tree.specs.Proof.{Proof}
 use Rattle.proof_text.specs.Reading.{Cuts}
+use Rattle.proof_stream.specs.declared.Line.{Line}
+use Rattle.proof_stream.specs.declared.Line.TheVariants as k
 use Rattle.tree_lines.specs.declared.lines.TextLine.{TextLine}
 use Rattle.tree_lines.specs.declared.lines.TextLine.TheVariants as w
 use Rattle.tree_lines.specs.declared.lines.Owed.{Owed}
@@ -54,3 +56,17 @@ IsFull parts _ = ⊥
 abbrev pub meant : List ElimLog → TextLine → TextLine
 meant parts (w.LogOf i) = w.Log (part_at parts i)
 meant parts l = l
+
+-- something is told of the line: it is one behind the opening, and a conclusion has its entries
+abbrev pub is_told : TextLine → Bool
+is_told (w.Row p k) = true
+is_told (w.Log log) = true
+is_told (w.LogOf i) = true
+is_told (w.Gives d) = true
+is_told (w.End c) = true
+is_told _ = false
+
+-- a line that is no conclusion leaves the conclusion
+abbrev pub KeepsEnd : Option Line → Conclusion → Conclusion → Type 0
+KeepsEnd (Some k.End) before after = Unit {0}
+KeepsEnd _ before after = after ≡ before

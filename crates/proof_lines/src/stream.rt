@@ -48,8 +48,9 @@ fn owed_line(alloc: Global, owed: Owed, text: &[u8]) -> Result<Option<(TextLine,
 }
 
 impl<'a> Lines<'a> {
-    ghost use Rattle.proof_lines.specs.Coming.{ended, IsFull, log_said, meant};
+    ghost use Rattle.proof_lines.specs.Coming.{ended, is_told, IsFull, KeepsEnd, log_said, meant};
     ghost use Rattle.proof_stream.specs.Told.{KeepsLog, Tells};
+    ghost use Rattle.std.specs.Prelude.{is_some};
 
     /// Reads the whole text of a proof once, and keeps no tree of it.
     fn of_text(alloc: Global, text: &'a [u8]) -> Result<Lines<'a>, Fault>
@@ -108,6 +109,9 @@ impl<'a> Lines<'a> {
     fn told(&mut self, line: TextLine) -> Option<Line>
         ensures told { IsFull self.old.parts line → Tells result (log_said self.new.parts self.new.used self.new.own) self.new.conclusion (meant self.old.parts line) }
         ensures log { KeepsLog result (log_said self.old.parts self.old.used self.old.own) (log_said self.new.parts self.new.used self.new.own) }
+        ensures some { is_some result ≡ is_told line }
+        ensures conclusion { KeepsEnd result self.old.conclusion self.new.conclusion }
+        ensures charges { self.new.charges ≡ self.old.charges }
         ensures parts { self.new.parts ≡ self.old.parts }
         ensures walk { self.new.walk ≡ self.old.walk }
         ensures rest { self.new.rest ≡ self.old.rest }
@@ -134,7 +138,7 @@ impl<'a> Lines<'a> {
 }
 
 impl<'a> ProofLines for Lines<'a> {
-    ghost use Rattle.proof_lines.specs.Coming.{Coming, log_said};
+    ghost use Rattle.proof_lines.specs.Coming.{Coming, KeepsEnd, log_said};
     ghost use Rattle.proof_stream.specs.Told.{KeepsLog, Tells};
     ghost use Rattle.std.specs.Prelude.{◌≡◌, ◌∷◌, [], IfErr, IfOk, List, None};
     ghost use Rattle.tree_lines.specs.declared.lines.TextLine.{TextLine};
@@ -148,6 +152,8 @@ impl<'a> ProofLines for Lines<'a> {
     fn next(&mut self, alloc: Global) -> Result<Option<Line>, Memory>
         ensures line { (l : TextLine) (ls : List TextLine) → Coming self.old.parts self.old.walk self.old.rest.now (l ∷ ls) → IfOk result (λ x. Tells x (log_said self.new.parts self.new.used self.new.own) self.new.conclusion l × Coming self.new.parts self.new.walk self.new.rest.now ls) }
         ensures log { IfOk result (λ x. KeepsLog x (log_said self.old.parts self.old.used self.old.own) (log_said self.new.parts self.new.used self.new.own)) }
+        ensures conclusion { IfOk result (λ x. KeepsEnd x self.old.conclusion self.new.conclusion) }
+        ensures charges { self.new.charges ≡ self.old.charges }
         ensures end { Coming self.old.parts self.old.walk self.old.rest.now [] → IfOk result (λ x. (x ≡ None) × (self.new ≡ self.old)) }
         ensures memory { IfErr result (λ _. self.new ≡ self.old) }
     {
