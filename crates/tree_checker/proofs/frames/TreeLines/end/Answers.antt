@@ -1,4 +1,4 @@
-use Rattle.std.proofs.Common.{◌∷◌, ◌++◌, ◌∙◌, [], ap, sym, refl}
+use Rattle.std.proofs.Common.{refl}
 use Rattle.tree_lines.specs.declared.lines.TextLine.TheVariants as w
 use Rattle.tree_checker.proofs.frames.TreeLines.end.Goals as goal
 

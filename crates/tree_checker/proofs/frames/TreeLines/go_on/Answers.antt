@@ -1,4 +1,4 @@
-use Rattle.std.proofs.Common.{◌∷◌, ◌++◌, ◌∙◌, [], ap, sym, refl}
+use Rattle.std.proofs.Common.{◌∷◌, ◌++◌, [], ap, refl}
 use Rattle.std.specs.Option.{option_copied}
 use Rattle.std.specs.Prelude.{map}
 use Rattle.proof_tree.specs.Proof.{proofs}
