@@ -1,3 +1,4 @@
+pub mod Bare
 pub mod Charges
 pub mod Closed
 pub mod Closing
