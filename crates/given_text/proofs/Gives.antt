@@ -1,5 +1,5 @@
 -- Where the machine of a line `gives` stands in the bytes, and how it ends.
-use Rattle.std.proofs.Common.{ℕ, ◌≡◌, List, [], ◌∷◌, ◌++◌, length, refl, sym, ap, subst, ◌∙◌, append_assoc, append-nil}
+use Rattle.std.proofs.Common.{ℕ, ◌≡◌, List, [], ◌∷◌, ◌++◌, drop, length, refl, sym, ap, subst, ◌∙◌, append_assoc, append-nil}
 use Rattle.clause_set.specs.declared.literal.Literal.{Literal}
 use Rattle.proof_text.specs.declared.tokens.Token.{Token}
 use Rattle.proof_text.specs.declared.tokens.Token.TheVariants as t
@@ -14,6 +14,7 @@ use Rattle.given_text.specs.Move.{Move}
 use Rattle.given_text.specs.Move as m
 use Rattle.given_text.specs.Text.{AreClauses, dnf_text, gives_text}
 use Rattle.given_text.specs.Machine.{moves}
+use Rattle.given_text.specs.Steps.{LeadOn, Reaches}
 use Rattle.given_text.proofs.Said.{said, IsFine}
 use Rattle.given_text.proofs.Running.{read, run}
 use Rattle.given_text.proofs.Line.{as_step, line_moves, gives_read}
@@ -49,6 +50,14 @@ goes_on z y x bytes rest more move p q r c h =
       is = l.1 ∙ ap (λ w. w ++ x ∷ []) h.is;
       comes = λ xs. ap (run line_moves gives_read) (append_assoc h.inner (x ∷ []) xs) ∙ h.comes (x ∷ xs) ∙ run_on line_moves z y x xs (ap as_step (sym p ∙ q));
     }
+
+-- several tokens
+lead_far : (z y : State) (xs : List Token) (bytes rest more : List ℕ) → LeadOn z xs y → Cuts xs rest more → Stands z bytes rest → Stands y bytes more
+lead_far z y [] bytes rest more l c h = subst (λ w. Stands w bytes more) l (subst (λ r. Stands z bytes r) c h)
+lead_far z y (x ∷ xs) bytes rest more l c h = lead_far l.0 y xs bytes (drop c.0 rest) more l.3 c.2 (goes_on z l.0 x bytes rest (drop c.0 rest) (m.On l.0) l.1 refl l.2 (c.0, c.1, refl) h)
+
+pub goes_far : (z y : State) (bytes rest more : List ℕ) → Reaches z y rest more → Stands z bytes rest → Stands y bytes more
+goes_far z y bytes rest more r h = lead_far z y r.tokens bytes rest more r.leads r.cut h
 
 pub ends : (z : State) (d : List (List Literal)) (x : Token) (bytes rest more : List ℕ) (move : Move) → move ≡ moves z x → move ≡ m.Done d → IsRanged x → Cuts (x ∷ []) rest more → Stands z bytes rest
     → AreClauses d × Cuts (gives_text d) bytes more

@@ -9,3 +9,4 @@ pub mod Finish
 pub mod Complete
 pub mod Gives
 pub mod Loop
+pub mod Further

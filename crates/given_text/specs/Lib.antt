@@ -5,3 +5,4 @@ pub mod Move
 pub mod Machine
 pub mod Places
 pub mod Ranges
+pub mod Steps

@@ -4,6 +4,7 @@
 mod draft;
 mod laws;
 mod machine;
+mod names;
 mod place;
 mod reading;
 

@@ -5,6 +5,7 @@ pub mod Cutting
 pub mod Refusals
 pub mod EntryLines
 pub mod NumberLines
+pub mod Fronts
 pub mod Apart
 pub mod Decimals
 pub mod Figures

@@ -12,7 +12,7 @@ use Rattle.purse.specs.declared.log.Entry.TheVariants as e
 use Rattle.proof_text.specs.declared.tokens.Token.{Token}
 use Rattle.proof_text.specs.declared.tokens.Token.TheVariants as t
 use Rattle.proof_text.specs.Words.{is_empty, is_numeral, numeral_of, index_of, merge_with, merge_behind, merge_of, token_or_bad, figure_of, word_of}
-use Rattle.proof_text.specs.Scanning.{is_word_byte, joins, word_len, piece, piece_of, first_piece_of}
+use Rattle.proof_text.specs.Scanning.{ends_word, is_word_byte, joins, word_len, piece, piece_of, first_piece_of}
 use Rattle.proof_text.specs.Spellings.{IsEntry, IsToken, is_sign, NextIsSign, AreSpaced, entry_spelling, spelling, spelled}
 use Rattle.proof_text.specs.Reading.{Cuts}
 use Rattle.proof_text.proofs.Figures.{has_digit, not_same, figure_is}
@@ -41,6 +41,15 @@ drop_all (b ∷ bs) rest = drop_all bs rest
 abbrev pub EndsWord : List ℕ → Type 0
 EndsWord [] = Unit {0}
 EndsWord (b ∷ bs) = (is_word_byte b ≡ false) × ((b == 44) ≡ false)
+
+neither : (a b : Bool) → (not a && not b) ≡ true → (a ≡ false) × (b ≡ false)
+neither true b h = absurd (cc)
+neither false true h = absurd (cc)
+neither false false h = (refl, refl)
+
+pub ends : (rest : List ℕ) → ends_word rest ≡ true → EndsWord rest
+ends [] h = tt
+ends (b ∷ bs) h = neither (is_word_byte b) (b == 44) h
 
 stops_word : (rest : List ℕ) → EndsWord rest → Stops is_word_byte rest
 stops_word [] h = tt
@@ -189,7 +198,7 @@ entry_back e.Exact rest f h = word_back (codes "x") rest (t.Step e.Exact) (omega
 entry_back e.Dark rest f h = word_back (codes "d") rest (t.Step e.Dark) (omega arith) refl refl refl h
 
 -- what has to stand behind a token
-abbrev Follows : Token → List ℕ → Type 0
+abbrev pub Follows : Token → List ℕ → Type 0
 Follows x rest = is_sign x ≡ false → EndsWord rest
 
 keyword_back : (w rest : List ℕ) (x : Token) → 0 < length w → list_all is_word_byte w ≡ true → bytes_eq w (codes "princess") ≡ false → word_of w ≡ x → is_sign x ≡ false → Follows x rest → Back w x rest
@@ -228,6 +237,10 @@ token_back t.Or rest f h = refl
 token_back t.Blank rest f h = refl
 token_back t.LineFeed rest f h = refl
 token_back t.Bad rest f h = absurd f
+
+-- a token that may stand before a text is read from the two
+pub one_back : (x : Token) (rest : List ℕ) → IsToken x → Follows x rest → Cuts (x ∷ []) (spelling x ++ rest) rest
+one_back x rest f h = (length (spelling x), token_back x rest f h, drop_all (spelling x) rest)
 
 sign_ends : (y : Token) (rest : List ℕ) → is_sign y ≡ true → EndsWord (spelling y ++ rest)
 sign_ends t.Equal rest h = (refl, refl)

@@ -1,5 +1,5 @@
 -- Which token a text begins with.
-use Rattle.std.specs.Prelude.{ℕ, ◌+◌, ◌==◌, ◌&&◌, ◌||◌, not, Bool, false, List, [], ◌∷◌, take, drop, slice_index, codes, Option, Some, None, if◌then◌else◌}
+use Rattle.std.specs.Prelude.{ℕ, ◌+◌, ◌==◌, ◌&&◌, ◌||◌, not, Bool, true, false, List, [], ◌∷◌, take, drop, slice_index, codes, Option, Some, None, if◌then◌else◌}
 use Rattle.std.specs.List.{prefix_len, list_all}
 use Rattle.std.specs.Str.{bytes_eq}
 use Rattle.std.specs.Char.{is_ascii_digit, is_ascii_alphabetic}
@@ -42,3 +42,8 @@ piece_of b text =
 abbrev pub first_piece_of : List ℕ → Option Piece
 first_piece_of [] = None
 first_piece_of (b ∷ text) = Some (piece_of b text)
+
+-- a word that is neither `princess` nor a merge ends before this text
+abbrev pub ends_word : List ℕ → Bool
+ends_word [] = true
+ends_word (b ∷ bs) = not (is_word_byte b) && not (b == 44)

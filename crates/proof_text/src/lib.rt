@@ -1,6 +1,7 @@
 // The text of a proof: its tokens, and those of its lines that speak of no sequent.
 #![tactic(auto)]
 
+mod ahead;
 mod laws;
 mod lines;
 mod numbers;

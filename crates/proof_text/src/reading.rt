@@ -4,6 +4,7 @@ ghost use Rattle.proof_text.specs.Reading.{Cuts, Lacks};
 ghost use Rattle.proof_text.specs.Spellings.{IsRanged};
 ghost use Rattle.std.specs.Prelude.{◌≡◌, ◌<◌, [], ◌∷◌, length, true, false, IfErr, IfOk, IfSome, MatchOption};
 
+use crate::ahead::figure_ahead;
 use crate::scanner::first_piece;
 use crate::tokens::Token;
 use linear_term::Memory;
@@ -44,6 +45,9 @@ pub fn next(text: &[u8]) -> Option<(Token, &[u8])>
     ensures exact { MatchOption result (text.now ≡ []) (λ x. Cuts (x.0 ∷ []) text.now x.1.now × (length x.1.now < length text.now)) }
     ensures ranged { IfSome result (λ x. IsRanged x.0) }
 {
+    if let Some((token, rest)) = figure_ahead(text) {
+        return Some((token, rest));
+    }
     let piece = first_piece(text)?;
     Some((piece.token, text.split_at(piece.len).1))
 }

@@ -82,7 +82,7 @@ fn run_len(text: &[u8]) -> usize
 }
 
 /// A letter or a digit.
-fn is_word_byte(byte: u8) -> bool
+pub(crate) fn is_word_byte(byte: u8) -> bool
     ensures { result ≡ is_word_byte byte }
 {
     byte.is_ascii_alphabetic() || byte.is_ascii_digit()

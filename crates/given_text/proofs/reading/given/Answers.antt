@@ -3,7 +3,7 @@ use Rattle.proof_text.specs.Reading.{Refuses}
 use Rattle.proof_text.proofs.Refusals.{fails}
 use Rattle.given_text.specs.Places.{state_of, move_of}
 use Rattle.given_text.specs.Text.{AreClauses, gives_text}
-use Rattle.given_text.proofs.Gives.{goes_on, ends, at_end, at_bad, no_gives}
+use Rattle.given_text.proofs.Gives.{goes_far, goes_on, ends, at_end, at_bad, no_gives}
 use Rattle.given_text.proofs.Loop.{fine_in_range}
 use Rattle.given_text.proofs.reading.given.Goals as goal
 
@@ -12,23 +12,33 @@ returns-in_err-rest-clause-first c =
     fails c.in_err-rest.field-0.0 c.from_residual.result (Refuses AreClauses gives_text c.args.text.now) c.from_residual.ensures.1
     (no_gives c.args.text.now c.in_err-rest.field-0.0 c.in_err-rest.ensures.lacks)
 
+pub skim-requires : goal.skim-requires
+skim-requires c = record { in_range = fine_in_range (state_of c.tokens.place c.tokens.draft) c.tokens.invariant.fine }
+
 pub returns-in_default-clause-first : goal.returns-in_default-clause-first
-returns-in_default-clause-first c = at_end (state_of c.tokens.place c.tokens.draft) c.args.text.now c.tokens.rest.now c.in_default.ensures.exact c.tokens.invariant
+returns-in_default-clause-first c =
+    at_end (state_of c.tokens.place c.skim.new.draft) c.args.text.now c.in_ok-ahead.ahead.now c.in_default.ensures.exact
+    (goes_far (state_of c.tokens.place c.tokens.draft) (state_of c.tokens.place c.skim.new.draft) c.args.text.now c.tokens.rest.now c.in_ok-ahead.ahead.now c.in_ok-ahead.ensures.exact c.tokens.invariant)
 
 pub step-requires-clause-in_range : goal.step-requires-clause-in_range
-step-requires-clause-in_range c = fine_in_range (state_of c.tokens.place c.tokens.draft) c.tokens.invariant.fine
+step-requires-clause-in_range c =
+    let h = goes_far (state_of c.tokens.place c.tokens.draft) (state_of c.tokens.place c.skim.new.draft) c.args.text.now c.tokens.rest.now c.in_ok-ahead.ahead.now c.in_ok-ahead.ensures.exact c.tokens.invariant in
+    fine_in_range (state_of c.tokens.place c.skim.new.draft) h.fine
 
 pub returns-in-Bad-clause-first : goal.returns-in-Bad-clause-first
 returns-in-Bad-clause-first c =
-    at_bad (state_of c.tokens.place c.tokens.draft) c.in-Some.token c.args.text.now c.tokens.rest.now c.in-Some.more.now (move_of c.in_ok-step.field-0 c.step.new.draft) c.in_ok-step.ensures (ap (λ p. move_of p c.step.new.draft) c.in-Bad.is)
-    c.in-Some.ensures.exact.0 c.tokens.invariant
+    at_bad (state_of c.tokens.place c.skim.new.draft) c.in-Some.token c.args.text.now c.in_ok-ahead.ahead.now c.in-Some.more.now (move_of c.in_ok-step.field-0 c.step.new.draft) c.in_ok-step.ensures (ap (λ p. move_of p c.step.new.draft) c.in-Bad.is)
+    c.in-Some.ensures.exact.0
+    (goes_far (state_of c.tokens.place c.tokens.draft) (state_of c.tokens.place c.skim.new.draft) c.args.text.now c.tokens.rest.now c.in_ok-ahead.ahead.now c.in_ok-ahead.ensures.exact c.tokens.invariant)
 
 pub returns-in-Done-clause-found : goal.returns-in-Done-clause-found
 returns-in-Done-clause-found c =
-    ends (state_of c.tokens.place c.tokens.draft) c.step.new.draft.clauses c.in-Some.token c.args.text.now c.tokens.rest.now c.in-Some.more.now (move_of c.in_ok-step.field-0 c.step.new.draft) c.in_ok-step.ensures (ap (λ p. move_of p c.step.new.draft) c.in-Done.is)
-    c.in-Some.ensures.ranged c.in-Some.ensures.exact.0 c.tokens.invariant
+    ends (state_of c.tokens.place c.skim.new.draft) c.step.new.draft.clauses c.in-Some.token c.args.text.now c.in_ok-ahead.ahead.now c.in-Some.more.now (move_of c.in_ok-step.field-0 c.step.new.draft) c.in_ok-step.ensures
+    (ap (λ p. move_of p c.step.new.draft) c.in-Done.is) c.in-Some.ensures.ranged c.in-Some.ensures.exact.0
+    (goes_far (state_of c.tokens.place c.tokens.draft) (state_of c.tokens.place c.skim.new.draft) c.args.text.now c.tokens.rest.now c.in_ok-ahead.ahead.now c.in_ok-ahead.ensures.exact c.tokens.invariant)
 
 pub tokens-preserved : goal.tokens-preserved
 tokens-preserved c =
-    goes_on (state_of c.tokens.place c.tokens.draft) (state_of c.in-On.then c.step.new.draft) c.in-Some.token c.args.text.now c.tokens.rest.now c.in-Some.more.now (move_of c.in_ok-step.field-0 c.step.new.draft) c.in_ok-step.ensures (ap (λ p. move_of p c.step.new.draft) c.in-On.is)
-    c.in-Some.ensures.ranged c.in-Some.ensures.exact.0 c.tokens.invariant
+    goes_on (state_of c.tokens.place c.skim.new.draft) (state_of c.in-On.then c.step.new.draft) c.in-Some.token c.args.text.now c.in_ok-ahead.ahead.now c.in-Some.more.now (move_of c.in_ok-step.field-0 c.step.new.draft) c.in_ok-step.ensures
+    (ap (λ p. move_of p c.step.new.draft) c.in-On.is) c.in-Some.ensures.ranged c.in-Some.ensures.exact.0
+    (goes_far (state_of c.tokens.place c.tokens.draft) (state_of c.tokens.place c.skim.new.draft) c.args.text.now c.tokens.rest.now c.in_ok-ahead.ahead.now c.in_ok-ahead.ensures.exact c.tokens.invariant)

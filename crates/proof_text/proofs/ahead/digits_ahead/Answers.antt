@@ -1,0 +1,7 @@
+use Rattle.std.proofs.Common.{rules}
+use Rattle.proof_text.proofs.Fronts.{more_count}
+use Rattle.proof_text.proofs.ahead.digits_ahead.Goals as goal
+
+pub loop-digit-preserved : goal.loop-digit-preserved
+loop-digit-preserved c =
+    more_count c.args.text.now c.loop-digit.rest.now c.in-Some.more.now c.loop-digit.value c.in_ok-value.value c.in-Some.digit.now (search rules) (search rules) c.in_ok-value.ensures.exact c.loop-digit.invariant
