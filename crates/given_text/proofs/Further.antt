@@ -18,14 +18,14 @@ use Rattle.std.proofs.lemmas.List.Elements.{All-from_recursion, recursion_from_A
 use Rattle.given_text.specs.Ranges.{IsOpen}
 use Rattle.given_text.specs.Steps.{LeadOn, Reaches}
 
-lead_append : (z y w : State) (xs ys : List Token) → LeadOn z xs y → LeadOn y ys w → LeadOn z (xs ++ ys) w
+pub lead_append : (z y w : State) (xs ys : List Token) → LeadOn z xs y → LeadOn y ys w → LeadOn z (xs ++ ys) w
 lead_append z y w [] ys p q = subst (λ v. LeadOn v ys w) (sym p) q
 lead_append z y w (x ∷ xs) ys p q = (p.0, p.1, p.2, lead_append p.0 y w xs ys p.3 q)
 
 abbrev pub name_tokens : Bool → ℕ → List Token
 name_tokens minus x = t.Blank ∷ cond minus t.Minus t.Plus ∷ t.Blank ∷ t.Name x ∷ []
 
-named_on : (g : Draft) (minus : Bool) (x : ℕ) → nat_le g.least x ≡ true → m.On (s.Behind (b.Sum (with_pair g minus 1 x))) ≡ named g minus 1 x
+pub named_on : (g : Draft) (minus : Bool) (x : ℕ) → nat_le g.least x ≡ true → m.On (s.Behind (b.Sum (with_pair g minus 1 x))) ≡ named g minus 1 x
 named_on g minus x h = sym (ap (λ q. cond q (m.On (s.Behind (b.Sum (with_pair g minus 1 x)))) m.Bad) h)
 
 name_leads : (g : Draft) (minus : Bool) (x : ℕ) → x < 2 ^ 32 → nat_le g.least x ≡ true → LeadOn (s.Behind (b.Sum g)) (name_tokens minus x) (s.Behind (b.Sum (with_pair g minus 1 x)))
@@ -40,7 +40,7 @@ still_open g minus x up above y h =
     let all = recursion_from_All Below g.sum.pairs (above y (omega arith)) in
     All-from_recursion Below (g.sum.pairs ++ (x, signed minus 1) ∷ []) (all_more Below g.sum.pairs (x, signed minus 1) all (omega arith))
 
-is_above : (least x : ℕ) → least ≤ x → nat_le least x ≡ true
+pub is_above : (least x : ℕ) → least ≤ x → nat_le least x ≡ true
 is_above least x up = grind (arith, nat_tests)
 
 -- what the loop over names has done

@@ -10,3 +10,4 @@ pub mod Complete
 pub mod Gives
 pub mod Loop
 pub mod Further
+pub mod Skimming

@@ -1,4 +1,5 @@
 -- The state of the machine that a place with its registers is.
+use Rattle.std.specs.Prelude.{ℤ, pos, Option, Some, None}
 use Rattle.given_text.specs.declared.draft.Draft.{Draft}
 use Rattle.given_text.specs.declared.place.Last.{Last}
 use Rattle.given_text.specs.declared.place.Last.TheVariants as w
@@ -12,6 +13,7 @@ use Rattle.given_text.specs.State.{State}
 use Rattle.given_text.specs.State as s
 use Rattle.given_text.specs.Move.{Move}
 use Rattle.given_text.specs.Move as m
+use Rattle.given_text.specs.Machine.{signed}
 
 abbrev pub behind_of : Last → Draft → Behind
 behind_of w.Start g = b.Start g
@@ -33,3 +35,9 @@ abbrev pub move_of : Progress → Draft → Move
 move_of q.Bad g = m.Bad
 move_of (q.On place) g = m.On (state_of place g)
 move_of q.Done g = m.Done g.clauses
+
+-- the constant of a term that ends by this word: that of a number, and 0 behind a name
+abbrev pub constant_of : Last → Option ℤ
+constant_of w.Sum = Some (pos 0)
+constant_of (w.Number minus n) = Some (signed minus n)
+constant_of _ = None

@@ -5,8 +5,10 @@ mod draft;
 mod laws;
 mod machine;
 mod names;
+mod phrases;
 mod place;
 mod reading;
+mod signs;
 
 pub use draft::{Divisor, Draft};
 pub use laws::given_law;

@@ -1,8 +1,7 @@
-// Further names of a sum, read at once: most of a long constraint is these.
+// Names of a sum, read at once: most of a long constraint is these.
 
 ghost use Rattle.given_text.specs.Behind as b;
-ghost use Rattle.given_text.specs.Places.{state_of};
-ghost use Rattle.given_text.specs.Ranges.{IsOpen, IsStateInRange};
+ghost use Rattle.given_text.specs.Ranges.{IsOpen};
 ghost use Rattle.given_text.specs.State as s;
 ghost use Rattle.given_text.specs.Steps.{Reaches};
 ghost use Rattle.proof_text.specs.Reading.{Cuts};
@@ -10,26 +9,14 @@ ghost use Rattle.proof_text.specs.declared.tokens.Token.TheVariants as t;
 ghost use Rattle.std.specs.Prelude.{◌≤◌, ◌<◌, ◌∷◌, [], cond, length, IfOk, IfSome};
 
 use crate::draft::Draft;
-use crate::place::{Last, Place};
+use crate::signs::{name_ahead, sign_ahead};
 use linear_term::Memory;
-use proof_text::{Token, next};
-
-/// Takes what is seen at once where the machine stands, if anything is: the text behind it. The machine stays at its place.
-pub fn skim<'a>(draft: &mut Draft, place: Place, text: &'a [u8]) -> Result<&'a [u8], Memory>
-    requires in_range { IsStateInRange (state_of place draft.old) }
-    ensures exact { IfOk result (λ rest. Reaches (state_of place draft.old) (state_of place draft.new) text.now rest.now) }
-    ensures within { IfOk result (λ rest. length rest.now ≤ length text.now) }
-{
-    match place {
-        Place::Behind(Last::Sum) => take_names(draft, text),
-        _ => Ok(text),
-    }
-}
 
 /// Takes the names that come behind a name, each with a sign between two blanks before it: the text behind them.
-fn take_names<'a>(draft: &mut Draft, text: &'a [u8]) -> Result<&'a [u8], Memory>
+pub fn take_names<'a>(draft: &mut Draft, text: &'a [u8]) -> Result<&'a [u8], Memory>
     requires open { IsOpen draft.old }
     ensures exact { IfOk result (λ rest. Reaches (s.Behind (b.Sum draft.old)) (s.Behind (b.Sum draft.new)) text.now rest.now) }
+    ensures open { IfOk result (λ rest. IsOpen draft.new) }
     ensures within { IfOk result (λ rest. length rest.now ≤ length text.now) }
 {
     let mut rest = text;
@@ -49,27 +36,6 @@ fn signed_name(text: &[u8]) -> Option<(bool, u32, &[u8])>
     ensures shorter { IfSome result (λ x. length x.2.now < length text.now) }
 {
     let (minus, behind) = sign_ahead(text)?;
-    let Some((Token::Name(name), rest)) = next(behind) else {
-        return None;
-    };
+    let (name, rest) = name_ahead(behind)?;
     Some((minus, name, rest))
-}
-
-/// Whether the sign between two blanks that the text begins with is `-`, and the text behind; none where it begins with neither
-/// `+` nor `-` between blanks.
-fn sign_ahead(text: &[u8]) -> Option<(bool, &[u8])>
-    ensures exact { IfSome result (λ x. Cuts (t.Blank ∷ cond x.0 t.Minus t.Plus ∷ t.Blank ∷ []) text.now x.1.now) }
-    ensures shorter { IfSome result (λ x. length x.1.now < length text.now) }
-{
-    let (first, behind) = text.split_first()?;
-    let (sign, inner) = behind.split_first()?;
-    let (last, rest) = inner.split_first()?;
-    if *first != b' ' || *last != b' ' {
-        return None;
-    }
-    match *sign {
-        b'+' => Some((false, rest)),
-        b'-' => Some((true, rest)),
-        _ => None,
-    }
 }

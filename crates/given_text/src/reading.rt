@@ -6,7 +6,7 @@ ghost use Rattle.std.specs.Prelude.{IfErr, IfOk};
 
 use crate::draft::Draft;
 use crate::machine::step;
-use crate::names::skim;
+use crate::phrases::skim;
 use crate::place::{Last, Place, Progress};
 use clause_set::Literal;
 use proof_text::{Refusal, gives_word, next};
@@ -22,11 +22,16 @@ pub fn given(alloc: Global, text: &[u8]) -> Result<(Items<Items<Literal>>, &[u8]
     let mut draft = Draft::new(alloc);
     let mut place = Place::Behind(Last::Start);
     'tokens: loop {
-        let ahead = skim(&mut draft, place, rest)?;
+        let (at, ahead) = skim(alloc, &mut draft, place, rest)?;
+        if ahead.len() < rest.len() {
+            place = at;
+            rest = ahead;
+            continue;
+        }
         let Some((token, more)) = next(ahead) else {
             return Err(Refusal::Syntax(0));
         };
-        match step(alloc, &mut draft, place, token)? {
+        match step(alloc, &mut draft, at, token)? {
             Progress::Bad => return Err(Refusal::Syntax(ahead.len())),
             Progress::On(then) => place = then,
             Progress::Done => return Ok((draft.clauses, more)),

@@ -15,30 +15,34 @@ returns-in_err-rest-clause-first c =
 pub skim-requires : goal.skim-requires
 skim-requires c = record { in_range = fine_in_range (state_of c.tokens.place c.tokens.draft) c.tokens.invariant.fine }
 
+pub tokens-preserved-then-ahead-rest : goal.tokens-preserved-then-ahead-rest
+tokens-preserved-then-ahead-rest c =
+    goes_far (state_of c.tokens.place c.tokens.draft) (state_of c.in_ok-at.at c.skim.new.draft) c.args.text.now c.tokens.rest.now c.in_ok-at.ahead.now c.in_ok-at.ensures.exact c.tokens.invariant
+
 pub returns-in_default-clause-first : goal.returns-in_default-clause-first
 returns-in_default-clause-first c =
-    at_end (state_of c.tokens.place c.skim.new.draft) c.args.text.now c.in_ok-ahead.ahead.now c.in_default.ensures.exact
-    (goes_far (state_of c.tokens.place c.tokens.draft) (state_of c.tokens.place c.skim.new.draft) c.args.text.now c.tokens.rest.now c.in_ok-ahead.ahead.now c.in_ok-ahead.ensures.exact c.tokens.invariant)
+    at_end (state_of c.in_ok-at.at c.skim.new.draft) c.args.text.now c.in_ok-at.ahead.now c.in_default.ensures.exact
+    (goes_far (state_of c.tokens.place c.tokens.draft) (state_of c.in_ok-at.at c.skim.new.draft) c.args.text.now c.tokens.rest.now c.in_ok-at.ahead.now c.in_ok-at.ensures.exact c.tokens.invariant)
 
 pub step-requires-clause-in_range : goal.step-requires-clause-in_range
 step-requires-clause-in_range c =
-    let h = goes_far (state_of c.tokens.place c.tokens.draft) (state_of c.tokens.place c.skim.new.draft) c.args.text.now c.tokens.rest.now c.in_ok-ahead.ahead.now c.in_ok-ahead.ensures.exact c.tokens.invariant in
-    fine_in_range (state_of c.tokens.place c.skim.new.draft) h.fine
+    let h = goes_far (state_of c.tokens.place c.tokens.draft) (state_of c.in_ok-at.at c.skim.new.draft) c.args.text.now c.tokens.rest.now c.in_ok-at.ahead.now c.in_ok-at.ensures.exact c.tokens.invariant in
+    fine_in_range (state_of c.in_ok-at.at c.skim.new.draft) h.fine
 
 pub returns-in-Bad-clause-first : goal.returns-in-Bad-clause-first
 returns-in-Bad-clause-first c =
-    at_bad (state_of c.tokens.place c.skim.new.draft) c.in-Some.token c.args.text.now c.in_ok-ahead.ahead.now c.in-Some.more.now (move_of c.in_ok-step.field-0 c.step.new.draft) c.in_ok-step.ensures (ap (λ p. move_of p c.step.new.draft) c.in-Bad.is)
+    at_bad (state_of c.in_ok-at.at c.skim.new.draft) c.in-Some.token c.args.text.now c.in_ok-at.ahead.now c.in-Some.more.now (move_of c.in_ok-step.field-0 c.step.new.draft) c.in_ok-step.ensures (ap (λ p. move_of p c.step.new.draft) c.in-Bad.is)
     c.in-Some.ensures.exact.0
-    (goes_far (state_of c.tokens.place c.tokens.draft) (state_of c.tokens.place c.skim.new.draft) c.args.text.now c.tokens.rest.now c.in_ok-ahead.ahead.now c.in_ok-ahead.ensures.exact c.tokens.invariant)
+    (goes_far (state_of c.tokens.place c.tokens.draft) (state_of c.in_ok-at.at c.skim.new.draft) c.args.text.now c.tokens.rest.now c.in_ok-at.ahead.now c.in_ok-at.ensures.exact c.tokens.invariant)
 
 pub returns-in-Done-clause-found : goal.returns-in-Done-clause-found
 returns-in-Done-clause-found c =
-    ends (state_of c.tokens.place c.skim.new.draft) c.step.new.draft.clauses c.in-Some.token c.args.text.now c.in_ok-ahead.ahead.now c.in-Some.more.now (move_of c.in_ok-step.field-0 c.step.new.draft) c.in_ok-step.ensures
+    ends (state_of c.in_ok-at.at c.skim.new.draft) c.step.new.draft.clauses c.in-Some.token c.args.text.now c.in_ok-at.ahead.now c.in-Some.more.now (move_of c.in_ok-step.field-0 c.step.new.draft) c.in_ok-step.ensures
     (ap (λ p. move_of p c.step.new.draft) c.in-Done.is) c.in-Some.ensures.ranged c.in-Some.ensures.exact.0
-    (goes_far (state_of c.tokens.place c.tokens.draft) (state_of c.tokens.place c.skim.new.draft) c.args.text.now c.tokens.rest.now c.in_ok-ahead.ahead.now c.in_ok-ahead.ensures.exact c.tokens.invariant)
+    (goes_far (state_of c.tokens.place c.tokens.draft) (state_of c.in_ok-at.at c.skim.new.draft) c.args.text.now c.tokens.rest.now c.in_ok-at.ahead.now c.in_ok-at.ensures.exact c.tokens.invariant)
 
 pub tokens-preserved : goal.tokens-preserved
 tokens-preserved c =
-    goes_on (state_of c.tokens.place c.skim.new.draft) (state_of c.in-On.then c.step.new.draft) c.in-Some.token c.args.text.now c.in_ok-ahead.ahead.now c.in-Some.more.now (move_of c.in_ok-step.field-0 c.step.new.draft) c.in_ok-step.ensures
+    goes_on (state_of c.in_ok-at.at c.skim.new.draft) (state_of c.in-On.then c.step.new.draft) c.in-Some.token c.args.text.now c.in_ok-at.ahead.now c.in-Some.more.now (move_of c.in_ok-step.field-0 c.step.new.draft) c.in_ok-step.ensures
     (ap (λ p. move_of p c.step.new.draft) c.in-On.is) c.in-Some.ensures.ranged c.in-Some.ensures.exact.0
-    (goes_far (state_of c.tokens.place c.tokens.draft) (state_of c.tokens.place c.skim.new.draft) c.args.text.now c.tokens.rest.now c.in_ok-ahead.ahead.now c.in_ok-ahead.ensures.exact c.tokens.invariant)
+    (goes_far (state_of c.tokens.place c.tokens.draft) (state_of c.in_ok-at.at c.skim.new.draft) c.args.text.now c.tokens.rest.now c.in_ok-at.ahead.now c.in_ok-at.ensures.exact c.tokens.invariant)

@@ -1,0 +1,22 @@
+use Rattle.given_text.specs.Behind as b
+use Rattle.given_text.specs.State as s
+use Rattle.given_text.specs.Places.{state_of}
+use Rattle.given_text.specs.Steps.{Reaches}
+use Rattle.given_text.proofs.Skimming.{constant_reaches, ok_more, reaches_more}
+use Rattle.given_text.proofs.phrases.behind_sum.Goals as goal
+
+pub related-requires : goal.related-requires
+related-requires c = record { in_range = c.in_ok-rest.ensures.open }
+
+pub returns-in-Some-clause-exact : goal.returns-in-Some-clause-exact
+returns-in-Some-clause-exact c =
+    reaches_more (s.Behind (b.Sum c.args.draft.now)) (s.Behind (b.Sum c.take_names.new.draft)) (s.Behind (b.Number c.take_names.new.draft c.in-Some.minus c.in-Some.n)) c.args.text.now c.in_ok-rest.rest.now c.in-Some.behind.now
+    c.in_ok-rest.ensures.exact
+    (constant_reaches c.take_names.new.draft c.in-Some.minus c.in-Some.n c.in_ok-rest.rest.now c.in-Some.behind.now c.in-Some.ensures.range.1 c.in-Some.ensures.range.0 c.in-Some.ensures.exact)
+
+pub returns-in-None-clause-exact : goal.returns-in-None-clause-exact
+returns-in-None-clause-exact c =
+    ok_more (λ x. Reaches (s.Behind (b.Sum c.take_names.new.draft)) (state_of x.0 c.related.new.draft) c.in_ok-rest.rest.now x.1.now) (λ x. Reaches (s.Behind (b.Sum c.args.draft.now)) (state_of x.0 c.related.new.draft) c.args.text.now x.1.now)
+    c.related.result
+    (λ x h. reaches_more (s.Behind (b.Sum c.args.draft.now)) (s.Behind (b.Sum c.take_names.new.draft)) (state_of x.0 c.related.new.draft) c.args.text.now c.in_ok-rest.rest.now x.1.now c.in_ok-rest.ensures.exact h)
+    c.related.ensures.exact
