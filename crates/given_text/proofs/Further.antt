@@ -46,11 +46,11 @@ is_above least x up = grind (arith, nat_tests)
 -- what the loop over names has done
 pub record Named (old g : Draft) (text rest : List ℕ) : Type 0 where
   pub reaches : Reaches (s.Behind (b.Sum old)) (s.Behind (b.Sum g)) text rest
-  pub register : IsOpen g
+  pub is_open : IsOpen g
   pub within : length rest ≤ length text
 
 pub none_named : (g : Draft) (text : List ℕ) → IsOpen g → Named g g text text
-none_named g text h = record { reaches = record { tokens = []; leads = refl; cut = refl }; register = h; within = omega arith }
+none_named g text h = record { reaches = record { tokens = []; leads = refl; cut = refl }; is_open = h; within = omega arith }
 
 pub more_named : (old g h : Draft) (minus : Bool) (x : ℕ) (text rest more : List ℕ) → x < 2 ^ 32 → g.least ≤ x → h ≡ with_pair g minus 1 x → Cuts (name_tokens minus x) rest more → length more < length rest
     → Named old g text rest → Named old h text more
@@ -60,6 +60,6 @@ more_named old g h minus x text rest more small up is cut shorter n = record {
     leads = lead_append (s.Behind (b.Sum old)) (s.Behind (b.Sum g)) (s.Behind (b.Sum h)) n.reaches.tokens (name_tokens minus x) n.reaches.leads (subst (λ d. LeadOn (s.Behind (b.Sum g)) (name_tokens minus x) (s.Behind (b.Sum d))) (sym is) (name_leads g minus x small (is_above g.least x up)));
     cut = cut_append n.reaches.tokens (name_tokens minus x) text rest more n.reaches.cut cut;
   };
-  register = subst IsOpen (sym is) (still_open g minus x up n.register);
+  is_open = subst IsOpen (sym is) (still_open g minus x up n.is_open);
   within = let w = n.within in omega (arith, w, shorter);
 }

@@ -9,7 +9,14 @@ use Rattle.proof_text.specs.declared.reading.Refusal.{Refusal}
 use Rattle.proof_text.specs.declared.scanner.Piece.{Piece}
 use Rattle.proof_text.proofs.Cutting.{cut_append, some_same}
 use Rattle.proof_text.proofs.Refusals.{no_word}
+use Rattle.given_text.specs.declared.draft.Draft.{Draft}
+use Rattle.given_text.specs.declared.place.Last.TheVariants as w
+use Rattle.given_text.specs.declared.place.Place.{Place}
+use Rattle.given_text.specs.declared.place.Place.TheVariants as p
+use Rattle.given_text.specs.Behind as b
+use Rattle.given_text.specs.Places.{state_of}
 use Rattle.given_text.specs.State.{State}
+use Rattle.given_text.specs.State as s
 use Rattle.given_text.specs.Move.{Move}
 use Rattle.given_text.specs.Move as m
 use Rattle.given_text.specs.Text.{AreClauses, dnf_text, gives_text}
@@ -64,6 +71,13 @@ pub ends : (z : State) (d : List (List Literal)) (x : Token) (bytes rest more : 
 ends z d x bytes rest more move p q r c h =
     let l = subst (Leads (said z ++ x ∷ [])) (sym p ∙ q) (leads z x r h.fine) in
     (l.0, subst (λ w. Cuts w bytes more) (sym l.1) (cut_append (said z) (x ∷ []) bytes rest more h.cut c))
+
+-- the line ends behind a clause
+pub ends_clause : (place : Place) (g : Draft) (d : List (List Literal)) (bytes rest more : List ℕ) → place ≡ p.Behind w.Clause → d ≡ g.clauses ++ g.literals ∷ [] → Cuts (t.LineFeed ∷ []) rest more → Stands (state_of place g) bytes rest
+    → AreClauses d × Cuts (gives_text d) bytes more
+unfolding moves
+ends_clause place g d bytes rest more is e c h =
+    ends (s.Behind (b.Clause g.clauses g.literals)) d t.LineFeed bytes rest more (m.Done (g.clauses ++ g.literals ∷ [])) refl (ap m.Done (sym e)) tt c (subst (λ z. Stands (state_of z g) bytes rest) is h)
 
 whole : (d : List (List Literal)) → AreClauses d → run line_moves gives_read (dnf_text d ++ t.LineFeed ∷ []) ≡ read d []
 whole d a = ap (run line_moves gives_read) (sym (append-nil (dnf_text d ++ t.LineFeed ∷ []))) ∙ complete d [] a

@@ -17,7 +17,7 @@ use Rattle.given_text.specs.Behind as b
 use Rattle.given_text.specs.State.{State}
 use Rattle.given_text.specs.State as s
 use Rattle.given_text.specs.Move as m
-use Rattle.given_text.specs.Machine.{compared, counted, moves, opened, relation, signed, sum_of, with_pair}
+use Rattle.given_text.specs.Machine.{compared, counted, moves, opened, relation, signed, sum_of, true_then, with_pair}
 use Rattle.given_text.specs.Places.{behind_of, constant_of}
 use Rattle.given_text.specs.Steps.{LeadOn, Reaches}
 use Rattle.given_text.proofs.Further.{is_above, lead_append, named_on}
@@ -126,6 +126,19 @@ first_reaches g h false x text rest small up e cut = record {
       (s.Behind (b.Sum (with_pair g false 1 x)), named_on g false x (is_above g.least x up), small, refl);
   cut = cut;
 }
+
+-- the word `true`
+true_is : (g : Draft) → g.literals ≡ [] → g.divisor ≡ None → m.On (s.Behind (b.Clause g.clauses g.literals)) ≡ true_then g.clauses g.literals g.divisor
+true_is g p q = ap (λ l. m.On (s.Behind (b.Clause g.clauses l))) p ∙ sym (ap (λ l. true_then g.clauses l g.divisor) p ∙ ap (λ v. true_then g.clauses [] v) q)
+
+pub true_reaches : (g : Draft) (text rest : List ℕ) → g.literals ≡ [] → g.divisor ≡ None → Cuts (t.True ∷ []) text rest → Reaches (s.Blank (b.Start g)) (s.Behind (b.Clause g.clauses g.literals)) text rest
+unfolding moves
+true_reaches g text rest p q cut = record { tokens = t.True ∷ []; leads = (s.Behind (b.Clause g.clauses g.literals), true_is g p q, tt, refl); cut = cut }
+
+-- the blank before a literal
+pub blank_reaches : (g : Draft) (text rest : List ℕ) → Cuts (t.Blank ∷ []) text rest → Reaches (s.Behind (b.Start g)) (s.Blank (b.Start g)) text rest
+unfolding moves
+blank_reaches g text rest cut = record { tokens = t.Blank ∷ []; leads = (s.Blank (b.Start g), refl, tt, refl); cut = cut }
 
 -- the bytes of `>=` between two blanks
 pub bound_cut : (text rest : List ℕ) → text ≡ 32 ∷ 62 ∷ 61 ∷ 32 ∷ rest → Cuts (t.Blank ∷ t.AtLeast ∷ t.Blank ∷ []) text rest

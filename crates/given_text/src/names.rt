@@ -9,8 +9,9 @@ ghost use Rattle.proof_text.specs.declared.tokens.Token.TheVariants as t;
 ghost use Rattle.std.specs.Prelude.{◌≤◌, ◌<◌, ◌∷◌, [], cond, length, IfOk, IfSome};
 
 use crate::draft::Draft;
-use crate::signs::{name_ahead, sign_ahead};
+use crate::signs::sign_ahead;
 use linear_term::Memory;
+use proof_text::name_ahead;
 
 /// Takes the names that come behind a name, each with a sign between two blanks before it: the text behind them.
 pub fn take_names<'a>(draft: &mut Draft, text: &'a [u8]) -> Result<&'a [u8], Memory>

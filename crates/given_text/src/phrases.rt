@@ -5,14 +5,19 @@ ghost use Rattle.given_text.specs.Places.{behind_of, constant_of, state_of};
 ghost use Rattle.given_text.specs.Ranges.{IsInRange, IsOpen, IsStateInRange};
 ghost use Rattle.given_text.specs.State as s;
 ghost use Rattle.given_text.specs.Steps.{Reaches};
+ghost use Rattle.given_text.specs.declared.place.Last.TheVariants as w;
+ghost use Rattle.given_text.specs.declared.place.Place.TheVariants as p;
 ghost use Rattle.linear_term.specs.Range.{InRange};
-ghost use Rattle.std.specs.Prelude.{◌≡◌, ◌≤◌, length, IfOk, IfSome};
+ghost use Rattle.proof_text.specs.Reading.{Cuts};
+ghost use Rattle.proof_text.specs.declared.tokens.Token.TheVariants as t;
+ghost use Rattle.std.specs.Prelude.{◌≡◌, ◌≤◌, ◌∷◌, [], length, IfOk, IfSome};
 
 use crate::draft::{Draft, signed};
 use crate::names::take_names;
 use crate::place::{Last, Place};
 use crate::signs::{constant_ahead, first_ahead, joint_ahead, relation_ahead};
 use linear_term::Memory;
+use proof_text::{blank, line_feed, true_ahead};
 use std::alloc::Global;
 
 /// Where the machine stands behind the tokens that are seen at once, and the text behind them; where none are, as before.
@@ -32,6 +37,7 @@ pub fn skim<'a>(
             related(alloc, draft, Last::Number(minus, n), text)
         }
         Place::Behind(Last::Clause) => joined(alloc, draft, text),
+        Place::Behind(Last::Start) => started(draft, text),
         Place::Blank(Last::Start) => begun(draft, text),
         _ => Ok((place, text)),
     }
@@ -111,18 +117,58 @@ fn joined<'a>(alloc: Global, draft: &mut Draft, text: &'a [u8]) -> Result<(Place
     }
 }
 
-/// Where a literal begins: the name that begins its term.
+/// Before the blank of a literal: the blank, and the name that begins its term, or the word `true`.
+fn started<'a>(draft: &mut Draft, text: &'a [u8]) -> Result<(Place, &'a [u8]), Memory>
+    requires open { IsOpen draft.old }
+    ensures exact { IfOk result (λ x. Reaches (s.Behind (b.Start draft.old)) (state_of x.0 draft.new) text.now x.1.now) }
+    ensures within { IfOk result (λ x. length x.1.now ≤ length text.now) }
+{
+    let Ok(rest) = blank(text) else {
+        return Ok((Place::Behind(Last::Start), text));
+    };
+    begun(draft, rest)
+}
+
+/// Where a literal begins: the name that begins its term, or the word `true`.
 fn begun<'a>(draft: &mut Draft, text: &'a [u8]) -> Result<(Place, &'a [u8]), Memory>
     requires open { IsOpen draft.old }
     ensures exact { IfOk result (λ x. Reaches (s.Blank (b.Start draft.old)) (state_of x.0 draft.new) text.now x.1.now) }
     ensures within { IfOk result (λ x. length x.1.now ≤ length text.now) }
 {
     let Some((minus, name, rest)) = first_ahead(text) else {
-        return Ok((Place::Blank(Last::Start), text));
+        return Ok(true_clause(draft, text));
     };
     if draft.least > u64::from(name) {
         return Ok((Place::Blank(Last::Start), text));
     }
     draft.add_name(minus, 1, name)?;
     Ok((Place::Behind(Last::Sum), rest))
+}
+
+/// Where a literal begins: the word `true`, which is all that its clause says.
+fn true_clause<'a>(draft: &Draft, text: &'a [u8]) -> (Place, &'a [u8])
+    ensures exact { Reaches (s.Blank (b.Start draft.now)) (state_of result.0 draft.now) text.now result.1.now }
+    ensures within { length result.1.now ≤ length text.now }
+{
+    let Some(rest) = true_ahead(text) else {
+        return (Place::Blank(Last::Start), text);
+    };
+    if draft.literals.is_empty() && draft.divisor.is_none() {
+        (Place::Behind(Last::Clause), rest)
+    } else {
+        (Place::Blank(Last::Start), text)
+    }
+}
+
+/// The text behind the end of the line, where that comes behind a clause.
+pub fn end_ahead(place: Place, text: &[u8]) -> Option<&[u8]>
+    ensures { IfSome result (λ rest. (place ≡ p.Behind w.Clause) × Cuts (t.LineFeed ∷ []) text.now rest.now) }
+{
+    let Place::Behind(Last::Clause) = place else {
+        return None;
+    };
+    let Ok(rest) = line_feed(text) else {
+        return None;
+    };
+    Some(rest)
 }

@@ -6,7 +6,7 @@ ghost use Rattle.std.specs.Prelude.{IfErr, IfOk};
 
 use crate::draft::Draft;
 use crate::machine::step;
-use crate::phrases::skim;
+use crate::phrases::{end_ahead, skim};
 use crate::place::{Last, Place, Progress};
 use clause_set::Literal;
 use proof_text::{Refusal, gives_word, next};
@@ -27,6 +27,10 @@ pub fn given(alloc: Global, text: &[u8]) -> Result<(Items<Items<Literal>>, &[u8]
             place = at;
             rest = ahead;
             continue;
+        }
+        if let Some(more) = end_ahead(at, ahead) {
+            draft.end_clause(alloc)?;
+            return Ok((draft.clauses, more));
         }
         let Some((token, more)) = next(ahead) else {
             return Err(Refusal::Syntax(0));

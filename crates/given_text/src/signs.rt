@@ -4,7 +4,7 @@ ghost use Rattle.proof_text.specs.Reading.{Cuts};
 ghost use Rattle.proof_text.specs.declared.tokens.Token.TheVariants as t;
 ghost use Rattle.std.specs.Prelude.{◌≡◌, ◌<◌, ◌^◌, ◌∷◌, [], cond, length, IfSome};
 
-use proof_text::{Token, next};
+use proof_text::{name_ahead, number_ahead};
 
 /// The byte between two blanks that the text begins with, and the text behind them.
 fn between_blanks(text: &[u8]) -> Option<(u8, &[u8])>
@@ -52,9 +52,7 @@ pub(crate) fn relation_ahead(text: &[u8]) -> Option<(bool, &[u8])>
     ensures shorter { IfSome result (λ x. length x.1.now < length text.now) }
 {
     let (bound, behind) = related(text)?;
-    let Some((Token::Number(n), rest)) = next(behind) else {
-        return None;
-    };
+    let (n, rest) = number_ahead(behind)?;
     if n == 0 { Some((bound, rest)) } else { None }
 }
 
@@ -84,17 +82,6 @@ fn at_least(text: &[u8]) -> Option<&[u8]>
     }
 }
 
-/// The name that the text begins with, and the text behind it.
-pub(crate) fn name_ahead(text: &[u8]) -> Option<(u32, &[u8])>
-    ensures exact { IfSome result (λ x. Cuts (t.Name x.0 ∷ []) text.now x.1.now) }
-    ensures shorter { IfSome result (λ x. length x.1.now < length text.now) }
-{
-    let Some((Token::Name(name), rest)) = next(text) else {
-        return None;
-    };
-    Some((name, rest))
-}
-
 /// The name that begins a term, with a `-` directly before it or none, whether there is one, and the text behind it.
 pub(crate) fn first_ahead(text: &[u8]) -> Option<(bool, u32, &[u8])>
     ensures exact { IfSome result (λ x. Cuts (cond x.0 (t.Minus ∷ t.Name x.1 ∷ []) (t.Name x.1 ∷ [])) text.now x.2.now) }
@@ -108,15 +95,17 @@ pub(crate) fn first_ahead(text: &[u8]) -> Option<(bool, u32, &[u8])>
     Some((false, name, rest))
 }
 
-/// The constant that ends a term, which is not 0, behind a sign between two blanks, whether the sign is `-`, and the text behind.
+/// The constant that ends a term, from 1 to 2^32 − 1, behind a sign between two blanks, whether the sign is `-`, and the text behind.
 pub(crate) fn constant_ahead(text: &[u8]) -> Option<(bool, u128, &[u8])>
     ensures exact { IfSome result (λ x. Cuts (t.Blank ∷ cond x.0 t.Minus t.Plus ∷ t.Blank ∷ t.Number x.1 ∷ []) text.now x.2.now) }
     ensures range { IfSome result (λ x. (x.1 < 2 ^ 127) × (0 < x.1)) }
     ensures shorter { IfSome result (λ x. length x.2.now < length text.now) }
 {
     let (minus, behind) = sign_ahead(text)?;
-    let Some((Token::Number(n), rest)) = next(behind) else {
-        return None;
-    };
-    if n == 0 { None } else { Some((minus, n, rest)) }
+    let (n, rest) = number_ahead(behind)?;
+    if n == 0 {
+        None
+    } else {
+        Some((minus, u128::from(n), rest))
+    }
 }

@@ -1,24 +1,31 @@
--- Names and numbers at the front of bytes, read digit by digit.
-use Rattle.std.proofs.Common.{ℕ, suc, ◌≡◌, ◌≤◌, ◌<◌, ◌+◌, ◌-◌, ◌*◌, ◌^◌, ◌==◌, ◌&&◌, ◌||◌, not, Bool, true, false, List, [], ◌∷◌, ◌++◌, length, take, drop, Some, None, if◌then◌else◌, refl, sym, ap, subst, ◌∙◌, arith}
+-- Names, numbers and entries at the front of bytes, read digit by digit.
+use Rattle.std.proofs.Common.{ℕ, suc, ◌≡◌, ◌≤◌, ◌<◌, ◌+◌, ◌-◌, ◌*◌, ◌^◌, ◌==◌, ◌&&◌, ◌||◌, not, Bool, true, false, List, [], ◌∷◌, ◌++◌, length, take, drop, Some, None, if◌then◌else◌, refl, sym, ap, subst, ◌∙◌, append_assoc, arith}
 use Rattle.std.specs.Prelude.{nat_lt, slice_index}
 use Rattle.std.specs.List.{prefix_len, list_all}
 use Rattle.std.specs.Char.{is_ascii_digit}
 use Rattle.std.specs.Fmt.{decimal}
 use Rattle.std.proofs.lemmas.Bool.{lt-ltb}
 use Rattle.std.proofs.lemmas.List.{take-append-drop, length-append}
+use Rattle.std.proofs.lemmas.Slice.Eq.{bytes_eq-Decides}
+use Rattle.std.specs.Str.{bytes_eq}
 use Rattle.pri_tokens.specs.Numerals.{decimal_value, with_digits}
+use Rattle.pri_tokens.proofs.Digits.{with_digits_grows}
 use Rattle.pri_tokens.proofs.Tests.{left_true, right_true}
+use Rattle.purse.specs.declared.log.Entry.{Entry}
+use Rattle.purse.specs.declared.log.Entry.TheVariants as e
+use Rattle.proof_text.specs.declared.tokens.Token.{Token}
 use Rattle.proof_text.specs.declared.tokens.Token.TheVariants as t
 use Rattle.proof_text.specs.Reading.{Cuts}
 use Rattle.proof_text.specs.Scanning.{ends_word}
+use Rattle.proof_text.specs.Spellings.{IsEntry, IsToken, entry_spelling, spelling}
 use Rattle.proof_text.proofs.Respelled.{ends, one_back}
 use Rattle.proof_text.specs.Words.{is_empty, is_numeral, numeral_of}
 use Rattle.proof_text.proofs.Numerals.{numeral_spelled}
 
-abbrev digits_of : List ℕ → List ℕ
+abbrev pub digits_of : List ℕ → List ℕ
 digits_of text = take (prefix_len is_ascii_digit text) text
 
-abbrev behind_digits : List ℕ → List ℕ
+abbrev pub behind_digits : List ℕ → List ℕ
 behind_digits text = drop (prefix_len is_ascii_digit text) text
 
 -- the digits of a text up to `rest` have this value, and others may follow
@@ -58,6 +65,12 @@ more_count text rest more value next d e h n c =
       value_is = ap (λ v. with_digits v (digits_of more)) n ∙ sym (ap (with_digits value) digits) ∙ c.value_is;
       behind = sym back ∙ c.behind;
     }
+
+-- one more digit makes the number too great
+pub too_many : (text rest more : List ℕ) (value d : ℕ) → rest ≡ d ∷ more → is_ascii_digit d ≡ true → 2 ^ 32 ≤ 10 * value + (d - 48) → Counts text value rest → 2 ^ 32 ≤ decimal_value (digits_of text)
+too_many text rest more value d e h great c =
+    let is : with_digits (10 * value + (d - 48)) (digits_of more) ≡ decimal_value (digits_of text) = sym (ap (with_digits value) (ap digits_of e ∙ digits_more d more h)) ∙ c.value_is in
+    let up = with_digits_grows (10 * value + (d - 48)) (digits_of more) in omega (arith, great, up, is)
 
 -- they are digits
 digits_pass_by : (b : ℕ) (bs : List ℕ) (v : Bool) → is_ascii_digit b ≡ v → list_all is_ascii_digit (digits_of bs) ≡ true → list_all is_ascii_digit (digits_of (b ∷ bs)) ≡ true
@@ -114,14 +127,33 @@ begins first behind h =
     let next = not (first == 48) || not (is_ascii_digit (slice_index behind 0)) in
     (left_true (is_ascii_digit first) next h, canonical_front first behind (right_true (is_ascii_digit first) next h))
 
+-- bytes before the rest of a text
+pub behind_word : (text word front rest : List ℕ) → front ≡ take (length word) text → rest ≡ drop (length word) text → bytes_eq front word ≡ true → text ≡ word ++ rest
+behind_word text word front rest p q same =
+    sym (take-append-drop (length word) text) ∙ ap (λ z. z ++ drop (length word) text) (sym p ∙ (bytes_eq-Decides front word).0 same) ∙ ap (λ z. word ++ z) (sym q)
+
+-- a word at the front of a text
+pub word_front : (x : Token) (text rest : List ℕ) → IsToken x → text ≡ spelling x ++ rest → ends_word rest ≡ true → Cuts (x ∷ []) text rest
+word_front x text rest is e h = subst (λ z. Cuts (x ∷ []) z rest) (sym e) (one_back x rest is (λ _. ends rest h))
+
 -- a name, or a number, at the front of a text
-pub name_front : (x : ℕ) (text behind rest : List ℕ) → x < 2 ^ 32 → text ≡ 99 ∷ behind → behind ≡ decimal x ++ rest → ends_word rest ≡ true → length rest < length behind
-    → Cuts (t.Name x ∷ []) text rest × (length rest < length text)
-name_front x text behind rest small e d h shorter =
-    (subst (λ z. Cuts (t.Name x ∷ []) z rest) (sym (e ∙ ap (λ z. 99 ∷ z) d)) (one_back (t.Name x) rest small (λ _. ends rest h)), let p = ap length e in omega (arith, p, shorter))
+pub name_front : (x : ℕ) (text behind rest : List ℕ) → x < 2 ^ 32 → text ≡ 99 ∷ behind → behind ≡ decimal x ++ rest → ends_word rest ≡ true → Cuts (t.Name x ∷ []) text rest
+name_front x text behind rest small e d h = word_front (t.Name x) text rest small (e ∙ ap (λ z. 99 ∷ z) d) h
 
 pub number_front : (n : ℕ) (text rest : List ℕ) → n < 2 ^ 32 → text ≡ decimal n ++ rest → ends_word rest ≡ true → Cuts (t.Number n ∷ []) text rest
-number_front n text rest small e h = subst (λ z. Cuts (t.Number n ∷ []) z rest) (sym e) (one_back (t.Number n) rest (omega arith) (λ _. ends rest h))
+number_front n text rest small e h = word_front (t.Number n) text rest (omega arith) e h
+
+-- an entry at the front of a text
+pub entry_front : (x : Entry) (text rest : List ℕ) → IsEntry x → text ≡ entry_spelling x ++ rest → ends_word rest ≡ true → Cuts (t.Step x ∷ []) text rest
+entry_front x text rest small e h = word_front (t.Step x) text rest small e h
+
+pub lettered_front : (b : ℕ) (x : Entry) (i : ℕ) (text behind rest : List ℕ) → IsEntry x → entry_spelling x ≡ b ∷ decimal i → text ≡ b ∷ behind → behind ≡ decimal i ++ rest → ends_word rest ≡ true → Cuts (t.Step x ∷ []) text rest
+lettered_front b x i text behind rest small is e d h =
+    entry_front x text rest small (e ∙ ap (λ z. b ∷ z) d ∙ sym (ap (λ z. z ++ rest) is)) h
+
+pub merge_front : (i j : ℕ) (text behind rest : List ℕ) → i < 2 ^ 32 → j < 2 ^ 32 → text ≡ 109 ∷ behind → behind ≡ decimal i ++ 44 ∷ (decimal j ++ rest) → ends_word rest ≡ true → Cuts (t.Step (e.Merge i j) ∷ []) text rest
+merge_front i j text behind rest small less is d h =
+    entry_front (e.Merge i j) text rest (small, less) (is ∙ ap (λ z. 109 ∷ z) (d ∙ sym (append_assoc (decimal i) (44 ∷ decimal j) rest))) h
 
 -- what is behind a numeral is shorter than the text
 behind_less : (bs : List ℕ) → length (behind_digits bs) ≤ length bs

@@ -3,6 +3,7 @@ pub mod Numerals
 pub mod Spelled
 pub mod Cutting
 pub mod Refusals
+pub mod SignBytes
 pub mod EntryLines
 pub mod NumberLines
 pub mod Fronts
@@ -17,3 +18,4 @@ pub mod ItemLines
 pub mod Integers
 pub mod CountedLines
 pub mod PartLines
+pub mod Unseen

@@ -20,20 +20,20 @@ use Rattle.proof_text.proofs.Numerals.{three_true}
 use Rattle.proof_text.proofs.Decimals.{decimal_is, numeral_back}
 
 -- the bytes pass the test up to here
-abbrev Stops : (ℕ → Bool) → List ℕ → Type 0
+abbrev pub Stops : (ℕ → Bool) → List ℕ → Type 0
 Stops f [] = Unit {0}
 Stops f (b ∷ bs) = f b ≡ false
 
-run_is : (f : ℕ → Bool) (w rest : List ℕ) → list_all f w ≡ true → Stops f rest → prefix_len f (w ++ rest) ≡ length w
+pub run_is : (f : ℕ → Bool) (w rest : List ℕ) → list_all f w ≡ true → Stops f rest → prefix_len f (w ++ rest) ≡ length w
 run_is f [] [] h e = refl
 run_is f [] (b ∷ rest) h e = ap (λ q. cond q (1 + prefix_len f rest) 0) e
 run_is f (b ∷ w) rest h e = ap (λ q. cond q (1 + prefix_len f (w ++ rest)) 0) (left_true (f b) (list_all f w) h) ∙ ap (λ k. 1 + k) (run_is f w rest (right_true (f b) (list_all f w) h) e) ∙ (omega arith)
 
-take_all : (bs rest : List ℕ) → take (length bs) (bs ++ rest) ≡ bs
+pub take_all : (bs rest : List ℕ) → take (length bs) (bs ++ rest) ≡ bs
 take_all [] rest = refl
 take_all (b ∷ bs) rest = ap (λ w. b ∷ w) (take_all bs rest)
 
-drop_all : (bs rest : List ℕ) → drop (length bs) (bs ++ rest) ≡ rest
+pub drop_all : (bs rest : List ℕ) → drop (length bs) (bs ++ rest) ≡ rest
 drop_all [] rest = refl
 drop_all (b ∷ bs) rest = drop_all bs rest
 
@@ -110,9 +110,9 @@ joined_back b bs c v rest x all stop more j is h =
 
 -- Numerals.
 
-record Numeral (w : List ℕ) : Type 0 where
-  digits : list_all is_ascii_digit w ≡ true
-  some : 0 < length w
+pub record Numeral (w : List ℕ) : Type 0 where
+  pub digits : list_all is_ascii_digit w ≡ true
+  pub some : 0 < length w
 
 numeral_digits : (w : List ℕ) → is_numeral w ≡ true → Numeral w
 numeral_digits [] h = absurd (cc)
@@ -120,7 +120,7 @@ numeral_digits (d ∷ ds) h =
     let q = three_true (is_ascii_digit d) (list_all is_ascii_digit ds) (not (d == 48) || is_empty ds) h in
     record { digits = ap (λ v. v && list_all is_ascii_digit ds) q.0 ∙ q.1; some = omega arith }
 
-decimal_digits : (n : ℕ) → n < 2 ^ 127 → Numeral (decimal n)
+pub decimal_digits : (n : ℕ) → n < 2 ^ 127 → Numeral (decimal n)
 decimal_digits n h = numeral_digits (decimal n) (decimal_is n (omega arith)).numeral
 
 digit_is_word : (b : ℕ) → is_ascii_digit b ≡ true → is_word_byte b ≡ true

@@ -1,5 +1,5 @@
 -- The lines of a proof that speak of no sequent, as tokens.
-use Rattle.std.specs.Prelude.{ℕ, ◌≤◌, ◌<◌, ℤ, pos, int_lt, unsigned_abs, cond, List, [], ◌∷◌, ◌++◌, Option, Some, None}
+use Rattle.std.specs.Prelude.{ℕ, ◌≤◌, ◌<◌, ◌^◌, ℤ, pos, int_lt, unsigned_abs, cond, List, [], ◌∷◌, ◌++◌, Option, Some, None}
 use Rattle.std.specs.List.{AllByRecursion}
 use Rattle.linear_term.specs.Range.{InRange}
 use Rattle.purse.specs.declared.log.Entry.{Entry}
@@ -85,6 +85,16 @@ AnyEntries es = Unit {0}
 abbrev pub IsNumberIn : ℕ → ℕ → Token → Type 0
 IsNumberIn least most (t.Number n) = (least ≤ n) × (n ≤ most)
 IsNumberIn least most _ = ⊥
+
+-- the token is a number below 2^32
+abbrev pub IsSmallNumber : Token → Type 0
+IsSmallNumber (t.Number n) = n < 2 ^ 32
+IsSmallNumber _ = ⊥
+
+-- the token is a name
+abbrev pub IsName : Token → Type 0
+IsName (t.Name x) = Unit {0}
+IsName _ = ⊥
 
 -- the token is an entry
 abbrev pub IsStep : Token → Type 0

@@ -1,9 +1,9 @@
 -- What it means that bytes are read as the tokens of a text, and where they are refused first.
-use Rattle.std.specs.Prelude.{ℕ, ◌≡◌, List, [], ◌∷◌, ◌++◌, length, drop, Some}
+use Rattle.std.specs.Prelude.{ℕ, ◌≡◌, true, List, [], ◌∷◌, ◌++◌, length, drop, Some}
 use Rattle.proof_text.specs.declared.tokens.Token.{Token}
 use Rattle.proof_text.specs.declared.reading.Refusal.{Refusal}
 use Rattle.proof_text.specs.declared.reading.Refusal.TheVariants as e
-use Rattle.proof_text.specs.Scanning.{first_piece_of}
+use Rattle.proof_text.specs.Scanning.{ends_word, first_piece_of}
 
 -- the bytes begin with these tokens, and the rest stands behind them
 abbrev pub Cuts : List Token → List ℕ → List ℕ → Type 0
@@ -45,3 +45,7 @@ Lacks P bytes e.Memory = ⊥
 -- the text of no value begins that of another
 abbrev pub IsApart : {V : Type 0} → (V → Type 0) → (V → List Token) → Type 0
 IsApart {V} IsValue text = (u v : V) (more : List Token) → IsValue u → IsValue v → text u ≡ text v ++ more → (u ≡ v) × (more ≡ [])
+
+-- none of these tokens comes with the end of a word behind it
+abbrev pub HasNoneEnded : (Token → Type 0) → List ℕ → Type 0
+HasNoneEnded P bytes = (x : Token) (rest : List ℕ) → Cuts (x ∷ []) bytes rest → ends_word rest ≡ true → P x → ⊥

@@ -1,7 +1,8 @@
 -- Which token a text begins with.
-use Rattle.std.specs.Prelude.{ℕ, ◌+◌, ◌==◌, ◌&&◌, ◌||◌, not, Bool, true, false, List, [], ◌∷◌, take, drop, slice_index, codes, Option, Some, None, if◌then◌else◌}
+use Rattle.std.specs.Prelude.{ℕ, ◌≡◌, ◌<◌, ◌+◌, ◌^◌, ◌++◌, ◌==◌, ◌&&◌, ◌||◌, not, Bool, true, false, List, [], ◌∷◌, take, drop, slice_index, codes, Option, Some, None, if◌then◌else◌}
 use Rattle.std.specs.List.{prefix_len, list_all}
 use Rattle.std.specs.Str.{bytes_eq}
+use Rattle.std.specs.Fmt.{decimal}
 use Rattle.std.specs.Char.{is_ascii_digit, is_ascii_alphabetic}
 use Rattle.proof_text.specs.declared.tokens.Token.TheVariants as t
 use Rattle.proof_text.specs.declared.scanner.Piece.{Piece}
@@ -47,3 +48,11 @@ first_piece_of (b ∷ text) = Some (piece_of b text)
 abbrev pub ends_word : List ℕ → Bool
 ends_word [] = true
 ends_word (b ∷ bs) = not (is_word_byte b) && not (b == 44)
+
+-- no number below 2^32 comes, with such a text behind it
+abbrev pub HasNoNumber : (List ℕ → Bool) → List ℕ → Type 0
+HasNoNumber may text = (n : ℕ) (rest : List ℕ) → n < 2 ^ 32 → may rest ≡ true → text ≡ decimal n ++ rest → ⊥
+
+-- no digit comes
+abbrev pub ends_digits : List ℕ → Bool
+ends_digits text = not (is_ascii_digit (slice_index text 0))

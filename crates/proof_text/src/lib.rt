@@ -13,6 +13,7 @@ mod tokens;
 mod words;
 mod writing;
 
+pub use ahead::{name_ahead, number_ahead, true_ahead};
 pub use laws::{
     charges_law, cutting_law, head_law, part_law, said_law, spelling_law, values_law, written_law,
 };

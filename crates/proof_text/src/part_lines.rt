@@ -10,6 +10,7 @@ use crate::numbers::position;
 use crate::reading::{Refusal, next};
 use crate::single::{line_feed, part_word, parts_word};
 use crate::tokens::Token;
+use crate::words::byte_at;
 use purse::ElimLog;
 use std::alloc::Global;
 
@@ -49,6 +50,9 @@ pub fn part(alloc: Global, text: &[u8]) -> Result<(ElimLog, &[u8]), Refusal>
 fn use_of(text: &[u8], parts: usize) -> Option<(u32, &[u8])>
     ensures { MatchOption result (HasNoUse parts text.now) (λ x. (x.0 < parts) × Cuts (t.Blank ∷ t.Use x.0 ∷ []) text.now x.1.now) }
 {
+    if byte_at(text, 1) != b'u' {
+        return None;
+    }
     let (first, item) = next(text)?;
     let Token::Blank = first else {
         return None;

@@ -5,6 +5,7 @@ ghost use Rattle.proof_text.specs.Reading.{Cuts, Lacks};
 ghost use Rattle.proof_text.specs.declared.tokens.Token.TheVariants as t;
 ghost use Rattle.std.specs.Prelude.{◌≡◌, ◌≤◌, ◌<◌, ◌^◌, ◌∷◌, [], cond, length, IfErr, IfOk};
 
+use crate::ahead::{entry_ahead, word_ahead};
 use crate::reading::{Refusal, next};
 use crate::tokens::Token;
 use purse::Entry;
@@ -14,12 +15,13 @@ pub fn blank(text: &[u8]) -> Result<&[u8], Refusal>
     ensures found { IfOk result (λ rest. Cuts (t.Blank ∷ []) text.now rest.now) }
     ensures lacks { IfErr result (Lacks (λ x. x ≡ t.Blank) text.now) }
 {
-    let Some((token, rest)) = next(text) else {
+    let Some((first, rest)) = text.split_first() else {
         return Err(Refusal::Syntax(0));
     };
-    match token {
-        Token::Blank => Ok(rest),
-        _ => Err(Refusal::Syntax(text.len())),
+    if *first == b' ' {
+        Ok(rest)
+    } else {
+        Err(Refusal::Syntax(text.len()))
     }
 }
 
@@ -28,12 +30,13 @@ pub fn line_feed(text: &[u8]) -> Result<&[u8], Refusal>
     ensures found { IfOk result (λ rest. Cuts (t.LineFeed ∷ []) text.now rest.now) }
     ensures lacks { IfErr result (Lacks (λ x. x ≡ t.LineFeed) text.now) }
 {
-    let Some((token, rest)) = next(text) else {
+    let Some((first, rest)) = text.split_first() else {
         return Err(Refusal::Syntax(0));
     };
-    match token {
-        Token::LineFeed => Ok(rest),
-        _ => Err(Refusal::Syntax(text.len())),
+    if *first == b'\n' {
+        Ok(rest)
+    } else {
+        Err(Refusal::Syntax(text.len()))
     }
 }
 
@@ -98,6 +101,9 @@ pub fn log_word(text: &[u8]) -> Result<&[u8], Refusal>
     ensures found { IfOk result (λ rest. Cuts (t.Log ∷ []) text.now rest.now) }
     ensures lacks { IfErr result (Lacks (λ x. x ≡ t.Log) text.now) }
 {
+    if let Some(rest) = word_ahead(text, b"log".as_slice()) {
+        return Ok(rest);
+    }
     let Some((token, rest)) = next(text) else {
         return Err(Refusal::Syntax(0));
     };
@@ -126,6 +132,9 @@ pub fn gives_word(text: &[u8]) -> Result<&[u8], Refusal>
     ensures found { IfOk result (λ rest. Cuts (t.Gives ∷ []) text.now rest.now) }
     ensures lacks { IfErr result (Lacks (λ x. x ≡ t.Gives) text.now) }
 {
+    if let Some(rest) = word_ahead(text, b"gives".as_slice()) {
+        return Ok(rest);
+    }
     let Some((token, rest)) = next(text) else {
         return Err(Refusal::Syntax(0));
     };
@@ -162,6 +171,9 @@ pub fn entry(text: &[u8]) -> Result<(Entry, &[u8]), Refusal>
     ensures shorter { IfOk result (λ x. length x.1.now < length text.now) }
     ensures lacks { IfErr result (Lacks IsStep text.now) }
 {
+    if let Some((step, rest)) = entry_ahead(text) {
+        return Ok((step, rest));
+    }
     let Some((token, rest)) = next(text) else {
         return Err(Refusal::Syntax(0));
     };
@@ -177,14 +189,16 @@ pub fn goes_on(text: &[u8]) -> Result<(bool, &[u8]), Refusal>
     ensures shorter { IfOk result (λ x. length x.1.now < length text.now) }
     ensures lacks { IfErr result (Lacks IsSeparator text.now) }
 {
-    let Some((token, rest)) = next(text) else {
+    let Some((first, rest)) = text.split_first() else {
         return Err(Refusal::Syntax(0));
     };
-    match token {
-        Token::Blank => Ok((true, rest)),
-        Token::LineFeed => Ok((false, rest)),
-        _ => Err(Refusal::Syntax(text.len())),
+    if *first == b' ' {
+        return Ok((true, rest));
     }
+    if *first == b'\n' {
+        return Ok((false, rest));
+    }
+    Err(Refusal::Syntax(text.len()))
 }
 
 /// The number that comes next, or none where a `-` does, and the text behind it.
