@@ -94,6 +94,14 @@ impl Dnf {
         self.clauses.as_slice()
     }
 
+    /// Its clauses in their order, handed over.
+    pub fn into_clauses(self) -> Items<Clause>
+        ensures { result ≡ self }
+    {
+        let Dnf { clauses } = self;
+        clauses
+    }
+
     /// An equal disjunction, or want of memory.
     #[tactic(auto, using(crate::proofs::Canonical::dnfs))]
     pub fn copy(&self, alloc: Global) -> Result<Dnf, Memory>

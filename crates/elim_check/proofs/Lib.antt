@@ -8,7 +8,5 @@ pub mod Formed
 pub mod Members
 pub mod Naming
 pub mod Replaying
-pub mod Sides
-pub mod Singles
 pub mod Telling
 pub mod Unfolded

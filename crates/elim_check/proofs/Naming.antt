@@ -1,5 +1,5 @@
 -- Names out of a disjunction, one after another.
-use Rattle.std.proofs.Common.{◌≡◌, ◌<◌, ◌-◌, ℕ, zero, suc, List, Result, Ok, Err, IsErrAnd, arith, refl, sym, ◌∙◌, subst}
+use Rattle.std.proofs.Common.{◌≡◌, ◌<◌, ◌-◌, ℕ, zero, suc, List, Result, Ok, Err, IsErrAnd, arith, refl, sym, subst}
 use Rattle.purse.specs.declared.log.Entry.{Entry}
 use Rattle.purse.specs.Trace.{Funds, just}
 use Rattle.purse.proofs.Charging.{then_just}
@@ -11,14 +11,14 @@ use Rattle.elim_check.specs.Reading.{ReadAt}
 use Rattle.elim_check.specs.Steps.{replaying}
 use Rattle.elim_check.proofs.Chained.{read_ok, read_err, quiet_ok, Reads, reads_next, reads_err}
 
--- one name: the replay of the copied clauses, and the tidy form of what it leaves
-module _ (x : ℕ) (d cs todo : List (List Literal)) {log : List Entry} {i j : ℕ} {f g : Funds} where
-  pub replay_stopped : {e : Stop} (r : Result (List (List Literal)) Stop) → todo ≡ cs → cs ≡ d → ReadAt (replaying x todo) log i f (Err e) j g → IsErrAnd r (λ z. z ≡ e) → ReadAt (name_by_log x d) log i f r j g
-  replay_stopped {e} r is same h wrong = read_err (replaying x d) (λ cs. reads_none (tidying cs)) r (subst (λ z. ReadAt (replaying x z) log i f (Err e) j g) (is ∙ same) h) wrong
+-- one name: the replay of the clauses, and the tidy form of what it leaves
+module _ (x : ℕ) (d cs : List (List Literal)) {log : List Entry} {i j : ℕ} {f g : Funds} where
+  pub replay_stopped : {e : Stop} (r : Result (List (List Literal)) Stop) → cs ≡ d → ReadAt (replaying x cs) log i f (Err e) j g → IsErrAnd r (λ z. z ≡ e) → ReadAt (name_by_log x d) log i f r j g
+  replay_stopped {e} r is h wrong = read_err (replaying x d) (λ cs. reads_none (tidying cs)) r (subst (λ z. ReadAt (replaying x z) log i f (Err e) j g) is h) wrong
 
-  pub replay_done : {v : List (List Literal)} {l : ℕ} {h : Funds} {r : Result (List (List Literal)) Stop} → todo ≡ cs → cs ≡ d → ReadAt (replaying x todo) log i f (Ok v) j g → ReadAt (reads_none (tidying v)) log j g r l h
+  pub replay_done : {v : List (List Literal)} {l : ℕ} {h : Funds} {r : Result (List (List Literal)) Stop} → cs ≡ d → ReadAt (replaying x cs) log i f (Ok v) j g → ReadAt (reads_none (tidying v)) log j g r l h
       → ReadAt (name_by_log x d) log i f r l h
-  replay_done {v} is same h more = read_ok (replaying x d) (λ cs. reads_none (tidying cs)) (subst (λ z. ReadAt (replaying x z) log i f (Ok v) j g) (is ∙ same) h) more
+  replay_done {v} is h more = read_ok (replaying x d) (λ cs. reads_none (tidying cs)) (subst (λ z. ReadAt (replaying x z) log i f (Ok v) j g) is h) more
 
 -- ---- several names
 one_less : (n : ℕ) → suc n - 1 ≡ n

@@ -5,44 +5,12 @@ ghost use Rattle.clause_set.specs.Rules.{applies, has_unit, is_bounded, is_exact
 ghost use Rattle.std.specs.List.{list_all, list_any};
 ghost use Rattle.std.specs.Prelude.{◌≡◌, ◌||◌, not};
 
-use clause_set::{Clause, Literal};
+use clause_set::Clause;
 use performed_rules::{
     bounds_alone, has_divisibilities_at, has_equation_at, has_indivisibility_at, has_name,
-    has_only_divisibility_at,
+    has_only_divisibility_at, has_unit, is_lower, is_upper,
 };
 use purse::Entry;
-use rule_steps::mentions;
-
-/// Whether the literal bounds x from below.
-fn is_lower(l: &Literal, x: u32) -> bool
-    ensures { result ≡ is_lower x l.now }
-{
-    match l {
-        Literal::Eq(_) => false,
-        Literal::Geq(t) => mentions(t, x) && t.coef(x) > 0,
-        Literal::Div(_, _) => false,
-        Literal::NDiv(_, _) => false,
-    }
-}
-
-/// Whether the literal bounds x from above.
-fn is_upper(l: &Literal, x: u32) -> bool
-    ensures { result ≡ is_upper x l.now }
-{
-    match l {
-        Literal::Eq(_) => false,
-        Literal::Geq(t) => mentions(t, x) && t.coef(x) < 0,
-        Literal::Div(_, _) => false,
-        Literal::NDiv(_, _) => false,
-    }
-}
-
-/// Whether the coefficient of x is 1 or −1.
-fn has_unit(l: &Literal, x: u32) -> bool
-    ensures { result ≡ has_unit x l.now }
-{
-    l.term().coef(x).unsigned_abs() == 1
-}
 
 /// Whether x is in c, and that in inequalities alone.
 fn is_bounded(c: &Clause, x: u32) -> bool

@@ -15,7 +15,7 @@ ghost use Rattle.std.specs.Prelude.{◌≡◌, ◌+◌, ◌-◌, ◌<◌, ◌≤
 use super::fault::{LogFault, Stop};
 use super::forms::form_by_log;
 use super::knowing::know_formed;
-use super::names::{every_value, some_value, some_values};
+use super::names::{every_value, some_value_kept, some_values};
 use clause_set::Dnf;
 use formula::Core;
 use purse::{ElimLog, Purse, StepFault};
@@ -80,7 +80,7 @@ pub fn check_exists(
     know_formed(d.clauses());
     let entries = log.entries.as_slice();
     let mut place = 0;
-    let answer = some_value(alloc, d, x, entries, &mut place, purse);
+    let answer = some_value_kept(alloc, d, x, entries, &mut place, purse);
     told(answer, place, entries.len())
 }
 

@@ -8,10 +8,10 @@ ghost use Rattle.formula.specs.Sizes.{depth, depths};
 ghost use Rattle.formula.specs.Tree.{form, forms_of};
 ghost use Rattle.std.specs.Prelude.{◌+◌, ◌≤◌, ◌^◌, [], length};
 
-use super::atoms::{of_literal, of_unequal};
 use super::fault::Stop;
 use super::names::some_value;
 use clause_set::{Dnf, Literal, and, not, or};
+use elim_rules::{of_literal, of_unequal};
 use formula::{Core, dual, size};
 use purse::{Entry, Purse};
 use std::alloc::Global;
@@ -103,7 +103,7 @@ fn existential_by_log(
     ensures { ReadAt (reading names (existential (form body.now))) log.now place.old purse.old result place.new purse.new }
 {
     let d = form_by_log(alloc, body, names + 1, log, place, purse)?;
-    some_value(alloc, &d, names, log, place, purse)
+    some_value(alloc, d, names, log, place, purse)
 }
 
 /// The disjunction of "every value of the name `names` makes the body true": no value makes its negation true.
@@ -123,6 +123,6 @@ fn universal_by_log(
     purse.step(size(body))?;
     let negation = dual(alloc, body)?;
     let fails = form_by_log(alloc, &negation, names + 1, log, place, purse)?;
-    let some = some_value(alloc, &fails, names, log, place, purse)?;
+    let some = some_value(alloc, fails, names, log, place, purse)?;
     Ok(not(alloc, &some, purse)?)
 }

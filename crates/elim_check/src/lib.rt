@@ -3,7 +3,6 @@
 #![tactic(auto)]
 
 mod applying;
-mod atoms;
 mod checks;
 mod fault;
 mod forms;

@@ -7,26 +7,28 @@ ghost use Rattle.std.specs.Prelude.{◌≡◌, ◌≤◌, IfOk, length};
 
 use super::fault::Stop;
 use super::replay::replay;
-use clause_set::{Clause, Dnf, not};
-use linear_term::Memory;
+use clause_set::{Dnf, not};
 use purse::{Entry, Purse};
-use sqlite_items::Items;
 use std::alloc::Global;
-
-/// A copy of the clauses.
-#[tactic(auto, using(clause_set::proofs::Walks::copies))]
-fn copies(alloc: Global, cs: &[Clause]) -> Result<Items<Clause>, Memory>
-    ensures { IfOk result (λ copy. copy ≡ cs.now) }
-{
-    let mut out = Items::new(alloc);
-    for c in cs {
-        out.push(c.copy(alloc)?)?;
-    }
-    Ok(out)
-}
 
 /// The disjunction of "some value of x makes d true", by the entries from the place on.
 pub(crate) fn some_value(
+    alloc: Global,
+    d: Dnf,
+    x: u32,
+    log: &[Entry],
+    place: &mut usize,
+    purse: &mut Purse,
+) -> Result<Dnf, Stop>
+    requires { place.old ≤ length log.now }
+    ensures { ReadAt (name_by_log x d) log.now place.old purse.old result place.new purse.new }
+{
+    let out = replay(alloc, d.into_clauses(), x, log, place, purse)?;
+    Ok(Dnf::tidy(alloc, out, purse)?)
+}
+
+/// The same, where d stays.
+pub(crate) fn some_value_kept(
     alloc: Global,
     d: &Dnf,
     x: u32,
@@ -37,9 +39,8 @@ pub(crate) fn some_value(
     requires { place.old ≤ length log.now }
     ensures { ReadAt (name_by_log x d.now) log.now place.old purse.old result place.new purse.new }
 {
-    let todo = copies(alloc, d.clauses())?;
-    let out = replay(alloc, todo, x, log, place, purse)?;
-    Ok(Dnf::tidy(alloc, out, purse)?)
+    let copy = d.copy(alloc)?;
+    some_value(alloc, copy, x, log, place, purse)
 }
 
 /// The disjunction of "every value of x makes d true": no value makes its negation true.
@@ -55,7 +56,7 @@ pub(crate) fn every_value(
     ensures { ReadAt (every_by_log x d.now) log.now place.old purse.old result place.new purse.new }
 {
     let fails = not(alloc, d, purse)?;
-    let some = some_value(alloc, &fails, x, log, place, purse)?;
+    let some = some_value(alloc, fails, x, log, place, purse)?;
     Ok(not(alloc, &some, purse)?)
 }
 
@@ -74,7 +75,7 @@ pub(crate) fn some_values(
     let mut left = names;
     let mut rest = d.copy(alloc)?;
     'names: while left > 0 {
-        rest = some_value(alloc, &rest, left - 1, log, place, purse)?;
+        rest = some_value(alloc, rest, left - 1, log, place, purse)?;
         left -= 1;
     }
     Ok(rest)

@@ -2,65 +2,17 @@
 
 ghost use Rattle.clause_set.specs.Rules.{applies, rule};
 ghost use Rattle.purse.specs.Work.{Charged};
-ghost use Rattle.purse.specs.declared.log.Entry.TheVariants.{Dark, Equation, Exact, Merge, Shift};
+ghost use Rattle.purse.specs.declared.log.Entry.TheVariants.{Dark, Exact};
 ghost use Rattle.std.specs.Prelude.{◌≡◌, true};
 
-use clause_set::{Clause, found};
+use clause_set::Clause;
 use performed_rules::{
-    Side, by_equation, dark, exact, free_ndiv, literals_on, merge_divs, one_sided, shift_div,
+    Side, dark, equation_clauses, exact, free_ndiv, literals_on, merge_clauses, one_sided,
+    shift_clauses,
 };
 use purse::{Entry, Purse, StepFault};
 use sqlite_items::Items;
 use std::alloc::Global;
-
-/// What the rule of the equation at i leaves.
-#[tactic(auto, using(crate::proofs::Singles::singles))]
-fn by_equation_at(
-    alloc: Global,
-    c: &Clause,
-    x: u32,
-    i: usize,
-    purse: &mut Purse,
-) -> Result<Items<Clause>, StepFault>
-    requires { applies x c.now (Equation i) ≡ true }
-    ensures { Charged (rule x c.now (Equation i)) purse.old result purse.new }
-{
-    let one = by_equation(alloc, c, x, i, purse)?;
-    Ok(found(alloc, one)?)
-}
-
-/// What the rule of the divisibilities at i and j leaves.
-#[tactic(auto, using(crate::proofs::Singles::singles))]
-fn by_merge_at(
-    alloc: Global,
-    c: &Clause,
-    x: u32,
-    i: usize,
-    j: usize,
-    purse: &mut Purse,
-) -> Result<Items<Clause>, StepFault>
-    requires { applies x c.now (Merge i j) ≡ true }
-    ensures { Charged (rule x c.now (Merge i j)) purse.old result purse.new }
-{
-    let one = merge_divs(alloc, c, x, i, j, purse)?;
-    Ok(found(alloc, one)?)
-}
-
-/// What the rule of the only divisibility leaves, at i.
-#[tactic(auto, using(crate::proofs::Singles::singles))]
-fn by_shift_at(
-    alloc: Global,
-    c: &Clause,
-    x: u32,
-    i: usize,
-    purse: &mut Purse,
-) -> Result<Items<Clause>, StepFault>
-    requires { applies x c.now (Shift i) ≡ true }
-    ensures { Charged (rule x c.now (Shift i)) purse.old result purse.new }
-{
-    let one = shift_div(alloc, c, x, i, purse)?;
-    Ok(found(alloc, one)?)
-}
 
 /// What the exact shadow leaves.
 #[tactic(auto, using(purse::proofs::Charging::charging, crate::proofs::Entries::entries))]
@@ -106,10 +58,10 @@ pub(crate) fn perform(
     ensures { Charged (rule x c.now entry) purse.old result purse.new }
 {
     match entry {
-        Entry::Equation(i) => by_equation_at(alloc, c, x, i as usize, purse),
+        Entry::Equation(i) => equation_clauses(alloc, c, x, i as usize, purse),
         Entry::Apart(i) => free_ndiv(alloc, c, x, i as usize, purse),
-        Entry::Merge(i, j) => by_merge_at(alloc, c, x, i as usize, j as usize, purse),
-        Entry::Shift(i) => by_shift_at(alloc, c, x, i as usize, purse),
+        Entry::Merge(i, j) => merge_clauses(alloc, c, x, i as usize, j as usize, purse),
+        Entry::Shift(i) => shift_clauses(alloc, c, x, i as usize, purse),
         Entry::OneSided => one_sided(alloc, c, x, purse),
         Entry::Exact => by_exact_shadow(alloc, c, x, purse),
         Entry::Dark => by_dark_shadow(alloc, c, x, purse),

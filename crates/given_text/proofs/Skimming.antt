@@ -5,7 +5,9 @@ use Rattle.std.specs.Result.{IfOk}
 use Rattle.std.proofs.lemmas.Bool.Decides.{nat_tests}
 use Rattle.proof_text.specs.declared.tokens.Token.{Token}
 use Rattle.proof_text.specs.declared.tokens.Token.TheVariants as t
-use Rattle.proof_text.specs.Reading.{Cuts}
+use Rattle.proof_text.specs.declared.reading.Refusal.{Refusal}
+use Rattle.proof_text.specs.declared.reading.Refusal.TheVariants as e
+use Rattle.proof_text.specs.Reading.{Cuts, Lacks}
 use Rattle.proof_text.proofs.Cutting.{cut_append}
 use Rattle.clause_set.specs.declared.literal.Literal.{Literal}
 use Rattle.given_text.specs.declared.draft.Draft.{Draft}
@@ -139,6 +141,11 @@ true_reaches g text rest p q cut = record { tokens = t.True ∷ []; leads = (s.B
 pub blank_reaches : (g : Draft) (text rest : List ℕ) → Cuts (t.Blank ∷ []) text rest → Reaches (s.Behind (b.Start g)) (s.Blank (b.Start g)) text rest
 unfolding moves
 blank_reaches g text rest cut = record { tokens = t.Blank ∷ []; leads = (s.Blank (b.Start g), refl, tt, refl); cut = cut }
+
+-- the line does not end there
+pub no_end : (text : List ℕ) (refusal : Refusal) → Lacks (λ x. x ≡ t.LineFeed) text refusal → (rest : List ℕ) → Cuts (t.LineFeed ∷ []) text rest → ⊥
+no_end text (e.Syntax left) h rest cut = h.1 t.LineFeed rest cut refl
+no_end text e.Memory h rest cut = absurd h
 
 -- the bytes of `>=` between two blanks
 pub bound_cut : (text rest : List ℕ) → text ≡ 32 ∷ 62 ∷ 61 ∷ 32 ∷ rest → Cuts (t.Blank ∷ t.AtLeast ∷ t.Blank ∷ []) text rest

@@ -10,8 +10,5 @@ mod place;
 mod reading;
 mod signs;
 
-pub use draft::{Divisor, Draft};
 pub use laws::given_law;
-pub use machine::step;
-pub use place::{Last, Place, Progress};
 pub use reading::given;

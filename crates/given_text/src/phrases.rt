@@ -10,7 +10,7 @@ ghost use Rattle.given_text.specs.declared.place.Place.TheVariants as p;
 ghost use Rattle.linear_term.specs.Range.{InRange};
 ghost use Rattle.proof_text.specs.Reading.{Cuts};
 ghost use Rattle.proof_text.specs.declared.tokens.Token.TheVariants as t;
-ghost use Rattle.std.specs.Prelude.{◌≡◌, ◌≤◌, ◌∷◌, [], length, IfOk, IfSome};
+ghost use Rattle.std.specs.Prelude.{◌≡◌, ◌≤◌, ◌∷◌, [], length, IfOk, IfSome, List, MatchOption, ℕ};
 
 use crate::draft::{Draft, signed};
 use crate::names::take_names;
@@ -55,7 +55,10 @@ fn behind_sum<'a>(
 {
     let rest = take_names(draft, text)?;
     match constant_ahead(rest) {
-        Some((minus, n, behind)) => Ok((Place::Behind(Last::Number(minus, n)), behind)),
+        Some((minus, n, behind)) => {
+            let number = Last::Number(minus, u128::from(n));
+            Ok((Place::Behind(number), behind))
+        }
         None => related(alloc, draft, Last::Sum, rest),
     }
 }
@@ -160,9 +163,9 @@ fn true_clause<'a>(draft: &Draft, text: &'a [u8]) -> (Place, &'a [u8])
     }
 }
 
-/// The text behind the end of the line, where that comes behind a clause.
+/// The text behind the end of the line, where that comes behind a clause; none elsewhere.
 pub fn end_ahead(place: Place, text: &[u8]) -> Option<&[u8]>
-    ensures { IfSome result (λ rest. (place ≡ p.Behind w.Clause) × Cuts (t.LineFeed ∷ []) text.now rest.now) }
+    ensures { MatchOption result ((rest : List ℕ) → place ≡ p.Behind w.Clause → Cuts (t.LineFeed ∷ []) text.now rest → ⊥) (λ rest. (place ≡ p.Behind w.Clause) × Cuts (t.LineFeed ∷ []) text.now rest.now) }
 {
     let Place::Behind(Last::Clause) = place else {
         return None;

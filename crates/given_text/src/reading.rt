@@ -9,7 +9,7 @@ use crate::machine::step;
 use crate::phrases::{end_ahead, skim};
 use crate::place::{Last, Place, Progress};
 use clause_set::Literal;
-use proof_text::{Refusal, gives_word, next};
+use proof_text::{Refusal, Word, next, word};
 use sqlite_items::Items;
 use std::alloc::Global;
 
@@ -18,7 +18,7 @@ pub fn given(alloc: Global, text: &[u8]) -> Result<(Items<Items<Literal>>, &[u8]
     ensures found { IfOk result (λ x. AreClauses x.0 × Cuts (gives_text x.0) text.now x.1.now) }
     ensures first { IfErr result (Refuses AreClauses gives_text text.now) }
 {
-    let mut rest = gives_word(text)?;
+    let mut rest = word(text, Word::Gives)?;
     let mut draft = Draft::new(alloc);
     let mut place = Place::Behind(Last::Start);
     'tokens: loop {

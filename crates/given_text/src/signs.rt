@@ -2,7 +2,7 @@
 
 ghost use Rattle.proof_text.specs.Reading.{Cuts};
 ghost use Rattle.proof_text.specs.declared.tokens.Token.TheVariants as t;
-ghost use Rattle.std.specs.Prelude.{◌≡◌, ◌<◌, ◌^◌, ◌∷◌, [], cond, length, IfSome};
+ghost use Rattle.std.specs.Prelude.{◌≡◌, ◌<◌, ◌∷◌, [], cond, length, IfSome};
 
 use proof_text::{name_ahead, number_ahead};
 
@@ -96,16 +96,12 @@ pub(crate) fn first_ahead(text: &[u8]) -> Option<(bool, u32, &[u8])>
 }
 
 /// The constant that ends a term, from 1 to 2^32 − 1, behind a sign between two blanks, whether the sign is `-`, and the text behind.
-pub(crate) fn constant_ahead(text: &[u8]) -> Option<(bool, u128, &[u8])>
+pub(crate) fn constant_ahead(text: &[u8]) -> Option<(bool, u32, &[u8])>
     ensures exact { IfSome result (λ x. Cuts (t.Blank ∷ cond x.0 t.Minus t.Plus ∷ t.Blank ∷ t.Number x.1 ∷ []) text.now x.2.now) }
-    ensures range { IfSome result (λ x. (x.1 < 2 ^ 127) × (0 < x.1)) }
+    ensures some { IfSome result (λ x. 0 < x.1) }
     ensures shorter { IfSome result (λ x. length x.2.now < length text.now) }
 {
     let (minus, behind) = sign_ahead(text)?;
     let (n, rest) = number_ahead(behind)?;
-    if n == 0 {
-        None
-    } else {
-        Some((minus, u128::from(n), rest))
-    }
+    if n == 0 { None } else { Some((minus, n, rest)) }
 }

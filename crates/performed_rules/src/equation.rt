@@ -214,9 +214,9 @@ fn by_literal(
     Ok(in_form(alloc, literals)?)
 }
 
-/// The rule at the i-th literal, with all clauses that it leaves.
+/// What the rule of the equation at i leaves.
 #[tactic(auto, using(crate::proofs::AtEquation::equations))]
-fn at_literal(
+pub fn equation_clauses(
     alloc: Global,
     c: &Clause,
     x: u32,
@@ -248,6 +248,6 @@ pub fn by_equation(
     ensures nearer { IfOk result (λ r. All (λ d. measure x d < measure x c.now) (found r)) }
 {
     c.know_clause();
-    let clauses = at_literal(alloc, c, x, i, purse)?;
+    let clauses = equation_clauses(alloc, c, x, i, purse)?;
     Ok(first(clauses))
 }

@@ -22,10 +22,12 @@ pub use applying::{
     has_divisibilities_at, has_equation_at, has_indivisibility_at, has_only_divisibility_at,
 };
 pub use dark_shadow::dark;
-pub use equation::by_equation;
+pub use equation::{by_equation, equation_clauses};
 pub use exact_shadow::exact;
-pub use merge::merge_divs;
+pub use merge::{merge_clauses, merge_divs};
 pub use one_side::one_sided;
-pub use shift::shift_div;
-pub use sides::{Side, all_units, bounds_alone, has_name, literals_on};
+pub use shift::{shift_clauses, shift_div};
+pub use sides::{
+    Side, all_units, bounds_alone, has_name, has_unit, is_lower, is_upper, literals_on,
+};
 pub use splinter::splinter_count;

@@ -124,8 +124,8 @@ fn merged(
     merged_by(alloc, x, rest, &z, l, m)
 }
 
-/// The rule at the i-th and the j-th literal, with all clauses that it leaves.
-fn at_literals(
+/// What the rule of the divisibilities at i and j leaves.
+pub fn merge_clauses(
     alloc: Global,
     c: &Clause,
     x: u32,
@@ -159,6 +159,6 @@ pub fn merge_divs(
     ensures nearer { list_any (is_equation x) c.now ≡ false → IfOk result (λ r. All (λ d. measure x d < measure x c.now) (found r)) }
 {
     c.know_clause();
-    let clauses = at_literals(alloc, c, x, i, j, purse)?;
+    let clauses = merge_clauses(alloc, c, x, i, j, purse)?;
     Ok(first(clauses))
 }

@@ -152,8 +152,8 @@ fn own_coefficients(x: u32, l: &Literal) -> Cofactors
     coefficients(l.term().coef(x), divisor(l))
 }
 
-/// The rule at the i-th literal, with all clauses that it leaves.
-fn at_literal(
+/// What the rule of the only divisibility leaves, at i.
+pub fn shift_clauses(
     alloc: Global,
     c: &Clause,
     x: u32,
@@ -186,6 +186,6 @@ pub fn shift_div(
     ensures nearer { IfOk result (λ r. All (λ d. measure x d < measure x c.now) (found r)) }
 {
     c.know_clause();
-    let clauses = at_literal(alloc, c, x, i, purse)?;
+    let clauses = shift_clauses(alloc, c, x, i, purse)?;
     Ok(first(clauses))
 }

@@ -25,7 +25,7 @@ pub enum Side {
 }
 
 /// Whether a literal is a lower bound of x.
-fn is_lower(l: &Literal, x: u32) -> bool
+pub fn is_lower(l: &Literal, x: u32) -> bool
     ensures { result ≡ is_lower x l.now }
 {
     match l {
@@ -37,7 +37,7 @@ fn is_lower(l: &Literal, x: u32) -> bool
 }
 
 /// Whether a literal is an upper bound of x.
-fn is_upper(l: &Literal, x: u32) -> bool
+pub fn is_upper(l: &Literal, x: u32) -> bool
     ensures { result ≡ is_upper x l.now }
 {
     match l {
@@ -92,7 +92,8 @@ pub(crate) fn remainder(l: &Literal, x: u32) -> Result<Term, Memory>
     l.term().without(x)
 }
 
-fn has_unit(l: &Literal, x: u32) -> bool
+/// Whether the coefficient of x is 1 or −1.
+pub fn has_unit(l: &Literal, x: u32) -> bool
     ensures { result ≡ has_unit x l.now }
 {
     l.term().coef(x).unsigned_abs() == 1

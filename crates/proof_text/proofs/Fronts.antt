@@ -17,7 +17,9 @@ use Rattle.proof_text.specs.declared.tokens.Token.{Token}
 use Rattle.proof_text.specs.declared.tokens.Token.TheVariants as t
 use Rattle.proof_text.specs.Reading.{Cuts}
 use Rattle.proof_text.specs.Scanning.{ends_word}
-use Rattle.proof_text.specs.Spellings.{IsEntry, IsToken, entry_spelling, spelling}
+use Rattle.proof_text.specs.declared.tokens.Word.{Word}
+use Rattle.proof_text.specs.declared.tokens.Word.TheVariants as w
+use Rattle.proof_text.specs.Spellings.{IsEntry, IsToken, entry_spelling, spelling, token_of}
 use Rattle.proof_text.proofs.Respelled.{ends, one_back}
 use Rattle.proof_text.specs.Words.{is_empty, is_numeral, numeral_of}
 use Rattle.proof_text.proofs.Numerals.{numeral_spelled}
@@ -136,6 +138,14 @@ behind_word text word front rest p q same =
 pub word_front : (x : Token) (text rest : List ℕ) → IsToken x → text ≡ spelling x ++ rest → ends_word rest ≡ true → Cuts (x ∷ []) text rest
 word_front x text rest is e h = subst (λ z. Cuts (x ∷ []) z rest) (sym e) (one_back x rest is (λ _. ends rest h))
 
+pub word_is_token : (x : Word) → IsToken (token_of x)
+word_is_token w.PrincessProof = tt
+word_is_token w.Parts = tt
+word_is_token w.Part = tt
+word_is_token w.Charges = tt
+word_is_token w.Log = tt
+word_is_token w.Gives = tt
+
 -- a name, or a number, at the front of a text
 pub name_front : (x : ℕ) (text behind rest : List ℕ) → x < 2 ^ 32 → text ≡ 99 ∷ behind → behind ≡ decimal x ++ rest → ends_word rest ≡ true → Cuts (t.Name x ∷ []) text rest
 name_front x text behind rest small e d h = word_front (t.Name x) text rest small (e ∙ ap (λ z. 99 ∷ z) d) h
@@ -144,16 +154,13 @@ pub number_front : (n : ℕ) (text rest : List ℕ) → n < 2 ^ 32 → text ≡ 
 number_front n text rest small e h = word_front (t.Number n) text rest (omega arith) e h
 
 -- an entry at the front of a text
-pub entry_front : (x : Entry) (text rest : List ℕ) → IsEntry x → text ≡ entry_spelling x ++ rest → ends_word rest ≡ true → Cuts (t.Step x ∷ []) text rest
-entry_front x text rest small e h = word_front (t.Step x) text rest small e h
-
 pub lettered_front : (b : ℕ) (x : Entry) (i : ℕ) (text behind rest : List ℕ) → IsEntry x → entry_spelling x ≡ b ∷ decimal i → text ≡ b ∷ behind → behind ≡ decimal i ++ rest → ends_word rest ≡ true → Cuts (t.Step x ∷ []) text rest
 lettered_front b x i text behind rest small is e d h =
-    entry_front x text rest small (e ∙ ap (λ z. b ∷ z) d ∙ sym (ap (λ z. z ++ rest) is)) h
+    word_front (t.Step x) text rest small (e ∙ ap (λ z. b ∷ z) d ∙ sym (ap (λ z. z ++ rest) is)) h
 
 pub merge_front : (i j : ℕ) (text behind rest : List ℕ) → i < 2 ^ 32 → j < 2 ^ 32 → text ≡ 109 ∷ behind → behind ≡ decimal i ++ 44 ∷ (decimal j ++ rest) → ends_word rest ≡ true → Cuts (t.Step (e.Merge i j) ∷ []) text rest
 merge_front i j text behind rest small less is d h =
-    entry_front (e.Merge i j) text rest (small, less) (is ∙ ap (λ z. 109 ∷ z) (d ∙ sym (append_assoc (decimal i) (44 ∷ decimal j) rest))) h
+    word_front (t.Step (e.Merge i j)) text rest (small, less) (is ∙ ap (λ z. 109 ∷ z) (d ∙ sym (append_assoc (decimal i) (44 ∷ decimal j) rest))) h
 
 -- what is behind a numeral is shorter than the text
 behind_less : (bs : List ℕ) → length (behind_digits bs) ≤ length bs

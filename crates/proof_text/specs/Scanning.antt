@@ -49,9 +49,9 @@ abbrev pub ends_word : List ℕ → Bool
 ends_word [] = true
 ends_word (b ∷ bs) = not (is_word_byte b) && not (b == 44)
 
--- no number below 2^32 comes, with such a text behind it
+-- no number below 2^32 comes with a text behind it that passes the test
 abbrev pub HasNoNumber : (List ℕ → Bool) → List ℕ → Type 0
-HasNoNumber may text = (n : ℕ) (rest : List ℕ) → n < 2 ^ 32 → may rest ≡ true → text ≡ decimal n ++ rest → ⊥
+HasNoNumber test text = (n : ℕ) (rest : List ℕ) → n < 2 ^ 32 → test rest ≡ true → text ≡ decimal n ++ rest → ⊥
 
 -- no digit comes
 abbrev pub ends_digits : List ℕ → Bool

@@ -6,6 +6,8 @@ use Rattle.purse.specs.declared.log.Entry.{Entry}
 use Rattle.purse.specs.declared.log.Entry.TheVariants as e
 use Rattle.proof_text.specs.declared.tokens.Token.{Token}
 use Rattle.proof_text.specs.declared.tokens.Token.TheVariants as t
+use Rattle.proof_text.specs.declared.tokens.Word.{Word}
+use Rattle.proof_text.specs.declared.tokens.Word.TheVariants as w
 
 -- an entry: a letter, and the positions that it has, with a `,` between two
 abbrev pub entry_spelling : Entry → List ℕ
@@ -51,6 +53,15 @@ spelling t.Or = codes "|"
 spelling t.Blank = codes " "
 spelling t.LineFeed = codes "\n"
 spelling t.Bad = []
+
+-- the token of a word
+abbrev pub token_of : Word → Token
+token_of w.PrincessProof = t.PrincessProof
+token_of w.Parts = t.Parts
+token_of w.Part = t.Part
+token_of w.Charges = t.Charges
+token_of w.Log = t.Log
+token_of w.Gives = t.Gives
 
 -- the bytes of tokens, one behind another
 abbrev pub spelled : List Token → List ℕ

@@ -30,10 +30,11 @@ pub(crate) fn figure_ahead(text: &[u8]) -> Option<(Token, &[u8])>
     Some((Token::Number(u128::from(n)), rest))
 }
 
-/// The name that the text begins with, and the text behind it. None where it begins with no name with the end of a word behind
-/// it.
+/// The name that the text begins with, where a word may end behind it, and the text behind it. None exactly where there is no such
+/// name.
 pub fn name_ahead(text: &[u8]) -> Option<(u32, &[u8])>
     ensures exact { MatchOption result (HasNoneEnded IsName text.now) (λ x. Cuts (t.Name x.0 ∷ []) text.now x.1.now) }
+    ensures ended { IfSome result (λ x. ends_word x.1.now ≡ true) }
     ensures shorter { IfSome result (λ x. length x.1.now < length text.now) }
 {
     let (first, behind) = text.split_first()?;
@@ -44,10 +45,11 @@ pub fn name_ahead(text: &[u8]) -> Option<(u32, &[u8])>
     Some((x, rest))
 }
 
-/// The number below 2^32 that the text begins with, and the text behind it. None where it begins with no such number with the
-/// end of a word behind it.
+/// The number below 2^32 that the text begins with, where a word may end behind it, and the text behind it. None exactly where there
+/// is no such number.
 pub fn number_ahead(text: &[u8]) -> Option<(u32, &[u8])>
     ensures exact { MatchOption result (HasNoneEnded IsSmallNumber text.now) (λ x. Cuts (t.Number x.0 ∷ []) text.now x.1.now) }
+    ensures ended { IfSome result (λ x. ends_word x.1.now ≡ true) }
     ensures shorter { IfSome result (λ x. length x.1.now < length text.now) }
 {
     let (n, rest) = index_ahead(text)?;
@@ -126,10 +128,10 @@ fn numeral_ahead(text: &[u8]) -> Option<(u32, &[u8])>
     Some((value, rest))
 }
 
-/// The text behind the word `true` that it begins with. None where it does not begin with this word with the end of a word
-/// behind it.
+/// The text behind the word `true` that it begins with, where a word may end behind it. None exactly where it does not begin so.
 pub fn true_ahead(text: &[u8]) -> Option<&[u8]>
     ensures exact { MatchOption result (HasNoneEnded (λ x. x ≡ t.True) text.now) (λ rest. Cuts (t.True ∷ []) text.now rest.now) }
+    ensures ended { IfSome result (λ rest. ends_word rest.now ≡ true) }
     ensures within { IfSome result (λ rest. length rest.now ≤ length text.now) }
 {
     let rest = word_ahead(text, b"true".as_slice())?;

@@ -17,17 +17,14 @@ pub use ahead::{name_ahead, number_ahead, true_ahead};
 pub use laws::{
     charges_law, cutting_law, head_law, part_law, said_law, spelling_law, values_law, written_law,
 };
-pub use lines::{charges, entries, head};
-pub use numbers::{counted, position, value, values};
+pub use lines::{charges, head};
+pub use numbers::{counted, position, values};
 pub use part_lines::{SaidLog, part, parts, said};
 pub use reading::{Refusal, next};
 pub use scanner::{Piece, first_piece};
-pub use single::{
-    blank, charges_word, entry, gives_word, goes_on, line_feed, log_word, none_word,
-    number_between, proof_word, value_start,
-};
-pub use tokens::Token;
+pub use single::{blank, line_feed, word};
+pub use tokens::{Token, Word};
 pub use writing::{
     put_entries, put_number, write_charges, write_head, write_log, write_log_use, write_none,
-    write_none_use, write_part, write_parts,
+    write_none_use, write_parts,
 };

@@ -5,7 +5,8 @@ ghost use Rattle.proof_text.specs.Reading.{Cuts, Refuses};
 ghost use Rattle.std.specs.Prelude.{◌≤◌, IfErr, IfOk};
 
 use crate::reading::Refusal;
-use crate::single::{blank, charges_word, entry, goes_on, line_feed, number_between, proof_word};
+use crate::single::{blank, entry, goes_on, line_feed, number_between, word};
+use crate::tokens::Word;
 use purse::Entry;
 use sqlite_items::Items;
 use std::alloc::Global;
@@ -14,7 +15,7 @@ use std::alloc::Global;
 const MOST_CHARGES: u128 = 1_000_000_000;
 
 /// The entries up to and with the end of the line, and the text behind it.
-pub fn entries(alloc: Global, text: &[u8]) -> Result<(Items<Entry>, &[u8]), Refusal>
+pub(crate) fn entries(alloc: Global, text: &[u8]) -> Result<(Items<Entry>, &[u8]), Refusal>
     ensures found { IfOk result (λ x. Cuts (entries_text x.0) text.now x.1.now) }
     ensures first { IfErr result (Refuses AnyEntries entries_text text.now) }
 {
@@ -32,7 +33,7 @@ pub fn entries(alloc: Global, text: &[u8]) -> Result<(Items<Entry>, &[u8]), Refu
 }
 
 /// A blank, a number from `least` to `most` and the end of the line: the number, and the text behind it.
-pub fn numbered(text: &[u8], least: u128, most: u128) -> Result<(u128, &[u8]), Refusal>
+pub(crate) fn numbered(text: &[u8], least: u128, most: u128) -> Result<(u128, &[u8]), Refusal>
     requires { least ≤ most }
     ensures found { IfOk result (λ x. IsIn least most x.0 × Cuts (numbered_text x.0) text.now x.1.now) }
     ensures first { IfErr result (Refuses (IsIn least most) numbered_text text.now) }
@@ -48,7 +49,7 @@ pub fn head(text: &[u8]) -> Result<(u128, &[u8]), Refusal>
     ensures found { IfOk result (λ x. IsFormat x.0 × Cuts (head_text x.0) text.now x.1.now) }
     ensures first { IfErr result (Refuses IsFormat head_text text.now) }
 {
-    let inner = proof_word(text)?;
+    let inner = word(text, Word::PrincessProof)?;
     let (format, rest) = numbered(inner, 1, 2)?;
     Ok((format, rest))
 }
@@ -58,7 +59,7 @@ pub fn charges(text: &[u8]) -> Result<(u128, &[u8]), Refusal>
     ensures found { IfOk result (λ x. IsCharges x.0 × Cuts (charges_text x.0) text.now x.1.now) }
     ensures first { IfErr result (Refuses IsCharges charges_text text.now) }
 {
-    let inner = charges_word(text)?;
+    let inner = word(text, Word::Charges)?;
     let (amount, rest) = numbered(inner, 0, MOST_CHARGES)?;
     Ok((amount, rest))
 }

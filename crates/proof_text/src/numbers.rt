@@ -18,7 +18,7 @@ const MOST: u128 = 170_141_183_460_469_231_731_687_303_715_884_105_727;
 const MOST_POSITION: u128 = 4_294_967_295;
 
 /// An integer, and the text behind it.
-pub fn value(text: &[u8]) -> Result<(i128, &[u8]), Refusal>
+pub(crate) fn value(text: &[u8]) -> Result<(i128, &[u8]), Refusal>
     ensures found { IfOk result (λ x. InRange x.0 × Cuts (value_text x.0) text.now x.1.now) }
     ensures shorter { IfOk result (λ x. length x.1.now < length text.now) }
     ensures first { IfErr result (Refuses InRange value_text text.now) }

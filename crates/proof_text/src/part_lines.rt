@@ -8,8 +8,8 @@ ghost use Rattle.std.specs.Prelude.{◌<◌, ◌∷◌, [], IfErr, IfOk, MatchOp
 use crate::lines::entries;
 use crate::numbers::position;
 use crate::reading::{Refusal, next};
-use crate::single::{line_feed, part_word, parts_word};
-use crate::tokens::Token;
+use crate::single::{line_feed, word};
+use crate::tokens::{Token, Word};
 use crate::words::byte_at;
 use purse::ElimLog;
 use std::alloc::Global;
@@ -28,7 +28,7 @@ pub fn parts(text: &[u8]) -> Result<(u32, &[u8]), Refusal>
     ensures found { IfOk result (λ x. IsPosition x.0 × Cuts (parts_text x.0) text.now x.1.now) }
     ensures first { IfErr result (Refuses IsPosition parts_text text.now) }
 {
-    let inner = parts_word(text)?;
+    let inner = word(text, Word::Parts)?;
     let (count, rest) = position(inner)?;
     Ok((count, rest))
 }
@@ -38,7 +38,7 @@ pub fn part(alloc: Global, text: &[u8]) -> Result<(ElimLog, &[u8]), Refusal>
     ensures found { IfOk result (λ x. IsPart x.0.entries × Cuts (part_text x.0.entries) text.now x.1.now) }
     ensures first { IfErr result (Refuses IsPart part_text text.now) }
 {
-    let inner = part_word(text)?;
+    let inner = word(text, Word::Part)?;
     let (entries, rest) = entries(alloc, inner)?;
     if entries.is_empty() {
         return Err(Refusal::Syntax(inner.len()));

@@ -2,12 +2,13 @@
 
 ghost use Rattle.proof_text.specs.Lines.{IsNumberIn, IsSeparator, IsStep, IsValueStart, start_size, start_token};
 ghost use Rattle.proof_text.specs.Reading.{Cuts, Lacks};
+ghost use Rattle.proof_text.specs.Spellings.{token_of};
 ghost use Rattle.proof_text.specs.declared.tokens.Token.TheVariants as t;
 ghost use Rattle.std.specs.Prelude.{◌≡◌, ◌≤◌, ◌<◌, ◌^◌, ◌∷◌, [], cond, length, IfErr, IfOk};
 
 use crate::ahead::{entry_ahead, word_ahead};
 use crate::reading::{Refusal, next};
-use crate::tokens::Token;
+use crate::tokens::{Token, Word};
 use purse::Entry;
 
 /// The text behind a blank.
@@ -40,112 +41,26 @@ pub fn line_feed(text: &[u8]) -> Result<&[u8], Refusal>
     }
 }
 
-/// The text behind the word `princess-proof`.
-pub fn proof_word(text: &[u8]) -> Result<&[u8], Refusal>
-    ensures found { IfOk result (λ rest. Cuts (t.PrincessProof ∷ []) text.now rest.now) }
-    ensures lacks { IfErr result (Lacks (λ x. x ≡ t.PrincessProof) text.now) }
+/// The text behind this word.
+pub fn word(text: &[u8], word: Word) -> Result<&[u8], Refusal>
+    ensures found { IfOk result (λ rest. Cuts (token_of word ∷ []) text.now rest.now) }
+    ensures lacks { IfErr result (Lacks (λ x. x ≡ token_of word) text.now) }
 {
-    let Some((token, rest)) = next(text) else {
-        return Err(Refusal::Syntax(0));
-    };
-    match token {
-        Token::PrincessProof => Ok(rest),
-        _ => Err(Refusal::Syntax(text.len())),
-    }
-}
-
-/// The text behind the word `charges`.
-pub fn charges_word(text: &[u8]) -> Result<&[u8], Refusal>
-    ensures found { IfOk result (λ rest. Cuts (t.Charges ∷ []) text.now rest.now) }
-    ensures lacks { IfErr result (Lacks (λ x. x ≡ t.Charges) text.now) }
-{
-    let Some((token, rest)) = next(text) else {
-        return Err(Refusal::Syntax(0));
-    };
-    match token {
-        Token::Charges => Ok(rest),
-        _ => Err(Refusal::Syntax(text.len())),
-    }
-}
-
-/// The text behind the word `parts`.
-pub fn parts_word(text: &[u8]) -> Result<&[u8], Refusal>
-    ensures found { IfOk result (λ rest. Cuts (t.Parts ∷ []) text.now rest.now) }
-    ensures lacks { IfErr result (Lacks (λ x. x ≡ t.Parts) text.now) }
-{
-    let Some((token, rest)) = next(text) else {
-        return Err(Refusal::Syntax(0));
-    };
-    match token {
-        Token::Parts => Ok(rest),
-        _ => Err(Refusal::Syntax(text.len())),
-    }
-}
-
-/// The text behind the word `part`.
-pub fn part_word(text: &[u8]) -> Result<&[u8], Refusal>
-    ensures found { IfOk result (λ rest. Cuts (t.Part ∷ []) text.now rest.now) }
-    ensures lacks { IfErr result (Lacks (λ x. x ≡ t.Part) text.now) }
-{
-    let Some((token, rest)) = next(text) else {
-        return Err(Refusal::Syntax(0));
-    };
-    match token {
-        Token::Part => Ok(rest),
-        _ => Err(Refusal::Syntax(text.len())),
-    }
-}
-
-/// The text behind the word `log`.
-pub fn log_word(text: &[u8]) -> Result<&[u8], Refusal>
-    ensures found { IfOk result (λ rest. Cuts (t.Log ∷ []) text.now rest.now) }
-    ensures lacks { IfErr result (Lacks (λ x. x ≡ t.Log) text.now) }
-{
-    if let Some(rest) = word_ahead(text, b"log".as_slice()) {
+    if let Some(rest) = word_ahead(text, word.spelling()) {
         return Ok(rest);
     }
     let Some((token, rest)) = next(text) else {
         return Err(Refusal::Syntax(0));
     };
-    match token {
-        Token::Log => Ok(rest),
-        _ => Err(Refusal::Syntax(text.len())),
-    }
-}
-
-/// The text behind the word `none`.
-pub fn none_word(text: &[u8]) -> Result<&[u8], Refusal>
-    ensures found { IfOk result (λ rest. Cuts (t.Nothing ∷ []) text.now rest.now) }
-    ensures lacks { IfErr result (Lacks (λ x. x ≡ t.Nothing) text.now) }
-{
-    let Some((token, rest)) = next(text) else {
-        return Err(Refusal::Syntax(0));
-    };
-    match token {
-        Token::Nothing => Ok(rest),
-        _ => Err(Refusal::Syntax(text.len())),
-    }
-}
-
-/// The text behind the word `gives`.
-pub fn gives_word(text: &[u8]) -> Result<&[u8], Refusal>
-    ensures found { IfOk result (λ rest. Cuts (t.Gives ∷ []) text.now rest.now) }
-    ensures lacks { IfErr result (Lacks (λ x. x ≡ t.Gives) text.now) }
-{
-    if let Some(rest) = word_ahead(text, b"gives".as_slice()) {
-        return Ok(rest);
-    }
-    let Some((token, rest)) = next(text) else {
-        return Err(Refusal::Syntax(0));
-    };
-    match token {
-        Token::Gives => Ok(rest),
-        _ => Err(Refusal::Syntax(text.len())),
+    if word.is(token) {
+        Ok(rest)
+    } else {
+        Err(Refusal::Syntax(text.len()))
     }
 }
 
 /// A number from `least` to `most`, and the text behind it.
-pub fn number_between(text: &[u8], least: u128, most: u128) -> Result<(u128, &[u8]), Refusal>
+pub(crate) fn number_between(text: &[u8], least: u128, most: u128) -> Result<(u128, &[u8]), Refusal>
     ensures found { IfOk result (λ x. (least ≤ x.0) × (x.0 ≤ most) × Cuts (t.Number x.0 ∷ []) text.now x.1.now) }
     ensures shorter { IfOk result (λ x. length x.1.now < length text.now) }
     ensures lacks { IfErr result (Lacks (IsNumberIn least most) text.now) }
@@ -166,7 +81,7 @@ pub fn number_between(text: &[u8], least: u128, most: u128) -> Result<(u128, &[u
 }
 
 /// An entry of a log, and the text behind it.
-pub fn entry(text: &[u8]) -> Result<(Entry, &[u8]), Refusal>
+pub(crate) fn entry(text: &[u8]) -> Result<(Entry, &[u8]), Refusal>
     ensures found { IfOk result (λ x. Cuts (t.Step x.0 ∷ []) text.now x.1.now) }
     ensures shorter { IfOk result (λ x. length x.1.now < length text.now) }
     ensures lacks { IfErr result (Lacks IsStep text.now) }
@@ -184,7 +99,7 @@ pub fn entry(text: &[u8]) -> Result<(Entry, &[u8]), Refusal>
 }
 
 /// Whether a blank comes, with the text behind it; else the end of the line comes.
-pub fn goes_on(text: &[u8]) -> Result<(bool, &[u8]), Refusal>
+pub(crate) fn goes_on(text: &[u8]) -> Result<(bool, &[u8]), Refusal>
     ensures found { IfOk result (λ x. Cuts (cond x.0 t.Blank t.LineFeed ∷ []) text.now x.1.now) }
     ensures shorter { IfOk result (λ x. length x.1.now < length text.now) }
     ensures lacks { IfErr result (Lacks IsSeparator text.now) }
@@ -202,7 +117,7 @@ pub fn goes_on(text: &[u8]) -> Result<(bool, &[u8]), Refusal>
 }
 
 /// The number that comes next, or none where a `-` does, and the text behind it.
-pub fn value_start(text: &[u8]) -> Result<(Option<u128>, &[u8]), Refusal>
+pub(crate) fn value_start(text: &[u8]) -> Result<(Option<u128>, &[u8]), Refusal>
     ensures found { IfOk result (λ x. Cuts (start_token x.0 ∷ []) text.now x.1.now) }
     ensures small { IfOk result (λ x. start_size x.0 < 2 ^ 127) }
     ensures shorter { IfOk result (λ x. length x.1.now < length text.now) }

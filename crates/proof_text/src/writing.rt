@@ -107,15 +107,6 @@ pub fn write_parts(alloc: Global, count: u32, out: &mut Vec<u8>) -> Result<(), M
     Ok(())
 }
 
-/// Writes the line `part` with these entries.
-#[tactic(auto, using(crate::proofs::Written::behind_word))]
-pub fn write_part(alloc: Global, entries: &[Entry], out: &mut Vec<u8>) -> Result<(), Memory>
-    ensures { OnOk result (out.new.items ≡ out.old.items ++ spelled (part_text entries.now)) }
-{
-    out.extend_from_slice(b"part")?;
-    put_entries(alloc, entries, out)
-}
-
 /// Writes the line `charges`.
 #[tactic(auto, using(crate::proofs::Written::numbered))]
 pub fn write_charges(alloc: Global, n: u128, out: &mut Vec<u8>) -> Result<(), Memory>

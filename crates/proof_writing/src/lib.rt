@@ -8,7 +8,6 @@ mod rows;
 mod sharing;
 mod text;
 
-pub use given::write_given;
 pub use knowing::know_typed;
 pub use laws::{parts_law, text_law};
 pub use text::{write_short, write_tree};

@@ -4,7 +4,6 @@ pub mod Atomic
 pub mod Budgets
 pub mod Choices
 pub mod Outcomes
-pub mod Sides
 pub mod Singles
 pub mod Terms
 pub mod Unfolded

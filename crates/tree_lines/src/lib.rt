@@ -8,7 +8,5 @@ mod text;
 
 pub use lines::{Owed, TextLine};
 pub use rows::{OneWord, RowWord, row, row_word};
-pub use single_lines::{
-    charges_line, end_line, gives_line, head_line, log_line, part_line, parts_line,
-};
+pub use single_lines::{end_line, log_line};
 pub use text::{Fault, line_for};

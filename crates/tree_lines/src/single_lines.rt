@@ -11,7 +11,7 @@ ghost use Rattle.tree_lines.specs.declared.lines.Owed.TheVariants as o;
 use crate::lines::TextLine;
 use given_text::given;
 use proof_text::{
-    Refusal, SaidLog, Token, charges, head, log_word, next, part, parts, said, values,
+    Refusal, SaidLog, Token, Word, charges, head, next, part, parts, said, values, word,
 };
 use proof_tree::Conclusion;
 use std::alloc::Global;
@@ -72,7 +72,7 @@ pub fn log_line(alloc: Global, text: &[u8], parts: usize) -> Result<(TextLine, &
     ensures found { IfOk result (λ x. Pays Shallow (o.Log parts) x.0 × Cuts (line_text x.0) text.now x.1.now) }
     ensures first { IfErr result (Refuses (Pays Any (o.Log parts)) line_text text.now) }
 {
-    let inner = log_word(text)?;
+    let inner = word(text, Word::Log)?;
     let (log, rest) = said(alloc, inner, parts)?;
     match log {
         SaidLog::Entries(steps) => Ok((TextLine::Log(steps), rest)),

@@ -8,8 +8,8 @@ use Rattle.elim_check.proofs.checks.check_exists.Goals as goal
 
 pub returns-clause-work : goal.returns-clause-work
 returns-clause-work c =
-    checked (name_by_log c.args.x c.args.d.now) c.args.log.now.entries c.as_slice-entries.result.now c.some_value-answer.result c.some_value-answer.new.place _ c.told.result
-    c.some_value-answer.ensures c.as_slice-entries.ensures refl c.told.ensures
+    checked (name_by_log c.args.x c.args.d.now) c.args.log.now.entries c.as_slice-entries.result.now c.some_value_kept-answer.result c.some_value_kept-answer.new.place _ c.told.result
+    c.some_value_kept-answer.ensures c.as_slice-entries.ensures refl c.told.ensures
 
 pub returns-clause-out : goal.returns-clause-out
 returns-clause-out c =

@@ -1,3 +1,6 @@
+use Rattle.std.proofs.Common.{rules, ◌<◌, ◌^◌, ◌∷◌, [], cond, subst, sym, arith}
+use Rattle.proof_text.specs.Reading.{Cuts}
+use Rattle.proof_text.specs.declared.tokens.Token.TheVariants as t
 use Rattle.given_text.specs.Behind as b
 use Rattle.given_text.specs.State as s
 use Rattle.given_text.specs.Places.{state_of}
@@ -10,9 +13,12 @@ related-requires c = record { in_range = c.in_ok-rest.ensures.open }
 
 pub returns-in-Some-clause-exact : goal.returns-in-Some-clause-exact
 returns-in-Some-clause-exact c =
-    reaches_more (s.Behind (b.Sum c.args.draft.now)) (s.Behind (b.Sum c.take_names.new.draft)) (s.Behind (b.Number c.take_names.new.draft c.in-Some.minus c.in-Some.n)) c.args.text.now c.in_ok-rest.rest.now c.in-Some.behind.now
+    let is = c.from.ensures in
+    let small : c.in-Some.n < 2 ^ 32 = search rules in
+    reaches_more (s.Behind (b.Sum c.args.draft.now)) (s.Behind (b.Sum c.take_names.new.draft)) (s.Behind (b.Number c.take_names.new.draft c.in-Some.minus c.from.result)) c.args.text.now c.in_ok-rest.rest.now c.in-Some.behind.now
     c.in_ok-rest.ensures.exact
-    (constant_reaches c.take_names.new.draft c.in-Some.minus c.in-Some.n c.in_ok-rest.rest.now c.in-Some.behind.now c.in-Some.ensures.range.1 c.in-Some.ensures.range.0 c.in-Some.ensures.exact)
+    (constant_reaches c.take_names.new.draft c.in-Some.minus c.from.result c.in_ok-rest.rest.now c.in-Some.behind.now (omega (arith, is, c.in-Some.ensures.some)) (omega (arith, is, small))
+    (subst (λ k. Cuts (t.Blank ∷ cond c.in-Some.minus t.Minus t.Plus ∷ t.Blank ∷ t.Number k ∷ []) c.in_ok-rest.rest.now c.in-Some.behind.now) (sym is) c.in-Some.ensures.exact))
 
 pub returns-in-None-clause-exact : goal.returns-in-None-clause-exact
 returns-in-None-clause-exact c =

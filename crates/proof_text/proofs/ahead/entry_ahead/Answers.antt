@@ -1,6 +1,7 @@
 use Rattle.std.proofs.Common.{rules, refl, sym}
 use Rattle.purse.specs.declared.log.Entry.TheVariants as e
-use Rattle.proof_text.proofs.Fronts.{entry_front, lettered_front, merge_front}
+use Rattle.proof_text.specs.declared.tokens.Token.TheVariants as t
+use Rattle.proof_text.proofs.Fronts.{word_front, lettered_front, merge_front}
 use Rattle.proof_text.proofs.ahead.entry_ahead.Goals as goal
 
 pub returns-then-first-eq109-clause-exact : goal.returns-then-first-eq109-clause-exact
@@ -17,4 +18,4 @@ pub returns-then-first-eq115-clause-exact : goal.returns-then-first-eq115-clause
 returns-then-first-eq115-clause-exact c = lettered_front 115 (e.Shift c.in_ok-i-4.i) c.in_ok-i-4.i c.args.text.now c.in_ok-first.behind.now c.in_ok-i-4.rest.now (search rules) refl (search rules) c.in_ok-i-4.ensures.exact.0 c.in_ok-i-4.ensures.exact.1
 
 pub returns-then-ends_word-clause-exact : goal.returns-then-ends_word-clause-exact
-returns-then-ends_word-clause-exact c = entry_front e.Exact c.args.text.now c.in_ok-first.behind.now tt (search rules) (sym c.if-ends_word.ensures)
+returns-then-ends_word-clause-exact c = word_front (t.Step e.Exact) c.args.text.now c.in_ok-first.behind.now tt (search rules) (sym c.if-ends_word.ensures)

@@ -2,7 +2,7 @@ use Rattle.std.proofs.Common.{refl}
 use Rattle.purse.proofs.Charging.{no_memory}
 use Rattle.equation_rules.proofs.Applying.{merge_applies}
 use Rattle.performed_rules.proofs.AtDivisibilities.{congruence_at, first_below, second_below, below_others, rest_of_two, two_divisors, merge_work}
-use Rattle.performed_rules.proofs.merge.at_literals.Goals as goal
+use Rattle.performed_rules.proofs.merge.merge_clauses.Goals as goal
 
 pub all_but-requires : goal.all_but-requires
 all_but-requires c = second_below c.args.x c.args.i c.args.j c.args.c.now c.literals.result.now c.requires c.literals.ensures

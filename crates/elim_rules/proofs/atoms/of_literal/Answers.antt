@@ -4,8 +4,8 @@ use Rattle.purse.specs.Trace.{capped, just, pay}
 use Rattle.purse.proofs.Charging.{then_ok, then_just}
 use Rattle.clause_set.specs.Clauses.{clauses_of}
 use Rattle.clause_set.specs.Literals.{term_of}
-use Rattle.elim_check.proofs.Sides.{one_tidied}
-use Rattle.elim_check.proofs.atoms.of_literal.Goals as goal
+use Rattle.elim_rules.proofs.Sides.{one_tidied}
+use Rattle.elim_rules.proofs.atoms.of_literal.Goals as goal
 
 pub returns : goal.returns
 returns c =

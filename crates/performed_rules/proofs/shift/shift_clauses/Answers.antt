@@ -4,7 +4,7 @@ use Rattle.equation_rules.proofs.Applying.{shift_applies}
 use Rattle.performed_rules.specs.Answers.{bezout_of}
 use Rattle.performed_rules.proofs.Calls.{rest_divisors}
 use Rattle.performed_rules.proofs.AtDivisibilities.{congruence_at, shift_below, shift_work}
-use Rattle.performed_rules.proofs.shift.at_literal.Goals as goal
+use Rattle.performed_rules.proofs.shift.shift_clauses.Goals as goal
 
 pub get-l-requires : goal.get-l-requires
 get-l-requires c = shift_below c.args.x c.args.i c.args.c.now c.requires

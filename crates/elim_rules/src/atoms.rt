@@ -1,4 +1,4 @@
-// The disjunctions of atoms.
+// The disjunctions of atoms, which an elimination and the check of its log make alike.
 
 ghost use Rattle.clause_set.specs.Clauses.{clauses_of};
 ghost use Rattle.clause_set.specs.Literals.{HasDivisor, term_of};
@@ -19,9 +19,9 @@ fn charge(t: &Term) -> u64
     (t.len() as u64).saturating_add(1)
 }
 
-/// The disjunction of one literal.
+/// The disjunction of one literal. It charges 1 and the monomials of its term.
 #[tactic(auto, using(purse::proofs::Charging::charging, crate::proofs::Sides::one_tidied))]
-pub(crate) fn of_literal(alloc: Global, l: Literal, purse: &mut Purse) -> Result<Dnf, StepFault>
+pub fn of_literal(alloc: Global, l: Literal, purse: &mut Purse) -> Result<Dnf, StepFault>
     requires { HasDivisor l }
     ensures { Charged (paid (term_of l) (just (clauses_of ((l ∷ []) ∷ [])))) purse.old result purse.new }
 {
@@ -30,7 +30,7 @@ pub(crate) fn of_literal(alloc: Global, l: Literal, purse: &mut Purse) -> Result
     Ok(Dnf::tidied(alloc, clauses)?)
 }
 
-/// The two sides of t ≠ 0, below 0 and above it.
+/// The two sides of t ≠ 0, below 0 and above it, each a clause of the tidy form.
 #[tactic(auto, using(purse::proofs::Charging::working))]
 fn sides(alloc: Global, t: &Term) -> Result<Dnf, StepFault>
     ensures { Worked (two_sides t.now) result }
@@ -39,9 +39,10 @@ fn sides(alloc: Global, t: &Term) -> Result<Dnf, StepFault>
     Ok(Dnf::tidied(alloc, clauses)?)
 }
 
-/// The disjunction of t ≠ 0.
+/// The disjunction of t ≠ 0. It charges 1 and the monomials of t; Overflow comes exactly where a number of its two sides leaves the
+/// range, and names it.
 #[tactic(auto, using(purse::proofs::Charging::charging))]
-pub(crate) fn of_unequal(alloc: Global, t: &Term, purse: &mut Purse) -> Result<Dnf, StepFault>
+pub fn of_unequal(alloc: Global, t: &Term, purse: &mut Purse) -> Result<Dnf, StepFault>
     ensures { Charged (paid t.now (two_sides t.now)) purse.old result purse.new }
 {
     purse.step(charge(t))?;

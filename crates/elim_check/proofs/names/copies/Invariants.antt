@@ -1,5 +1,0 @@
-use Rattle.clause_set.proofs.Walks.{Copies}
-use Rattle.elim_check.proofs.names.copies.Given as goal
-
-abbrev pub invariant-loop-c : goal.invariant-loop-c
-invariant-loop-c l = Copies l.cs l.c-index l.out
