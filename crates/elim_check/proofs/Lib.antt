@@ -1,10 +1,8 @@
-pub mod Always
 pub mod Answering
 pub mod Arms
 pub mod Bounding
 pub mod Chained
 pub mod Entries
-pub mod Formed
 pub mod Members
 pub mod Naming
 pub mod Replaying

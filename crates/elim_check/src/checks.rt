@@ -1,10 +1,9 @@
 // Whole logs, checked.
 
 ghost use Rattle.elim_check.specs.Checked.{Checked, told};
-ghost use Rattle.elim_check.specs.Every.{IsEvery, every_by_log};
 ghost use Rattle.elim_check.specs.Reading.{reading};
-ghost use Rattle.elim_rules.specs.Elimination.{IsOut};
-ghost use Rattle.elim_rules.specs.Logs.{name_by_log, names_by_log};
+ghost use Rattle.elim_rules.specs.Elimination.{IsEvery, IsOut};
+ghost use Rattle.elim_rules.specs.Logs.{every_by_log, name_by_log, names_by_log};
 ghost use Rattle.elim_rules.specs.Whole.{IsExact, IsSatisfied};
 ghost use Rattle.clause_set.specs.Literals.{dnf_truth};
 ghost use Rattle.formula.specs.Form.{is_pure};
@@ -14,9 +13,9 @@ ghost use Rattle.std.specs.Prelude.{◌≡◌, ◌+◌, ◌-◌, ◌<◌, ◌≤
 
 use super::fault::{LogFault, Stop};
 use super::forms::form_by_log;
-use super::knowing::know_formed;
 use super::names::{every_value, some_value_kept, some_values};
 use clause_set::Dnf;
+use elim_rules::know_formed;
 use formula::Core;
 use purse::{ElimLog, Purse, StepFault};
 use std::alloc::Global;

@@ -6,7 +6,6 @@ mod applying;
 mod checks;
 mod fault;
 mod forms;
-mod knowing;
 mod laws;
 mod names;
 mod performing;

@@ -1,22 +1,20 @@
 -- Whatever a log that is accepted does is exact.
-use Rattle.std.proofs.Common.{◌≡◌, ◌<◌, ◌≤◌, ℕ, zero, suc, ℤ, Bool, true, false, cond, ◌&&◌, ◌||◌, List, [], ◌∷◌, ◌++◌, length, Option, Some, None, refl, sym, ◌∙◌, ap, subst, append_assoc, arith}
-use Rattle.std.specs.Prelude.{All, max}
-use Rattle.std.specs.List.{AllByRecursion, list_any}
+use Rattle.std.proofs.Common.{◌≡◌, ◌<◌, ℕ, zero, suc, ℤ, Bool, true, false, cond, List, [], ◌∷◌, ◌++◌, Option, Some, None, refl, sym, ◌∙◌, ap, subst, append_assoc, arith}
+use Rattle.std.specs.Prelude.{All}
+use Rattle.std.specs.List.{list_any}
 use Rattle.std.proofs.lemmas.List.{append-nil}
 use Rattle.std.proofs.lemmas.List.Elements.{recursion_from_All}
-use Rattle.linear_term.proofs.Totals.{by_test}
 use Rattle.purse.specs.declared.log.Entry.{Entry}
 use Rattle.linear_term.specs.Linear.{Linear, IsReduced, value_of}
-use Rattle.purse.specs.Trace.{raw, entry, Traced, just, step, next, pay, note}
-use Rattle.purse.proofs.Tracing.{value-step}
+use Rattle.purse.specs.Trace.{entry, Traced, just, step, next, pay, note}
 use Rattle.clause_set.specs.declared.literal.Literal.{Literal}
 use Rattle.clause_set.specs.declared.literal.Literal.TheVariants.{Eq, Geq}
-use Rattle.clause_set.specs.Literals.{dnf_truth, literal_truth, IsLiteral}
+use Rattle.clause_set.specs.Literals.{literal_truth, IsLiteral}
 use Rattle.clause_set.specs.Clauses.{clauses_of}
 use Rattle.clause_set.specs.Formed.{IsFormed}
 use Rattle.clause_set.specs.Met.{IsMet}
 use Rattle.clause_set.specs.Names.{has}
-use Rattle.clause_set.specs.Dnfs.{tidying, tidied, conjunction, disjunction, negation, top}
+use Rattle.clause_set.specs.Dnfs.{tidying, conjunction, disjunction, negation, top}
 use Rattle.clause_set.specs.Rules.{rule, applies}
 use Rattle.clause_set.proofs.Divisors.{kept-append}
 use Rattle.equation_rules.proofs.Exactness.{Keeps}
@@ -28,7 +26,7 @@ use Rattle.formula.specs.Sizes.{size, depth, depths}
 use Rattle.elim_rules.specs.Presburger.{IsTrueAt, AreTrue, AreFalse, IsPresburger, ArePresburger}
 use Rattle.formula.specs.Duals.{dual}
 use Rattle.elim_rules.specs.Whole.{Expresses, IsExact, paid, two_sides}
-use Rattle.elim_rules.specs.Logs.{Rest, rest, Reader, reads_none, go_on, read_next, up_to, turn_of, replayed, name_by_log, all_by_log, any_by_log, by_log, Yields}
+use Rattle.elim_rules.specs.Logs.{Rest, rest, Reader, reads_none, read_next, up_to, replayed, name_by_log, all_by_log, any_by_log, by_log, Yields}
 use Rattle.elim_rules.proofs.Duals.{dual-proper, dual-depth}
 use Rattle.elim_rules.proofs.Replays.{yields_next, yields_none}
 use Rattle.elim_rules.proofs.Taking.{rule_keeps, out_none, out_append, out_unused, either_met, left_met, right_met, tidied-out}

@@ -1,8 +1,7 @@
 -- The bound on the depth of a formula does not matter, and the log of all names.
-use Rattle.std.proofs.Common.{◌≡◌, ◌<◌, ◌≤◌, ℕ, zero, suc, max, List, [], ◌∷◌, refl, sym, ◌∙◌, ap, arith}
+use Rattle.std.proofs.Common.{◌≡◌, ◌<◌, ◌≤◌, ℕ, zero, suc, List, [], refl, ◌∙◌, ap, arith}
 use Rattle.purse.specs.Trace.{Traced, just, next, pay}
-use Rattle.purse.proofs.Tracing.{next-same, value-step}
-use Rattle.purse.specs.Trace.{raw}
+use Rattle.purse.proofs.Tracing.{next-same}
 use Rattle.clause_set.specs.declared.literal.Literal.{Literal}
 use Rattle.clause_set.specs.Dnfs.{conjunction, disjunction, negation, top}
 use Rattle.elim_rules.specs.Elimination.{exists_name}
@@ -10,7 +9,7 @@ use Rattle.formula.specs.Form as tree
 use Rattle.formula.specs.Form.{Form, Forms}
 use Rattle.formula.specs.Sizes.{size, depth, depths}
 use Rattle.formula.specs.Duals.{dual}
-use Rattle.elim_rules.specs.Whole.{all_of, any_of, eliminated, eliminating, names_out}
+use Rattle.elim_rules.specs.Whole.{all_of, any_of, eliminated, names_out}
 use Rattle.elim_rules.specs.Logs.{Does, names_by_log}
 use Rattle.elim_rules.proofs.Duals.{dual-depth}
 use Rattle.elim_rules.proofs.Quiet.{quiet_just}

@@ -1,5 +1,5 @@
 -- The dual of a formula of Presburger arithmetic: it is one, and true exactly where the formula is not.
-use Rattle.std.proofs.Common.{◌≡◌, ◌&&◌, true, ℤ, pos, negsuc, List, refl}
+use Rattle.std.proofs.Common.{◌≡◌, true, ℤ, pos, negsuc, List, refl}
 use Rattle.std.proofs.lemmas.Bool.{and_from}
 use Rattle.linear_term.specs.Linear.{Linear, number}
 use Rattle.linear_term.specs.Combination.{combination}

@@ -1,12 +1,11 @@
 -- The rule that comes first: it is there exactly where the clause has the name, it applies, and it leaves nearer clauses.
-use Rattle.std.proofs.Common.{◌≡◌, ◌<◌, ◌≤◌, ◌+◌, ℕ, zero, suc, Bool, true, false, not, ◌&&◌, ◌||◌, cond, nat_eq, nat_lt, unsigned_abs, List, [], ◌∷◌, length, get_or, drop, Option, Some, None, ◌⊎◌, inl, inr, refl, sym, ◌∙◌, ap, subst, arith}
-use Rattle.std.specs.Prelude.{ℤ, pos, All, position, slice_get, count_by}
-use Rattle.std.specs.Cmp.{first_so, second_so}
+use Rattle.std.proofs.Common.{◌≡◌, ◌<◌, ◌≤◌, ◌+◌, ℕ, zero, suc, Bool, true, false, not, ◌&&◌, ◌||◌, cond, nat_eq, nat_lt, unsigned_abs, List, [], ◌∷◌, length, drop, Option, Some, None, ◌⊎◌, inl, inr, refl, sym, ◌∙◌, ap, subst, arith}
+use Rattle.std.specs.Prelude.{pos, All, position, slice_get, count_by}
+use Rattle.std.specs.Cmp.{first_so}
 use Rattle.std.specs.Option.{option_map}
 use Rattle.std.specs.List.{list_all, list_any, position_or_len}
 use Rattle.std.proofs.lemmas.Bool.Decides.{nat_tests}
-use Rattle.std.proofs.lemmas.Bool.{cond-true, cond-false}
-use Rattle.std.proofs.lemmas.List.Folds.{list_any_none, list_any_at}
+use Rattle.std.proofs.lemmas.Bool.{cond-true}
 use Rattle.std.proofs.lemmas.List.Quantifiers.{position-Some}
 use Rattle.std.proofs.lemmas.Option.{slice_get-get_or}
 use Rattle.std.proofs.lemmas.List.Sums.{sum_by-cons}
@@ -15,9 +14,9 @@ use Rattle.purse.specs.declared.log.Entry.{Entry}
 use Rattle.purse.specs.declared.log.Entry.TheVariants.{Equation, Apart, Merge, Shift, OneSided, Exact, Dark}
 use Rattle.clause_set.specs.declared.literal.Literal.{Literal}
 use Rattle.clause_set.specs.declared.literal.Literal.TheVariants.{Eq, Geq, Div, NDiv}
-use Rattle.clause_set.specs.Names.{has, coefficient, is_equation, is_bound, is_divisibility, is_indivisibility, is_lower, is_upper}
+use Rattle.clause_set.specs.Names.{has, coefficient, is_equation, is_bound, is_divisibility, is_indivisibility}
 use Rattle.elim_rules.specs.Elimination.{IsSplit}
-use Rattle.clause_set.specs.Rules.{passes, applies, rule, first_rule, first_of, when, merge_behind, first_merge, is_bounded, is_two_sided, is_exact, is_one_sided, is_only_divisibility, is_least_equation, measure}
+use Rattle.clause_set.specs.Rules.{passes, applies, rule, first_rule, first_of, when, merge_behind, first_merge, is_bounded, is_two_sided, is_exact, is_one_sided, is_least_equation, measure}
 use Rattle.clause_set.proofs.Covers.{Among, any_with, all_by, by_no}
 use Rattle.equation_rules.proofs.Lists.{any-none, none-count, any-got, and_both}
 use Rattle.equation_rules.proofs.Applying.{equation_applies, apart_applies, merge_applies, shift_applies}

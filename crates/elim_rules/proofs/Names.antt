@@ -1,7 +1,7 @@
 -- Other names do not come in.
-use Rattle.std.proofs.Common.{◌≡◌, ◌≢◌, ◌<◌, ◌≤◌, ℕ, zero, suc, ℤ, pos, negsuc, neg_ℤ, ◌*ℤ◌, ◌-ℤ◌, Bool, true, false, not, ◌||◌, cond, nat_eq, List, [], ◌∷◌, ◌++◌, map, filter, Option, Some, None, refl, sym, ◌∙◌, ap, subst, arith}
-use Rattle.std.specs.Prelude.{All, slice_get, slice_set, remove}
-use Rattle.std.specs.List.{AllByRecursion, list_any, flat_map}
+use Rattle.std.proofs.Common.{◌≡◌, ◌≢◌, ℕ, zero, suc, ℤ, pos, Bool, true, false, not, cond, nat_eq, List, [], ◌∷◌, ◌++◌, map, filter, Option, Some, None, refl, sym, ◌∙◌, ap, subst, arith}
+use Rattle.std.specs.Prelude.{slice_get, slice_set, remove}
+use Rattle.std.specs.List.{AllByRecursion, flat_map}
 use Rattle.std.proofs.lemmas.Bool.Decides.{nat_tests}
 use Rattle.linear_term.specs.Linear.{Linear, mentions, has_name, without, number, name, coef_of}
 use Rattle.linear_term.proofs.Names.{combination-unmentioned}
@@ -13,7 +13,7 @@ use Rattle.purse.proofs.Tracing.{each-value}
 use Rattle.clause_set.specs.declared.literal.Literal.{Literal}
 use Rattle.clause_set.specs.declared.literal.Literal.TheVariants.{Eq, Geq, Div, NDiv}
 use Rattle.clause_set.specs.Literals.{term_of}
-use Rattle.clause_set.specs.Names.{has, others, coefficient, remainder, is_lower, is_upper}
+use Rattle.clause_set.specs.Names.{has, others, coefficient, remainder}
 use Rattle.clause_set.specs.Bezout.{Bezout, bezout}
 use Rattle.clause_set.specs.Clauses.{clause_of, found, clauses_of}
 use Rattle.clause_set.specs.Divisibilities.{numbers_from}
@@ -23,7 +23,7 @@ use Rattle.clause_set.proofs.Divisors.{kept-append}
 use Rattle.clause_set.proofs.Measures.{clause-free}
 use Rattle.equation_rules.proofs.Lists.{any-none, none-any, kept-mapped, kept-removed, kept-got, kept-replaced}
 use Rattle.equation_rules.proofs.Values.{equation-value, apart-value, merge-value, shift-value}
-use Rattle.equation_rules.specs.Results.{solved_sum, scaled_literal, solved_literal, solved_by, split_at, raised, merged_with, joined_second, joined_first, shifted_literal, shifted_by, shifted_term}
+use Rattle.equation_rules.specs.Results.{scaled_literal, solved_literal, solved_by, split_at, raised, joined_second, joined_first, shifted_literal, shifted_by, shifted_term}
 use Rattle.shadow_rules.proofs.Values.{one_sided-value, exact-value, dark-value}
 use Rattle.shadow_rules.specs.Results.{shadow_term, dark_term, inequalities, with_splinter, splinters_of, one_sided_results, exact_results, dark_results}
 use Rattle.elim_rules.specs.Elimination.{by_first, rules_deep, taken_out, exists_name}

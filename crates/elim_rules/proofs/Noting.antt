@@ -1,21 +1,21 @@
 -- Eliminations note entries and beginnings of logs alone.
-use Rattle.std.proofs.Common.{◌≡◌, ◌<◌, ℕ, zero, suc, List, [], ◌∷◌, ◌++◌, Option, Some, None, sym, subst}
+use Rattle.std.proofs.Common.{ℕ, zero, suc, List, [], ◌∷◌, ◌++◌, Option, Some, None, sym, subst}
 use Rattle.std.specs.List.{AllByRecursion}
 use Rattle.clause_set.proofs.Divisors.{kept-append}
 use Rattle.purse.specs.declared.log.Entry.{Entry}
-use Rattle.purse.specs.Trace.{Mark, entry, new_log, Traced, just, step, next, pay, note, each}
+use Rattle.purse.specs.Trace.{entry, new_log, Traced, just, step, next, pay, note, each}
 use Rattle.purse.specs.Runs.{notes}
 use Rattle.clause_set.specs.declared.literal.Literal.{Literal}
 use Rattle.clause_set.specs.declared.literal.Literal.TheVariants.{Eq}
-use Rattle.clause_set.specs.Dnfs.{conjunction, disjunction, negated_literal, negation, tidied, tidying, top}
+use Rattle.clause_set.specs.Dnfs.{conjunction, disjunction, negated_literal, negation, tidying, top}
 use Rattle.clause_set.specs.Rules.{first_rule, measure, rule, unused}
 use Rattle.formula.specs.Form as tree
 use Rattle.formula.specs.Form.{Form, Forms}
 use Rattle.formula.specs.Sizes.{depth, size}
 use Rattle.formula.specs.Duals.{dual}
-use Rattle.elim_rules.specs.Elimination.{by_first, by_rule, exists_name, rules_deep, taken_out}
+use Rattle.elim_rules.specs.Elimination.{by_first, exists_name, rules_deep, taken_out}
 use Rattle.elim_rules.specs.Logs.{IsOfLog, IsQuiet, NotesLogs}
-use Rattle.elim_rules.specs.Whole.{all_of, any_of, eliminated, eliminating, names_out, paid, two_sides}
+use Rattle.elim_rules.specs.Whole.{all_of, any_of, eliminated, eliminating, names_out}
 use Rattle.elim_rules.proofs.Quiet.{conjunction-quiet, disjunction-quiet, dual-quiet, negated_literal-quiet, negation-quiet, notes-next, quiet_just, quiet_next, quiet_pay, rule-quiet, tidying-quiet}
 
 pub logs_next : {A B : Type 0} (m : Traced A) (f : A → Traced B) → NotesLogs m → ((a : A) → NotesLogs (f a)) → NotesLogs (next m f)

@@ -1,9 +1,8 @@
 -- What is left of a formula over n is over n.
-use Rattle.std.proofs.Common.{◌≡◌, ◌≢◌, ◌<◌, ◌≤◌, ℕ, zero, suc, ℤ, pos, negsuc, max, Bool, true, false, nat_eq, List, [], ◌∷◌, ◌++◌, Option, Some, None, refl, sym, ◌∙◌, ap, subst, arith}
-use Rattle.std.specs.Prelude.{All}
-use Rattle.std.specs.List.{AllByRecursion, list_any, flat_map}
+use Rattle.std.proofs.Common.{◌≡◌, ◌<◌, ◌≤◌, ℕ, zero, suc, pos, negsuc, Bool, true, false, nat_eq, List, [], ◌∷◌, ◌++◌, refl, sym, subst, arith}
+use Rattle.std.specs.List.{AllByRecursion, list_any}
 use Rattle.std.proofs.lemmas.Bool.Decides.{nat_tests}
-use Rattle.linear_term.specs.Linear.{Linear, mentions, number}
+use Rattle.linear_term.specs.Linear.{Linear, number}
 use Rattle.linear_term.specs.Combination.{combination}
 use Rattle.linear_term.proofs.Names.{combination-unmentioned, over-unmentioned}
 use Rattle.purse.specs.Trace.{Traced, just, step, next}
@@ -11,20 +10,20 @@ use Rattle.purse.proofs.Tracing.{each-value}
 use Rattle.clause_set.specs.declared.literal.Literal.{Literal}
 use Rattle.clause_set.specs.declared.literal.Literal.TheVariants.{Eq, Geq, Div, NDiv}
 use Rattle.clause_set.specs.Names.{has}
-use Rattle.clause_set.specs.Clauses.{clause_of, found, clauses_of}
+use Rattle.clause_set.specs.Clauses.{clause_of, found}
 use Rattle.clause_set.specs.Dnfs.{joined_with, joined, conjunction, disjunction, negated_literal, negated_clause, negated_clauses, negation, top}
 use Rattle.clause_set.proofs.Divisors.{kept-append}
 use Rattle.equation_rules.proofs.Lists.{any-none, kept-weaker}
 use Rattle.clause_set.specs.Kept.{AreFormed}
-use Rattle.elim_rules.specs.Elimination.{exists_name, IsOut}
+use Rattle.elim_rules.specs.Elimination.{exists_name}
 use Rattle.formula.specs.Form as tree
 use Rattle.formula.specs.Form.{Form, Forms, IsFormOver, AreFormsOver}
 use Rattle.formula.proofs.Duals.{dual_over}
 use Rattle.formula.specs.Sizes.{depth, depths}
-use Rattle.elim_rules.specs.Presburger.{IsTrueAt, IsPresburger, ArePresburger}
+use Rattle.elim_rules.specs.Presburger.{IsPresburger, ArePresburger}
 use Rattle.formula.specs.Duals.{dual}
 use Rattle.elim_rules.proofs.Duals.{less}
-use Rattle.elim_rules.specs.Whole.{Lacks, AreOver, all_of, any_of, eliminated, IsExact}
+use Rattle.elim_rules.specs.Whole.{Lacks, AreOver, all_of, any_of, eliminated}
 use Rattle.elim_rules.proofs.Duals.{dual-proper, dual-depth}
 use Rattle.clause_set.proofs.Kept.{tidied-kept}
 use Rattle.elim_rules.proofs.Names.{found-lacks, clauses-lack, number-lacks, all_flat, exists_name-lacks}

@@ -1,21 +1,20 @@
 -- Work that notes nothing.
-use Rattle.std.proofs.Common.{◌≡◌, ℕ, zero, suc, ℤ, pos, Bool, true, false, cond, List, [], ◌∷◌, ◌++◌, Option, Some, None, refl, sym, ◌∙◌, ap}
+use Rattle.std.proofs.Common.{◌≡◌, ℕ, ℤ, pos, Bool, true, false, cond, List, [], ◌∷◌, ◌++◌, Option, Some, None, refl, ◌∙◌, ap}
 use Rattle.std.specs.Prelude.{slice_get, remove}
 use Rattle.linear_term.specs.declared.range.Place.{Place}
 use Rattle.linear_term.specs.Linear.{Linear, coef_of}
-use Rattle.linear_term.proofs.Totals.{by_test}
 use Rattle.purse.specs.declared.log.Entry.{Entry}
 use Rattle.purse.specs.declared.log.Entry.TheVariants.{Equation, Apart, Merge, Shift, OneSided, Exact, Dark}
-use Rattle.purse.specs.Trace.{Event, charge, raw, mark, entry, new_log, round, enter, back, Traced, just, step, next, pay, compute, note, each, combining}
+use Rattle.purse.specs.Trace.{Event, charge, raw, mark, entry, new_log, round, enter, back, Traced, just, step, next, pay, each, combining}
 use Rattle.purse.specs.Runs.{notes}
 use Rattle.clause_set.specs.declared.literal.Literal.{Literal}
 use Rattle.clause_set.specs.declared.literal.Literal.TheVariants.{Eq, Geq, Div, NDiv}
 use Rattle.clause_set.specs.Names.{has, coefficient, remainder}
 use Rattle.clause_set.specs.Bezout.{Bezout, bezout}
-use Rattle.clause_set.specs.Dnfs.{tidying, conjunction, disjunction, negated_literal, negated_clause, negated_clauses, negation, top}
-use Rattle.clause_set.specs.Equations.{solved, solved_or_kept, by_equation, equation_at, equation}
+use Rattle.clause_set.specs.Dnfs.{tidying, conjunction, disjunction, negated_literal, negated_clauses, negation, top}
+use Rattle.clause_set.specs.Equations.{solved, equation_at, equation}
 use Rattle.clause_set.specs.Divisibilities.{apart_at, apart, merge_with, merge_at, merge, merged, shifted, shift_at, shift}
-use Rattle.clause_set.specs.Shadows.{one_sided, exact, dark, dark_with, exact_pair, exact_pairs, dark_pair, dark_pairs, splinters, uppers, greatest_factor}
+use Rattle.clause_set.specs.Shadows.{one_sided, exact, dark, dark_with, exact_pair, dark_pair, splinters, uppers, greatest_factor}
 use Rattle.clause_set.specs.Rules.{rule}
 use Rattle.formula.specs.Form as tree
 use Rattle.formula.specs.Form.{Form, Forms}

@@ -1,35 +1,27 @@
 -- Logs: the log of a run does the run's work, and whatever a log does is exact.
-use Rattle.std.proofs.Common.{◌≡◌, ◌<◌, ◌≤◌, ℕ, zero, suc, ℤ, Bool, true, false, cond, List, [], ◌∷◌, ◌++◌, length, Option, Some, None, refl, sym, ◌∙◌, ap, subst, append_assoc, arith}
-use Rattle.std.specs.Prelude.{All, max}
+use Rattle.std.proofs.Common.{◌≡◌, ◌<◌, ℕ, zero, suc, true, false, List, [], ◌∷◌, ◌++◌, Option, Some, None, refl, sym, ◌∙◌, ap, subst, append_assoc, arith}
 use Rattle.std.specs.List.{AllByRecursion, list_any}
 use Rattle.std.proofs.lemmas.Bool.{cond-true, cond-false}
 use Rattle.std.proofs.lemmas.List.{append-nil}
-use Rattle.std.proofs.lemmas.List.Elements.{recursion_from_All}
-use Rattle.linear_term.proofs.Totals.{by_test}
 use Rattle.purse.specs.declared.log.Entry.{Entry}
 use Rattle.purse.specs.Trace.{entry, Traced, just, step, next, pay, note, each}
-use Rattle.purse.proofs.Tracing.{next-same, next-just, next-assoc, just-next, value-next}
+use Rattle.purse.proofs.Tracing.{next-same, next-just, next-assoc, value-next}
 use Rattle.linear_term.specs.Linear.{Linear}
 use Rattle.clause_set.specs.declared.literal.Literal.{Literal}
 use Rattle.clause_set.specs.declared.literal.Literal.TheVariants.{Eq}
-use Rattle.clause_set.specs.Formed.{IsFormed}
-use Rattle.clause_set.specs.Met.{IsMet}
 use Rattle.clause_set.specs.Names.{has}
-use Rattle.clause_set.specs.Dnfs.{tidying, tidied, conjunction, disjunction, negation, top}
+use Rattle.clause_set.specs.Dnfs.{tidying, conjunction, disjunction, negation, top}
 use Rattle.clause_set.specs.Rules.{rule, applies, first_rule, measure}
-use Rattle.clause_set.proofs.Divisors.{kept-append}
-use Rattle.equation_rules.proofs.Exactness.{Keeps}
-use Rattle.clause_set.specs.Kept.{AreFormed}
-use Rattle.elim_rules.specs.Elimination.{by_first, rules_deep, taken_out, exists_name, IsOut}
+use Rattle.elim_rules.specs.Elimination.{by_first, rules_deep, taken_out, exists_name, for_all_name}
 use Rattle.formula.specs.Form as tree
 use Rattle.formula.specs.Form.{Form, Forms}
 use Rattle.formula.specs.Sizes.{size}
 use Rattle.formula.specs.Duals.{dual}
-use Rattle.elim_rules.specs.Whole.{all_of, any_of, eliminated, eliminating, two_sides}
-use Rattle.elim_rules.specs.Logs.{entries_of, Rest, rest, Reader, reads_none, go_on, read_next, up_to, turn_of, replayed, name_by_log, all_by_log, any_by_log, by_log, IsQuiet, Does, Yields}
+use Rattle.elim_rules.specs.Whole.{all_of, any_of, eliminated, two_sides}
+use Rattle.elim_rules.specs.Logs.{entries_of, Rest, rest, Reader, reads_none, go_on, read_next, replayed, name_by_log, all_by_log, any_by_log, by_log, IsQuiet, Does, Yields, every_by_log}
 use Rattle.elim_rules.proofs.First.{first_is_rule, none_first, applies_has}
-use Rattle.elim_rules.proofs.Quiet.{entries-append, entries-next, quiet_next, quiet_just, quiet_pay, quiet_raw, rule-quiet, dual-quiet, tidying-quiet, conjunction-quiet, disjunction-quiet, negation-quiet, negated_literal-quiet}
-use Rattle.elim_rules.proofs.Taking.{rule_keeps, nearer_members, out_none, out_append, out_unused, out_rule, either_met, left_met, right_met, tidied-out}
+use Rattle.elim_rules.proofs.Quiet.{entries-next, quiet_next, quiet_just, quiet_pay, rule-quiet, dual-quiet, tidying-quiet, conjunction-quiet, disjunction-quiet, negation-quiet, negated_literal-quiet}
+use Rattle.elim_rules.proofs.Taking.{nearer_members}
 
 -- ---- readers
 pub does_next : {A B : Type 0} (m : Reader A) (f : A → Reader B) (w : Traced A) (g : A → Traced B) → Does m w → Does (f w.value) (g w.value) → Does (read_next m f) (next w g)
@@ -152,6 +144,14 @@ name_does x d =
           ∙ next-same (each (taken_out x) d []) _ _ (replayed_none x ls _);
     })
     (does_quiet (tidying _) (tidying-quiet _))
+
+-- the log of "every value" does its work
+pub every_does : (x : ℕ) (d : List (List Literal)) → Does (every_by_log x d) (for_all_name x d)
+every_does x d =
+    does_next (reads_none (negation d)) (λ n. read_next (name_by_log x n) (λ c. reads_none (negation c))) (negation d) (λ n. next (exists_name x n) negation)
+    (does_quiet (negation d) (negation-quiet d))
+    (does_next (name_by_log x (negation d).value) (λ c. reads_none (negation c)) (exists_name x (negation d).value) negation (name_does x (negation d).value)
+    (does_quiet (negation (exists_name x (negation d).value).value) (negation-quiet (exists_name x (negation d).value).value)))
 
 -- ---- formulas: the log of a run
 abbrev EachDoes : (Form → Reader (List (List Literal))) → (Form → Traced (List (List Literal))) → Forms → Type 0

@@ -1,15 +1,14 @@
 -- All names out of a disjunction.
-use Rattle.std.proofs.Common.{◌≡◌, ◌<◌, ℕ, zero, suc, ℤ, true, List, [], ◌∷◌, ◌++◌, length, Some, refl, sym, ◌∙◌, ap, subst, arith}
+use Rattle.std.proofs.Common.{◌≡◌, ℕ, zero, suc, ℤ, true, List, [], ◌∷◌, ◌++◌, length, refl, sym, ◌∙◌, ap, subst, arith}
 use Rattle.std.specs.Prelude.{◌↔◌}
-use Rattle.std.proofs.lemmas.List.{length-append}
-use Rattle.purse.specs.Trace.{Traced, just, step, next}
+use Rattle.purse.specs.Trace.{just, next}
 use Rattle.purse.proofs.Tracing.{value-just}
 use Rattle.clause_set.specs.declared.literal.Literal.{Literal}
 use Rattle.clause_set.specs.Literals.{dnf_truth}
 use Rattle.clause_set.specs.Kept.{AreFormed}
 use Rattle.elim_rules.specs.Elimination.{exists_name, IsOut}
 use Rattle.elim_rules.specs.Whole.{names_out, IsSatisfied}
-use Rattle.elim_rules.specs.Logs.{Reader, reads_none, read_next, names_by_log, name_by_log, Yields}
+use Rattle.elim_rules.specs.Logs.{names_by_log, name_by_log, Yields}
 use Rattle.elim_rules.proofs.Taking.{exists_name-out}
 use Rattle.elim_rules.proofs.Replays.{yields_next, yields_none}
 use Rattle.elim_rules.proofs.Accepted.{name_yields, yields_map}

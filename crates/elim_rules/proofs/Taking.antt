@@ -1,8 +1,8 @@
 -- A name out of clauses: some value of it makes them true exactly where what is left is true.
-use Rattle.std.proofs.Common.{◌≡◌, ◌<◌, ◌≤◌, ◌+◌, ℕ, zero, suc, ℤ, pos, Bool, true, false, ◌||◌, List, [], ◌∷◌, ◌++◌, Option, Some, None, refl, sym, ◌∙◌, ap, subst, arith}
-use Rattle.std.specs.Prelude.{All, ◌↔◌}
+use Rattle.std.proofs.Common.{◌≡◌, ◌<◌, ◌≤◌, ℕ, zero, suc, ℤ, pos, Bool, true, false, ◌||◌, List, [], ◌∷◌, ◌++◌, Option, Some, None, refl, sym, ◌∙◌, ap, subst, arith}
+use Rattle.std.specs.Prelude.{All}
 use Rattle.std.specs.List.{AllByRecursion, list_any, flat_map}
-use Rattle.std.proofs.lemmas.List.Elements.{All-from_recursion, recursion_from_All, All-weaker}
+use Rattle.std.proofs.lemmas.List.Elements.{recursion_from_All, All-weaker}
 use Rattle.std.proofs.lemmas.List.Folds.{list_any-append}
 use Rattle.integers.specs.Entry.{put}
 use Rattle.purse.specs.declared.log.Entry.{Entry}
@@ -10,21 +10,21 @@ use Rattle.purse.specs.declared.log.Entry.TheVariants.{Equation, Apart, Merge, S
 use Rattle.purse.specs.Trace.{Traced, just, step, next, note, entry, each}
 use Rattle.purse.proofs.Tracing.{each-value, next-same}
 use Rattle.clause_set.specs.declared.literal.Literal.{Literal}
-use Rattle.clause_set.specs.Literals.{clause_truth, dnf_truth, IsLiteral}
+use Rattle.clause_set.specs.Literals.{clause_truth, dnf_truth}
 use Rattle.clause_set.specs.Formed.{IsFormed}
 use Rattle.clause_set.specs.Met.{IsMet}
 use Rattle.clause_set.specs.Names.{has}
 use Rattle.clause_set.specs.Dnfs.{tidied}
-use Rattle.clause_set.specs.Rules.{rule, applies, first_rule, unused, measure}
+use Rattle.clause_set.specs.Rules.{rule, applies, first_rule, measure}
 use Rattle.clause_set.proofs.ClauseTruth.{by_first}
 use Rattle.clause_set.proofs.Covers.{tidied-truth}
 use Rattle.clause_set.proofs.Divisors.{kept-append}
 use Rattle.equation_rules.proofs.Exactness.{Keeps, equation-keeps, apart-keeps, merge-keeps, shift-keeps}
 use Rattle.equation_rules.proofs.Solving.{unused-truth}
 use Rattle.shadow_rules.proofs.Forms.{one_sided-kept, exact-kept, dark-kept, one_sided-formed, exact-formed, dark-formed}
-use Rattle.clause_set.specs.Kept.{AreFormed, AreFree}
-use Rattle.elim_rules.specs.Elimination.{by_rule, by_first as by_first_rule, rules_deep, taken_out, exists_name, Tells, IsOut}
-use Rattle.elim_rules.proofs.First.{IsRule, first_is_rule, none_first}
+use Rattle.clause_set.specs.Kept.{AreFormed}
+use Rattle.elim_rules.specs.Elimination.{by_first as by_first_rule, rules_deep, taken_out, exists_name, IsOut}
+use Rattle.elim_rules.proofs.First.{first_is_rule, none_first}
 use Rattle.clause_set.proofs.Kept.{tidied-kept}
 use Rattle.elim_rules.proofs.Forms.{literals_of_clause}
 

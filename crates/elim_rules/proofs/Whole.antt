@@ -1,6 +1,5 @@
 -- Elimination of all quantifiers is exact.
-use Rattle.std.proofs.Common.{◌≡◌, ◌↔◌, ◌<◌, ◌≤◌, ℕ, zero, suc, ℤ, pos, ◌≤ℤ◌, int_le, Bool, true, false, not, ◌&&◌, ◌||◌, List, [], ◌∷◌, ◌++◌, length, ◌⊎◌, inl, inr, refl, sym, ◌∙◌, ap, subst, arith}
-use Rattle.std.specs.Prelude.{All, max}
+use Rattle.std.proofs.Common.{◌≡◌, ◌↔◌, ◌<◌, ℕ, zero, suc, ℤ, pos, ◌≤ℤ◌, int_le, Bool, true, false, not, ◌&&◌, ◌||◌, List, [], ◌∷◌, ◌++◌, length, ◌⊎◌, inl, inr, refl, sym, ◌∙◌, ap, subst, arith}
 use Rattle.std.specs.Ordering.{int_eq}
 use Rattle.std.proofs.lemmas.Int.{ints}
 use Rattle.std.proofs.lemmas.Bool.Decides.{Decides-int_eq}
@@ -11,22 +10,20 @@ use Rattle.linear_term.specs.Linear.{Linear, IsReduced, value_of}
 use Rattle.purse.specs.Trace.{Traced, just, step, next}
 use Rattle.clause_set.specs.declared.literal.Literal.{Literal}
 use Rattle.clause_set.specs.declared.literal.Literal.TheVariants.{Eq, Geq}
-use Rattle.clause_set.specs.Literals.{clause_truth, dnf_truth, literal_truth, IsLiteral}
+use Rattle.clause_set.specs.Literals.{dnf_truth, literal_truth, IsLiteral}
 use Rattle.clause_set.specs.Clauses.{clauses_of}
-use Rattle.clause_set.specs.Met.{IsMet}
 use Rattle.clause_set.specs.Dnfs.{negated_literal, conjunction, disjunction, negation, tidied, top}
 use Rattle.clause_set.proofs.Covers.{tidied-truth}
 use Rattle.clause_set.proofs.Negations.{alone, negated_literal-truth}
 use Rattle.clause_set.proofs.Operations.{and-truth, or-truth, clauses_of-truth}
 use Rattle.clause_set.proofs.Reduced.{negation-truth}
-use Rattle.clause_set.specs.Kept.{AreFormed}
 use Rattle.elim_rules.specs.Elimination.{exists_name, Tells, IsOut}
 use Rattle.formula.specs.Form as tree
 use Rattle.formula.specs.Form.{Form, Forms}
 use Rattle.formula.specs.Sizes.{depth, depths}
 use Rattle.elim_rules.specs.Presburger.{IsTrueAt, AreTrue, AreFalse, IsPresburger, ArePresburger}
 use Rattle.formula.specs.Duals.{dual}
-use Rattle.elim_rules.specs.Whole.{all_of, any_of, eliminated, eliminating, Expresses, IsExact, two_sides}
+use Rattle.elim_rules.specs.Whole.{all_of, any_of, eliminated, eliminating, Expresses, IsExact}
 use Rattle.clause_set.proofs.Shapes.{clauses_of-formed, conjunction-formed, disjunction-formed, negation-formed}
 use Rattle.clause_set.proofs.Kept.{tidied-kept}
 use Rattle.elim_rules.proofs.Forms.{formed-literals, negated_literal-formed, top-formed}

@@ -1,20 +1,13 @@
 -- A whole log: that of a run is accepted, does its work, and every accepted one is exact.
-use Rattle.std.proofs.Common.{◌≡◌, ◌<◌, ℕ, List, [], ◌∷◌, ◌++◌, Option, Some, None, Ok, refl, sym, ◌∙◌, ap, subst}
+use Rattle.std.proofs.Common.{◌≡◌, ℕ, List, [], ◌∷◌, Option, Some, None, refl, sym, ◌∙◌, ap, subst}
 use Rattle.std.proofs.lemmas.List.{append-nil}
 use Rattle.purse.specs.declared.log.Entry.{Entry}
-use Rattle.purse.specs.Trace.{Funds, Traced, just, next}
-use Rattle.purse.proofs.Charging.{charged_value}
+use Rattle.purse.specs.Trace.{Traced, just, next}
 use Rattle.purse.proofs.Tracing.{next-same, next-just, next-assoc, value-next}
-use Rattle.clause_set.specs.declared.literal.Literal.{Literal}
-use Rattle.clause_set.specs.Kept.{AreFormed}
-use Rattle.elim_rules.specs.Elimination.{exists_name, IsOut}
 use Rattle.formula.specs.Form.{Form}
-use Rattle.formula.specs.Sizes.{depth}
-use Rattle.elim_rules.specs.Presburger.{IsPresburger}
-use Rattle.elim_rules.specs.Whole.{eliminated, IsExact}
-use Rattle.elim_rules.specs.Logs.{entries_of, Rest, rest, Reader, used_up, by_whole_log, by_log, name_by_log, Does, Yields, Checked}
-use Rattle.elim_rules.proofs.Replays.{form_does, name_does}
-use Rattle.elim_rules.proofs.Accepted.{log_exact, name_yields}
+use Rattle.elim_rules.specs.Whole.{eliminated}
+use Rattle.elim_rules.specs.Logs.{entries_of, Rest, rest, Reader, used_up, by_whole_log, by_log, Does, Yields}
+use Rattle.elim_rules.proofs.Replays.{form_does}
 
 pub whole_does : {A : Type 0} (m : Reader A) (w : Traced A) → Does m w → by_whole_log m (entries_of w.events) ≡ next w (λ a. just (Some a))
 whole_does m w h =
@@ -40,7 +33,3 @@ whole_yields m P h ls a is =
 -- the log of the elimination of f is accepted, with the same charges and raw numbers in the same order
 pub form_log : (m n : ℕ) (f : Form) → by_whole_log (by_log m n f) (entries_of (eliminated m n f).events) ≡ next (eliminated m n f) (λ d. just (Some d))
 form_log m n f = whole_does (by_log m n f) (eliminated m n f) (form_does m n f)
-
--- what a checker answers is exact
-pub checked_exact : (m n : ℕ) (f : Form) (ls : List Entry) (d : List (List Literal)) (old new : Funds) → depth f < m → IsPresburger f → Checked (by_whole_log (by_log m n f) ls) old (Ok d) new → IsExact d f n
-checked_exact m n f ls d old new lt p h = whole_yields (by_log m n f) (λ r. IsExact r f n) (log_exact m n f lt p) ls d (sym (charged_value h.1))

@@ -1,7 +1,7 @@
 -- Elimination of a name from a disjunction of clauses: each clause by the rules that come first, or by those of a log.
-use Rattle.std.specs.Prelude.{◌≡◌, ℕ, zero, suc, ℤ, Bool, true, false, List, [], ◌∷◌, Option, Some, None, All}
-use Rattle.std.specs.List.{AllByRecursion, list_any}
-use Rattle.purse.specs.Trace.{Mark, entry, Traced, just, next, note, each}
+use Rattle.std.specs.Prelude.{◌≡◌, ℕ, zero, suc, ℤ, Bool, true, false, List, [], ◌∷◌, Option, Some, None}
+use Rattle.integers.specs.Entry.{put}
+use Rattle.purse.specs.Trace.{entry, Traced, just, next, note, each}
 use Rattle.purse.specs.declared.log.Entry.{Entry}
 use Rattle.purse.specs.declared.log.Entry.TheVariants.{Apart, Merge}
 use Rattle.clause_set.specs.declared.literal.Literal.{Literal}
@@ -9,7 +9,6 @@ use Rattle.clause_set.specs.Dnfs.{tidying, negation}
 use Rattle.clause_set.specs.Kept.{AreFormed, AreFree}
 use Rattle.clause_set.specs.Literals.{dnf_truth}
 use Rattle.clause_set.specs.Met.{IsMet}
-use Rattle.clause_set.specs.Names.{has}
 use Rattle.clause_set.specs.Rules.{rule, first_rule, unused, measure}
 
 -- the rule of the entry e, then each clause that it leaves by `rest`
@@ -47,6 +46,18 @@ pub record Tells (b : Bool) (P : Type 0) : Type 0 where
 pub record IsOut (x : ℕ) (d r : List (List Literal)) : Type 0 where
   pub kept : (e : List ℤ) → IsMet d x e → dnf_truth r e ≡ true
   pub back : (e : List ℤ) → dnf_truth r e ≡ true → IsMet d x e
+  pub formed : AreFormed r
+  pub free : AreFree x r
+
+-- whatever integer x becomes in e, the disjunction d is true
+abbrev pub IsAlwaysMet : List (List Literal) → ℕ → List ℤ → Type 0
+IsAlwaysMet d x e = (v : ℤ) → dnf_truth d (put e x v) ≡ true
+
+-- r is "every value of x makes d true": true exactly there, and where it is false some value makes d false; x is in no clause of it
+pub record IsEvery (x : ℕ) (d r : List (List Literal)) : Type 0 where
+  pub kept : (e : List ℤ) → IsAlwaysMet d x e → dnf_truth r e ≡ true
+  pub back : (e : List ℤ) → dnf_truth r e ≡ true → IsAlwaysMet d x e
+  pub witness : (e : List ℤ) → dnf_truth r e ≡ false → (v : ℤ) × (dnf_truth d (put e x v) ≡ false)
   pub formed : AreFormed r
   pub free : AreFree x r
 

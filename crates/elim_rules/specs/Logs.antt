@@ -1,12 +1,9 @@
 -- Elimination by the rules that a log names.
-use Rattle.std.specs.Prelude.{◌≡◌, ℕ, zero, suc, Bool, cond, List, [], ◌∷◌, ◌++◌, length, Option, Some, None, Result, Ok, Err}
+use Rattle.std.specs.Prelude.{◌≡◌, ℕ, zero, suc, cond, List, [], ◌∷◌, ◌++◌, Option, Some, None}
 use Rattle.std.specs.List.{AllByRecursion, list_any}
 use Rattle.purse.specs.declared.log.Entry.{Entry}
-use Rattle.linear_term.specs.declared.range.Place.{Place}
-use Rattle.purse.specs.declared.fault.StepFault.TheVariants as step_fault
 use Rattle.purse.specs.Runs.{notes}
-use Rattle.purse.specs.Work.{ChargedAt}
-use Rattle.purse.specs.Trace.{Funds, Mark, at, Event, charge, raw, mark, entry, new_log, round, enter, back, Traced, just, step, next, pay, note}
+use Rattle.purse.specs.Trace.{Mark, Event, charge, raw, mark, entry, new_log, round, enter, back, Traced, just, next, pay, note}
 use Rattle.clause_set.specs.declared.literal.Literal.{Literal}
 use Rattle.clause_set.specs.declared.literal.Literal.TheVariants.{Eq, Geq}
 use Rattle.clause_set.specs.Clauses.{clauses_of}
@@ -15,7 +12,7 @@ use Rattle.clause_set.specs.Names.{has}
 use Rattle.clause_set.specs.Rules.{applies, rule}
 use Rattle.formula.specs.Form as tree
 use Rattle.formula.specs.Form.{Form, Forms}
-use Rattle.formula.specs.Sizes.{size, depth}
+use Rattle.formula.specs.Sizes.{size}
 use Rattle.formula.specs.Duals.{dual}
 use Rattle.elim_rules.specs.Whole.{paid, two_sides}
 
@@ -72,6 +69,10 @@ replayed x (e ∷ ls) = up_to x (e ∷ ls) (λ c cs out. turn_of x e c (λ rs. r
 -- x out of the disjunction d
 abbrev pub name_by_log : ℕ → List (List Literal) → Reader (List (List Literal))
 name_by_log x d = read_next (λ ls. replayed x ls d []) (λ cs. reads_none (tidying cs))
+
+-- every value of x makes d true: no value makes its negation true
+abbrev pub every_by_log : ℕ → List (List Literal) → Reader (List (List Literal))
+every_by_log x d = read_next (reads_none (negation d)) (λ n. read_next (name_by_log x n) (λ c. reads_none (negation c)))
 
 abbrev pub all_by_log : (Form → Reader (List (List Literal))) → Forms → List (List Literal) → Reader (List (List Literal))
 all_by_log f tree.no_form d = reads_none (just d)
@@ -139,18 +140,3 @@ pub record Yields {A : Type 0} (m : Reader A) (P : A → Type 0) : Type 0 where
 abbrev pub names_by_log : ℕ → List (List Literal) → Reader (List (List Literal))
 names_by_log zero d = reads_none (just d)
 names_by_log (suc n) d = read_next (name_by_log n d) (names_by_log n)
-
--- why a log is refused: an entry, a charge or a raw number, at the entry n
-pub data Fault : Type 0 where
-  bad_entry : ℕ → Fault
-  cost : ℕ → Fault
-  range : ℕ → Place → Fault
-  no_memory : Fault
-
--- the call answers as the work by the log ends: the faults carry how many entries were done before
-abbrev pub Checked : {A : Type 0} → Traced (Option A) → Funds → Result A Fault → Funds → Type 0
-Checked work old (Ok v) new = (ms : List Mark) × ChargedAt work (at old []) (Ok (Some v)) (at new ms)
-Checked work old (Err (bad_entry n)) new = (ms : List Mark) × ChargedAt work (at old []) (Ok None) (at new ms) × (n ≡ length ms)
-Checked work old (Err (cost n)) new = (ms : List Mark) × ChargedAt work (at old []) (Err step_fault.Steps) (at new ms) × (n ≡ length ms)
-Checked work old (Err (range n p)) new = (ms : List Mark) × ChargedAt work (at old []) (Err (step_fault.Overflow p)) (at new ms) × (n ≡ length ms)
-Checked work old (Err no_memory) new = (ms : List Mark) × ChargedAt work (at old []) (Err step_fault.Memory) (at new ms)

@@ -1,8 +1,8 @@
 // What elimination keeps.
 
-ghost use Rattle.std.specs.Prelude.{◌≡◌, ◌≢◌, ◌<◌, ◌+◌, ◌⊎◌, ◌↔◌, ℕ, ℤ, List, All, [], ◌∷◌, ◌++◌, length, None, Some, Ok, true, false};
+ghost use Rattle.std.specs.Prelude.{◌≡◌, ◌≢◌, ◌<◌, ◌+◌, ◌⊎◌, ◌↔◌, ℕ, ℤ, List, All, [], ◌∷◌, ◌++◌, length, None, Some, true, false};
 ghost use Rattle.std.specs.List.{AllByRecursion, list_any};
-ghost use Rattle.purse.specs.Trace.{Funds, just, next};
+ghost use Rattle.purse.specs.Trace.{just, next};
 ghost use Rattle.purse.specs.declared.log.Entry.{Entry};
 ghost use Rattle.typed_formula.specs.Truth.{Meaning};
 ghost use Rattle.clause_set.specs.declared.literal.Literal.{Literal};
@@ -14,8 +14,8 @@ ghost use Rattle.clause_set.specs.Names.{has, is_equation};
 ghost use Rattle.clause_set.specs.Rules.{applies, first_rule, measure, rule};
 ghost use Rattle.formula.specs.Form.{Form, FormTruth, IsFormOver, existential, universal};
 ghost use Rattle.formula.specs.Sizes.{depth};
-ghost use Rattle.elim_rules.specs.Elimination.{IsOut, IsSplit, by_first, exists_name, taken_out};
-ghost use Rattle.elim_rules.specs.Logs.{Checked, NotesLogs, Yields, by_log, by_whole_log, entries_of, name_by_log, names_by_log};
+ghost use Rattle.elim_rules.specs.Elimination.{IsEvery, IsOut, IsSplit, by_first, exists_name, for_all_name, taken_out};
+ghost use Rattle.elim_rules.specs.Logs.{NotesLogs, Yields, by_log, by_whole_log, entries_of, every_by_log, name_by_log, names_by_log};
 ghost use Rattle.elim_rules.specs.Presburger.{IsPresburger, IsTrueAt};
 ghost use Rattle.elim_rules.specs.Whole.{AreOver, IsExact, IsSatisfied, Lacks, eliminated, eliminating, names_out};
 
@@ -38,10 +38,13 @@ pub fn rule_law()
 {}
 
 /// A name goes out of a disjunction of clauses by the rules that come first: what is left is true exactly where some value
-/// of the name makes the disjunction true, has the name in no clause, and no name that was not there.
+/// of the name makes the disjunction true, has the name in no clause, and no name that was not there. By the negation it goes
+/// out for every value: what is left is true exactly where every value makes the disjunction true, and where it is false some
+/// value makes that false.
 pub fn name_law()
     ensures first { (x : ℕ) (c : List Literal) → taken_out x c ≡ by_first (taken_out x) x c (first_rule x c) }
     ensures out { (x : ℕ) (d : List (List Literal)) → AreFormed d → IsOut x d (exists_name x d).value }
+    ensures every { (x : ℕ) (d : List (List Literal)) → AreFormed d → IsEvery x d (for_all_name x d).value }
     ensures names { (x y : ℕ) (d : List (List Literal)) → y ≢ x → AllByRecursion (Lacks y) d → AllByRecursion (Lacks y) (exists_name x d).value }
 {}
 
@@ -72,6 +75,7 @@ pub fn satisfaction_law()
 pub fn replay_law()
     ensures formula { (m n : ℕ) (f : Form) → by_whole_log (by_log m n f) (entries_of (eliminated m n f).events) ≡ next (eliminated m n f) (λ d. just (Some d)) }
     ensures name { (x : ℕ) (d : List (List Literal)) → by_whole_log (name_by_log x d) (entries_of (exists_name x d).events) ≡ next (exists_name x d) (λ r. just (Some r)) }
+    ensures every { (x : ℕ) (d : List (List Literal)) → by_whole_log (every_by_log x d) (entries_of (for_all_name x d).events) ≡ next (for_all_name x d) (λ r. just (Some r)) }
     ensures all { (n : ℕ) (d : List (List Literal)) → by_whole_log (names_by_log n d) (entries_of (names_out n d).events) ≡ next (names_out n d) (λ r. just (Some r)) }
 {}
 
@@ -79,8 +83,7 @@ pub fn replay_law()
 pub fn log_law()
     ensures formula { (m n : ℕ) (f : Form) → depth f < m → IsPresburger f → Yields (by_log m n f) (λ d. IsExact d f n) }
     ensures name { (x : ℕ) (d : List (List Literal)) → AreFormed d → Yields (name_by_log x d) (IsOut x d) }
-    ensures checked { (m n : ℕ) (f : Form) (log : List Entry) (d : List (List Literal)) (old new : Funds) → depth f < m → IsPresburger f
-        → Checked (by_whole_log (by_log m n f) log) old (Ok d) new → IsExact d f n }
+    ensures every { (x : ℕ) (d : List (List Literal)) → AreFormed d → Yields (every_by_log x d) (IsEvery x d) }
 {}
 
 /// An elimination notes entries of its log and beginnings of logs, and nothing else.

@@ -5,9 +5,11 @@
 #![tactic(auto)]
 
 mod atoms;
+mod knowing;
 mod laws;
 
 pub use atoms::{of_literal, of_unequal};
+pub use knowing::know_formed;
 pub use laws::{
     exact_law, first_rule_law, log_law, name_law, notes_law, replay_law, rule_law,
     satisfaction_law, truth_law,

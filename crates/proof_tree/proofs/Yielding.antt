@@ -13,10 +13,11 @@ use Rattle.clause_set.proofs.Reduced.{negation-truth}
 use Rattle.clause_set.proofs.Shapes.{conjunction-formed, negation-formed}
 use Rattle.formula.specs.Form.{Form, Forms, FormTruth, equal, unequal, at_least, holds, fails, differs, conjunction as all_of, disjunction as any_of, universal, existential, no_form, and_form}
 use Rattle.formula.specs.Sizes.{depth}
-use Rattle.elim_rules.specs.Elimination.{IsOut}
-use Rattle.elim_rules.specs.Logs.{Reader, Yields, by_log, name_by_log, read_next, reads_none}
+use Rattle.elim_rules.specs.Elimination.{IsEvery, IsOut}
+use Rattle.elim_rules.specs.Logs.{Reader, Yields, by_log, every_by_log, name_by_log, read_next, reads_none}
 use Rattle.elim_rules.specs.Presburger.{IsPresburger, IsTrueAt}
 use Rattle.elim_rules.specs.Whole.{IsExact}
+use Rattle.elim_rules.proofs.Always.{every_yields}
 use Rattle.elim_rules.proofs.Accepted.{log_exact, name_yields, yields_map}
 use Rattle.elim_rules.proofs.Forms.{formed-literals, top-formed}
 use Rattle.elim_rules.proofs.Replays.{yields_next, yields_none}
@@ -32,7 +33,7 @@ use Rattle.sequent.proofs.Lasts.{met_gamma, put_end}
 use Rattle.pred_unify.specs.Pairs.{closing_of}
 use Rattle.proof_tree.specs.Gives.{truths}
 use Rattle.proof_tree.specs.Reduced.{IsReducedSequent}
-use Rattle.proof_tree.specs.Rules.{conjoined, constraint_by, every_by_log, first_given}
+use Rattle.proof_tree.specs.Rules.{conjoined, constraint_by, first_given}
 use Rattle.proof_tree.specs.Says.{FalsityAt, IsConstraint, TruthAt}
 use Rattle.proof_tree.proofs.Closing.{closing_presburger}
 
@@ -80,43 +81,6 @@ conjoined_false (c ∷ cs) d e h k t =
 top_false : (e : List ℤ) (P : Type 0) → dnf_truth top e ≡ false → P
 top_false e P h = absurd (cc)
 
--- ---- delta
--- r is true where every value of x makes d true, and where it is false some value makes d false
-record IsForAll (x : ℕ) (d r : List (List Literal)) : Type 0 where
-  formed : AreFormed r
-  yes : (e : List ℤ) → dnf_truth r e ≡ true → (v : ℤ) → dnf_truth d (put e x v) ≡ true
-  no : (e : List ℤ) → dnf_truth r e ≡ false → (v : ℤ) × (dnf_truth d (put e x v) ≡ false)
-
-not_true : (b : Bool) → not b ≡ true → b ≡ false
-not_true false h = refl
-not_true true h = absurd (cc)
-
-not_false : (b : Bool) → not b ≡ false → b ≡ true
-not_false true h = refl
-not_false false h = absurd (cc)
-
-for_all_of : (x : ℕ) (d c : List (List Literal)) → AreFormed d → IsOut x (negation d).value c → IsForAll x d (negation c).value
-for_all_of x d c h o = record {
-  formed = negation-formed c (formed-literals c o.formed);
-  yes = λ e t v. by e v (not_true (dnf_truth c e) (sym (negation-truth c e (formed-literals c o.formed)) ∙ t)) (dnf_truth d (put e x v)) refl;
-  no = λ e f.
-      let m = o.back e (not_false (dnf_truth c e) (sym (negation-truth c e (formed-literals c o.formed)) ∙ f)) in
-      (m.0, not_true (dnf_truth d (put e x (m.0))) (sym (negation-truth d (put e x (m.0)) (formed-literals d h)) ∙ m.1));
-}
-  where
-    by : (e : List ℤ) (v : ℤ) → dnf_truth c e ≡ false → (b : Bool) → dnf_truth d (put e x v) ≡ b → b ≡ true
-    by e v f true is = refl
-    by e v f false is = absurd (let t = o.kept e (v, negation-truth d (put e x v) (formed-literals d h) ∙ ap not is) in cc)
-
-every_yields : (x : ℕ) (d : List (List Literal)) → AreFormed d → Yields (every_by_log x d) (IsForAll x d)
-every_yields x d h =
-    let out : List (List Literal) → Reader (List (List Literal)) = (λ n. read_next (name_by_log x n) (λ c. reads_none (negation c))) in
-    let one : Yields (out (negation d).value) (IsForAll x d) =
-    yields_next (name_by_log x (negation d).value) (λ c. reads_none (negation c)) (IsOut x (negation d).value) (IsForAll x d) (name_yields x (negation d).value (negation-formed d (formed-literals d h)))
-    (λ c o. yields_none (negation c) (IsForAll x d) (for_all_of x d c h o)) in
-    yields_next (reads_none (negation d)) out (λ n. n ≡ (negation d).value) (IsForAll x d) (yields_none (negation d) (λ n. n ≡ (negation d).value) refl)
-    (λ n is. subst (λ z. Yields (out z) (IsForAll x d)) (sym is) one)
-
 -- ---- the rule with a principal
 -- d says of the integers what the constraint of the rule with the principal f says
 record Says (n : ℕ) (f : Form) (ds : List (List (List Literal))) (d : List (List Literal)) : Type 0 where
@@ -135,11 +99,11 @@ beta_says n fs ds h = record {
     by e (inl f) = top_false e _ f
     by e (inr f) = f
 
-delta_says : (n : ℕ) (f : Form) (d r : List (List Literal)) → IsForAll n d r → Says n (universal f) (d ∷ []) r
+delta_says : (n : ℕ) (f : Form) (d r : List (List Literal)) → IsEvery n d r → Says n (universal f) (d ∷ []) r
 delta_says n f d r a = record {
   formed = a.formed;
-  yes = λ e l t v. (subst (λ z. dnf_truth d z ≡ true) (put_end e n v l) (a.yes e t v), tt);
-  no = λ e l t. let m = a.no e t in (m.0, inl (subst (λ z. dnf_truth d z ≡ false) (put_end e n (m.0) l) m.1));
+  yes = λ e l t v. (subst (λ z. dnf_truth d z ≡ true) (put_end e n v l) (a.back e t v), tt);
+  no = λ e l t. let m = a.witness e t in (m.0, inl (subst (λ z. dnf_truth d z ≡ false) (put_end e n (m.0) l) m.1));
 }
 
 gamma_says : (n : ℕ) (f : Form) (d r : List (List Literal)) → IsOut n d r → Says n (existential f) (d ∷ []) r
@@ -214,7 +178,7 @@ alpha_rule s i over used fs = record {
 delta_rule : (s : Sequent) (i over used : ℕ) (f : Form) → Rule s i over used (constraint_by s (pick.Delta i)) (universal f)
 delta_rule s i over used f = record {
   made = only (constraint_by s (pick.Delta i)) s.count (universal f)
-      (λ d h. yields_map (every_by_log s.count d) (IsForAll s.count d) (Says s.count (universal f) (d ∷ [])) (delta_says s.count f d) (every_yields s.count d h));
+      (λ d h. yields_map (every_by_log s.count d) (IsEvery s.count d) (Says s.count (universal f) (d ∷ [])) (delta_says s.count f d) (every_yields s.count d h));
 }
 
 beta_rule : (s : Sequent) (i over used : ℕ) (f : Form) (fs : Forms) → Rule s i over used (constraint_by s (pick.Beta i)) (all_of (and_form f fs))

@@ -1,11 +1,11 @@
 -- The constraint of each rule of the sequent calculus (Rümmer, A constraint sequent calculus for first-order logic with
 -- linear integer arithmetic, 2008), made of the constraints of its premises by a log.
-use Rattle.std.specs.Prelude.{ℕ, suc, List, [], ◌∷◌}
+use Rattle.std.specs.Prelude.{suc, List, [], ◌∷◌}
 use Rattle.purse.specs.Trace.{Traced, just, next}
 use Rattle.clause_set.specs.declared.literal.Literal.{Literal}
-use Rattle.clause_set.specs.Dnfs.{conjunction, negation, top}
+use Rattle.clause_set.specs.Dnfs.{conjunction, top}
 use Rattle.formula.specs.Sizes.{depth}
-use Rattle.elim_rules.specs.Logs.{Reader, by_log, name_by_log, read_next, reads_none}
+use Rattle.elim_rules.specs.Logs.{Reader, by_log, every_by_log, name_by_log, read_next, reads_none}
 use Rattle.sequent.specs.declared.member.Pick.{Pick}
 use Rattle.sequent.specs.declared.member.Pick.TheVariants as pick
 use Rattle.sequent.specs.Sequent.{Sequent}
@@ -20,10 +20,6 @@ first_given (d ∷ ds) = d
 abbrev pub conjoined : List (List (List Literal)) → List (List Literal) → Traced (List (List Literal))
 conjoined [] d = just d
 conjoined (c ∷ cs) d = next (conjunction d c) (λ both. conjoined cs both)
-
--- every value of x makes d true, by a log
-abbrev pub every_by_log : ℕ → List (List Literal) → Reader (List (List Literal))
-every_by_log x d = read_next (reads_none (negation d)) (λ n. read_next (name_by_log x n) (λ c. reads_none (negation c)))
 
 -- the constraint of a rule, by a log: close eliminates the closing formula, delta and gamma the new constant
 abbrev pub constraint_by : Sequent → Pick → List (List (List Literal)) → Reader (List (List Literal))

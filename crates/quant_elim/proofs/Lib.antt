@@ -1,10 +1,8 @@
-pub mod Always
 pub mod Arms
 pub mod Atomic
 pub mod Budgets
 pub mod Choices
 pub mod Outcomes
 pub mod Singles
-pub mod Terms
 pub mod Unfolded
 pub mod ByRule

@@ -9,16 +9,16 @@ use Rattle.formula.specs.Form.{Form}
 use Rattle.formula.specs.Form as tree
 use Rattle.formula.specs.Sizes.{depth}
 use Rattle.elim_rules.specs.Elimination.{exists_name, for_all_name}
-use Rattle.elim_rules.specs.Logs.{Does, IsQuiet, by_log, entries_of, name_by_log, read_next, reads_none}
+use Rattle.elim_rules.specs.Logs.{Does, IsQuiet, by_log, entries_of, name_by_log, read_next, reads_none, every_by_log}
 use Rattle.elim_rules.specs.Whole.{eliminated, eliminating}
 use Rattle.elim_rules.proofs.Quiet.{conjunction-quiet, negation-quiet, quiet_cond, quiet_each, quiet_just, quiet_next, quiet_raw}
-use Rattle.elim_rules.proofs.Replays.{does_next, does_quiet, form_does, name_does}
+use Rattle.elim_rules.proofs.Replays.{does_next, does_quiet, form_does, name_does, every_does}
 use Rattle.elim_rules.proofs.Wholes.{whole_does}
 use Rattle.sequent.specs.declared.member.Pick.{Pick}
 use Rattle.sequent.specs.declared.member.Pick.TheVariants as pick
 use Rattle.sequent.specs.Sequent.{Member, Sequent}
 use Rattle.pred_unify.specs.Pairs.{alike, closing_of, difference, equations, function_pair, function_pairs, other_values, pairs_of, predicate_pair, same_arguments, with_functions, with_predicates}
-use Rattle.proof_tree.specs.Rules.{conjoined, constraint_by, every_by_log, first_given}
+use Rattle.proof_tree.specs.Rules.{conjoined, constraint_by, first_given}
 use Rattle.proof_tree.specs.Walk.{in_new_log, redone}
 use Rattle.search.specs.Building.{canonical_constraint}
 
@@ -98,13 +98,6 @@ closing-quiet s =
     (λ fs. quiet_just _)
 
 -- ---- the rules
-every_does : (x : ℕ) (d : List (List Literal)) → Does (every_by_log x d) (for_all_name x d)
-every_does x d =
-    does_next (reads_none (negation d)) (λ n. read_next (name_by_log x n) (λ c. reads_none (negation c))) (negation d) (λ n. next (exists_name x n) negation)
-    (does_quiet (negation d) (negation-quiet d))
-    (does_next (name_by_log x (negation d).value) (λ c. reads_none (negation c)) (exists_name x (negation d).value) negation (name_does x (negation d).value)
-    (does_quiet (negation (exists_name x (negation d).value).value) (negation-quiet (exists_name x (negation d).value).value)))
-
 close_does : (s : Sequent) → Does (read_next (reads_none (closing_of s)) (λ f. by_log (suc (depth f)) s.count f)) (next (closing_of s) (λ f. eliminated (suc (depth f)) s.count f))
 close_does s =
     does_next (reads_none (closing_of s)) (λ f. by_log (suc (depth f)) s.count f) (closing_of s) (λ f. eliminated (suc (depth f)) s.count f)

@@ -26,7 +26,7 @@ use Rattle.formula.specs.Form.{Form, Forms, IsFormOver, AreFormsOver}
 use Rattle.formula.specs.Duals.{dual}
 use Rattle.formula.specs.Sizes.{depth, depths, size}
 use Rattle.formula.proofs.Duals.{dual_over}
-use Rattle.elim_rules.specs.Logs.{Reader, Rest, rest, Yields, all_by_log, any_by_log, by_log, go_on, name_by_log, read_next, reads_none, replayed, up_to}
+use Rattle.elim_rules.specs.Logs.{Reader, Rest, rest, Yields, all_by_log, any_by_log, by_log, go_on, name_by_log, read_next, reads_none, replayed, up_to, every_by_log}
 use Rattle.elim_rules.specs.Presburger.{IsPresburger, ArePresburger}
 use Rattle.elim_rules.specs.Whole.{AreOver, Lacks, paid, two_sides}
 use Rattle.elim_rules.specs.Elimination.{IsOut}
@@ -46,7 +46,7 @@ use Rattle.pred_unify.specs.Pairs.{closing_of}
 use Rattle.proof_tree.specs.Gives.{AreGiven, Gives}
 use Rattle.proof_tree.specs.Proof.{Proof, Proofs, node, no_proof, and_proof, given, all_given}
 use Rattle.proof_tree.specs.Reduced.{IsReducedSequent}
-use Rattle.proof_tree.specs.Rules.{conjoined, constraint_by, every_by_log, first_given}
+use Rattle.proof_tree.specs.Rules.{conjoined, constraint_by, first_given}
 use Rattle.proof_tree.proofs.Closing.{closing_presburger}
 use Rattle.proof_tree.proofs.Giving.{formed_by}
 use Rattle.proof_tree.proofs.Premises.{reduced_by}

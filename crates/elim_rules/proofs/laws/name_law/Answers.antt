@@ -1,4 +1,5 @@
 use Rattle.elim_rules.proofs.Taking.{taken_out-rule, exists_name-out}
+use Rattle.elim_rules.proofs.Always.{for_all_name-every}
 use Rattle.elim_rules.proofs.Names.{exists_name-lacks}
 use Rattle.elim_rules.proofs.laws.name_law.Goals as goal
 
@@ -7,6 +8,9 @@ returns-clause-first c = taken_out-rule
 
 pub returns-clause-out : goal.returns-clause-out
 returns-clause-out c = exists_name-out
+
+pub returns-clause-every : goal.returns-clause-every
+returns-clause-every c = for_all_name-every
 
 pub returns-clause-names : goal.returns-clause-names
 returns-clause-names c = exists_name-lacks

@@ -6,7 +6,7 @@ use clause_set::Clause;
 
 /// The literals of clauses are as clauses have them.
 #[tactic(auto, using(crate::proofs::Formed::formed))]
-pub(crate) fn know_formed(cs: &[Clause])
+pub fn know_formed(cs: &[Clause])
     ensures { AreFormed cs.now }
 {
     for c in cs {
