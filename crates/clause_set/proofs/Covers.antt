@@ -248,7 +248,7 @@ count-less f g d (x ∷ xs) h (inl e) t n =
     omega (arith, a, b, count-le f g xs h)
 count-less f g d (x ∷ xs) h (inr m) t n = omega (arith, count_step (f x) (g x) (h x), count-less f g d xs h m t n)
 
-among_filter : {X : Type 0} (test : X → Bool) (x : X) (xs : List X) → Among x xs → test x ≡ true → Among x (filter test xs)
+pub among_filter : {X : Type 0} (test : X → Bool) (x : X) (xs : List X) → Among x xs → test x ≡ true → Among x (filter test xs)
 among_filter test x [] m h = absurd m
 among_filter test x (y ∷ ys) (inl e) h =
     subst (λ b. Among x (cond b (y ∷ filter test ys) (filter test ys))) (sym (ap test (sym e) ∙ h)) (inl e)

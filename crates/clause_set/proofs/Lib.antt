@@ -34,3 +34,6 @@ pub mod Opposites
 pub mod Tightening
 pub mod Plain
 pub mod Reordered
+pub mod Marking
+pub mod Across
+pub mod Lengths

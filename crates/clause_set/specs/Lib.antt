@@ -19,3 +19,5 @@ pub mod Primitive
 pub mod Kept
 pub mod Table
 pub mod Apart
+pub mod Marks
+pub mod Keeping

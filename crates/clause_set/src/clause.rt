@@ -2,13 +2,15 @@
 
 ghost use Rattle.clause_set.specs.Clause.{IsClause};
 ghost use Rattle.clause_set.specs.Clauses.{clause_of, is_false, literals_of};
+ghost use Rattle.clause_set.specs.Dnfs.{covers};
 ghost use Rattle.clause_set.specs.Literals.{answer_truth, clause_truth, HasDivisor, IsLiteral, literal_truth, norm_truth};
 ghost use Rattle.clause_set.specs.Normal.{normal_of};
 ghost use Rattle.std.specs.List.{flat_map, list_any};
-ghost use Rattle.std.specs.Prelude.{◌≡◌, ◌<◌, ◌++◌, All, cond, IfOk, length, List, None, OnOk, slice_get, Some, ℤ};
+ghost use Rattle.std.specs.Prelude.{◌≡◌, ◌<◌, ◌++◌, All, cond, false, IfOk, length, List, None, OnOk, slice_get, Some, ℤ};
 
 use super::compact::compact;
 use super::literal::{Literal, Norm};
+use super::marks::{Marks, all_marks};
 use super::normal_form::normalized;
 use super::order::{Ordered, compare_slices, room_for};
 use linear_term::Memory;
@@ -28,26 +30,31 @@ pub fn normal(alloc: Global, l: Literal) -> Result<Norm, Memory>
 }
 
 /// A conjunction of literals in normal form: each linear form has its tightest bounds, no literal is true or false by
-/// itself, and the literals are sorted, each once. Contracts see it as the list of its literals.
+/// itself, and the literals are sorted, each once. Contracts see it as the list of its literals; their marks are kept with
+/// them.
 pub struct Clause {
     literals: Items<Literal>,
+    marks: Marks,
 }
 
 impl Model for Clause {
     ghost use Rattle.std.specs.Prelude.{List};
     ghost use Rattle.clause_set.specs.declared.literal.Literal.{Literal};
-    ghost use Rattle.clause_set.specs.Clause.{IsClause};
+    ghost use Rattle.clause_set.specs.Marks.{IsMarked};
 
     ghost Value = { List Literal };
 
     ghost view = { λ c. c.literals };
 
-    ghost invariant = { λ c. IsClause c.literals };
+    ghost invariant = { λ c. IsMarked c.literals c.marks.own c.marks.opposite };
 }
 
 impl Drop for Clause {
     fn drop(self) {
-        let Clause { literals: _ } = self;
+        let Clause {
+            literals: _,
+            marks: _,
+        } = self;
     }
 }
 
@@ -113,7 +120,8 @@ impl Clause {
             return Ok(None);
         };
         know_literals(literals.as_slice());
-        Ok(Some(Clause { literals }))
+        let marks = all_marks(literals.as_slice());
+        Ok(Some(Clause { literals, marks }))
     }
 
     /// A clause is a normal form: this call does nothing, and tells its caller so.
@@ -145,12 +153,27 @@ impl Clause {
         self.literals.as_slice()
     }
 
+    /// Whether its marks are among those of another clause: where they are not, it does not cover that one.
+    #[tactic(auto, using(crate::proofs::Marking::apart))]
+    pub(crate) fn may_cover(&self, other: &Clause) -> bool
+        ensures { result ≡ false → covers self.now other.now ≡ false }
+    {
+        let (m, n) = (self.marks, other.marks);
+        if m.own & n.own != m.own {
+            return false;
+        }
+        m.opposite & n.opposite == m.opposite
+    }
+
     /// An equal clause, or want of memory.
     pub fn copy(&self, alloc: Global) -> Result<Clause, Memory>
         ensures { IfOk result (λ c. c ≡ self.now) }
     {
         let literals = copy_literals(alloc, self.literals.as_slice())?;
-        Ok(Clause { literals })
+        Ok(Clause {
+            literals,
+            marks: self.marks,
+        })
     }
 }
 

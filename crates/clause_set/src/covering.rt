@@ -1,6 +1,8 @@
 // Which clause covers which, and the clauses that no other one covers.
 
-ghost use Rattle.clause_set.specs.Dnfs.{covers, follows, is_covered, is_implied, outdoes, uncovered};
+ghost use Rattle.clause_set.specs.Clause.{IsDnf};
+ghost use Rattle.clause_set.specs.Dnfs.{covers, follows, is_covered, is_implied, outdoes, tidied, uncovered};
+ghost use Rattle.clause_set.specs.Keeping.{kept_by};
 ghost use Rattle.clause_set.specs.Order.{is_literal};
 ghost use Rattle.std.specs.List.{list_all, list_any};
 ghost use Rattle.std.specs.Prelude.{◌≡◌, ◌++◌, [], ◌∷◌, filter, IfOk, not, OnOk};
@@ -8,7 +10,7 @@ ghost use Rattle.std.specs.Prelude.{◌≡◌, ◌++◌, [], ◌∷◌, filter, 
 use super::bounds::slack;
 use super::clause::Clause;
 use super::literal::Literal;
-use super::order::Ordered;
+use super::order::{Ordered, sort_once};
 use linear_term::{Memory, Term};
 use sqlite_items::Items;
 use std::alloc::Global;
@@ -81,11 +83,18 @@ fn covers(d: &[Literal], c: &[Literal]) -> bool
     true
 }
 
+/// The same of clauses: most are told apart by their marks.
+fn covers_clause(d: &Clause, c: &Clause) -> bool
+    ensures { result ≡ covers d.now c.now }
+{
+    d.may_cover(c) && covers(d.literals(), c.literals())
+}
+
 /// Whether d covers c, and is not covered by it.
 fn outdoes(d: &Clause, c: &Clause) -> bool
     ensures { result ≡ outdoes d.now c.now }
 {
-    covers(d.literals(), c.literals()) && !covers(c.literals(), d.literals())
+    covers_clause(d, c) && !covers_clause(c, d)
 }
 
 #[tactic(auto, using(crate::proofs::Walks::walks))]
@@ -100,7 +109,7 @@ fn is_covered(cs: &[Clause], c: &Clause) -> bool
     false
 }
 
-/// Puts a copy of c behind the others, unless another one of the clauses covers it.
+/// Puts a copy of c behind the others, unless one of the clauses cs covers it and is not covered by it.
 fn push_uncovered(
     alloc: Global,
     cs: &[Clause],
@@ -116,14 +125,79 @@ fn push_uncovered(
     Ok(())
 }
 
-/// The clauses that no other one covers.
+/// Copies of those clauses of ds that no clause of cs covers without being covered by it.
 #[tactic(auto, using(crate::proofs::Walks::filters))]
-pub(crate) fn uncovered(alloc: Global, cs: &[Clause]) -> Result<Items<Clause>, Memory>
-    ensures { IfOk result (λ kept. kept ≡ uncovered cs.now) }
+fn kept_by(alloc: Global, cs: &[Clause], ds: &[Clause]) -> Result<Items<Clause>, Memory>
+    ensures { IfOk result (λ kept. kept ≡ kept_by cs.now ds.now) }
 {
     let mut out = Items::new(alloc);
-    for c in cs {
-        push_uncovered(alloc, cs, c, &mut out)?;
+    for d in ds {
+        push_uncovered(alloc, cs, d, &mut out)?;
     }
     Ok(out)
+}
+
+/// Whether all of ds are kept so.
+#[tactic(auto, using(crate::proofs::Walks::walks))]
+fn all_stay(cs: &[Clause], ds: &[Clause]) -> bool
+    ensures { result ≡ list_all (λ d. not (is_covered cs.now d)) ds.now }
+{
+    for d in ds {
+        if is_covered(cs, d) {
+            return false;
+        }
+    }
+    true
+}
+
+/// The clauses that no other one covers: all of them as they are, where that is so.
+#[tactic(auto, using(crate::proofs::Across::staying))]
+pub(crate) fn uncovered(alloc: Global, cs: Items<Clause>) -> Result<Items<Clause>, Memory>
+    ensures { IfOk result (λ kept. kept ≡ uncovered cs) }
+{
+    if all_stay(cs.as_slice(), cs.as_slice()) {
+        return Ok(cs);
+    }
+    kept_by(alloc, cs.as_slice(), cs.as_slice())
+}
+
+/// The tidy form of two tidy lists of clauses: each clause is compared with those of the other list alone.
+#[tactic(auto, using(crate::proofs::Across::both))]
+pub(crate) fn tidied_both(
+    alloc: Global,
+    a: &[Clause],
+    b: &[Clause],
+) -> Result<Items<Clause>, Memory>
+    requires left { IsDnf a.now }
+    requires right { IsDnf b.now }
+    ensures { IfOk result (λ d. d ≡ tidied (a.now ++ b.now)) }
+{
+    let mut all = kept_by(alloc, b, a)?;
+    let more = kept_by(alloc, a, b)?;
+    all.append(more)?;
+    let sorted = sort_once(alloc, all)?;
+    Ok(sorted)
+}
+
+/// The same of lists that are handed over: no clause is copied where all stay.
+#[tactic(auto, using(crate::proofs::Across::both))]
+pub(crate) fn tidied_into(
+    alloc: Global,
+    a: Items<Clause>,
+    b: Items<Clause>,
+) -> Result<Items<Clause>, Memory>
+    requires left { IsDnf a }
+    requires right { IsDnf b }
+    ensures { IfOk result (λ d. d ≡ tidied (a ++ b)) }
+{
+    if !all_stay(b.as_slice(), a.as_slice()) {
+        return tidied_both(alloc, a.as_slice(), b.as_slice());
+    }
+    if !all_stay(a.as_slice(), b.as_slice()) {
+        return tidied_both(alloc, a.as_slice(), b.as_slice());
+    }
+    let mut all = a;
+    all.append(b)?;
+    let sorted = sort_once(alloc, all)?;
+    Ok(sorted)
 }

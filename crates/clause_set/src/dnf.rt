@@ -1,6 +1,6 @@
 // Disjunctive normal forms: disjunctions of clauses, and charged operations on them.
 
-ghost use Rattle.clause_set.specs.Clause.{IsDnf};
+ghost use Rattle.clause_set.specs.Clause.{IsClause, IsDnf};
 ghost use Rattle.clause_set.specs.Clauses.{clause_of, clauses_of, found};
 ghost use Rattle.clause_set.specs.Dnfs.{conjunction, denied_clauses, denied_literal, disjunction, joined, joined_with, negated_clause, negated_literal, negation, tidied, tidying, top};
 ghost use Rattle.linear_term.specs.declared.range.Place.{Place};
@@ -8,13 +8,15 @@ ghost use Rattle.clause_set.specs.Literals.{AreLiterals, dnf_truth, HasDivisor};
 ghost use Rattle.linear_term.specs.Linear.{number};
 ghost use Rattle.purse.specs.Trace.{combining};
 ghost use Rattle.purse.specs.Work.{Charged, Worked};
-ghost use Rattle.std.specs.Prelude.{◌≡◌, ◌≢◌, ◌<◌, ◌++◌, ◌&&◌, ◌||◌, [], ◌∷◌, pos, negsuc, IfOk, length, List, not, OnOk, slice_get, Some, ℤ};
+ghost use Rattle.std.specs.Prelude.{◌≡◌, ◌≢◌, ◌<◌, ◌++◌, ◌&&◌, ◌||◌, [], ◌∷◌, pos, negsuc, All, IfOk, IsTrue, length, List, not, OnOk, slice_get, Some, ℤ};
 
 use super::clause::{Clause, copy_literals};
-use super::covering::uncovered;
+use super::covering::{tidied_both, tidied_into, uncovered};
 use super::literal::Literal;
 use super::order::{room_for, sort_once};
-use super::weight::{conjunction_charge, disjunction_charge, negation_charge, tidying_charge};
+use super::weight::{
+    conjunction_charge, disjunction_charge, negation_charge, tidying_charge, tidying_charge_of_both,
+};
 use linear_term::{Memory, Term};
 use purse::{Purse, StepFault};
 use sqlite_items::Items;
@@ -131,6 +133,37 @@ impl Dnf {
         let clauses = tidied(alloc, cs)?;
         Ok(Dnf { clauses })
     }
+
+    /// The tidy form of two tidy lists together.
+    #[tactic(auto, using(crate::proofs::Canonical::dnfs))]
+    fn of_both(alloc: Global, a: &[Clause], b: &[Clause]) -> Result<Dnf, Memory>
+        requires left { IsDnf a.now }
+        requires right { IsDnf b.now }
+        ensures { IfOk result (λ d. d ≡ tidied (a.now ++ b.now)) }
+    {
+        let clauses = tidied_both(alloc, a, b)?;
+        Ok(Dnf { clauses })
+    }
+
+    /// The tidy form of two disjunctions together.
+    #[tactic(auto, using(crate::proofs::Canonical::dnfs))]
+    fn of_both_into(alloc: Global, a: Dnf, b: Dnf) -> Result<Dnf, Memory>
+        ensures { IfOk result (λ d. d ≡ tidied (a ++ b)) }
+    {
+        a.know_dnf();
+        b.know_dnf();
+        let clauses = tidied_into(alloc, a.into_clauses(), b.into_clauses())?;
+        Ok(Dnf { clauses })
+    }
+
+    /// An equal disjunction: tidying leaves it as it is.
+    #[tactic(auto, using(crate::proofs::Across::trivial))]
+    fn tidy_copy(&self, alloc: Global) -> Result<Dnf, Memory>
+        ensures { IfOk result (λ d. d ≡ tidied self.now) }
+    {
+        self.know_dnf();
+        self.copy(alloc)
+    }
 }
 
 #[tactic(auto, using(crate::proofs::Charges::charges))]
@@ -147,7 +180,7 @@ fn tidied(alloc: Global, cs: Items<Clause>) -> Result<Items<Clause>, Memory>
     ensures { IfOk result (λ d. d ≡ tidied cs) }
 {
     let sorted = sort_once(alloc, cs)?;
-    uncovered(alloc, sorted.as_slice())
+    uncovered(alloc, sorted)
 }
 
 /// The same clauses, or want of memory.
@@ -178,17 +211,61 @@ pub fn or(alloc: Global, a: &Dnf, b: &Dnf, purse: &mut Purse) -> Result<Dnf, Ste
     ensures in_range { (p : Place) → result ≢ Err (StepFault.Overflow p) }
     ensures truth { IfOk result (λ d. (e : List ℤ) → dnf_truth d e ≡ (dnf_truth a.now e || dnf_truth b.now e)) }
 {
+    a.know_dnf();
+    b.know_dnf();
     disjoin(alloc, a.clauses(), b.clauses(), purse)
 }
 
 #[tactic(auto, using(crate::proofs::Charges::charges))]
 fn disjoin(alloc: Global, a: &[Clause], b: &[Clause], purse: &mut Purse) -> Result<Dnf, StepFault>
+    requires left { IsDnf a.now }
+    requires right { IsDnf b.now }
     ensures { Charged (disjunction a.now b.now) purse.old result purse.new }
 {
     purse.step(disjunction_charge(a, b))?;
-    let mut all = copy_clauses(alloc, a)?;
-    all.append(copy_clauses(alloc, b)?)?;
-    charged_tidied(alloc, all, purse)
+    charged_both(alloc, a, b, purse)
+}
+
+/// Two tidy lists tidied together.
+#[tactic(auto, using(crate::proofs::Charges::charges, crate::proofs::Lengths::lengths))]
+fn charged_both(
+    alloc: Global,
+    a: &[Clause],
+    b: &[Clause],
+    purse: &mut Purse,
+) -> Result<Dnf, StepFault>
+    requires left { IsDnf a.now }
+    requires right { IsDnf b.now }
+    ensures { Charged (tidying (a.now ++ b.now)) purse.old result purse.new }
+{
+    purse.step(tidying_charge_of_both(a.len(), b.len()))?;
+    Ok(Dnf::of_both(alloc, a, b)?)
+}
+
+/// The same as `or`, of disjunctions that are handed over: their clauses are not copied where all stay.
+#[tactic(auto, using(crate::proofs::Ranges::disjunction_never, crate::proofs::Truths::answers))]
+pub fn or_into(alloc: Global, a: Dnf, b: Dnf, purse: &mut Purse) -> Result<Dnf, StepFault>
+    ensures charged { Charged (disjunction a b) purse.old result purse.new }
+    ensures in_range { (p : Place) → result ≢ Err (StepFault.Overflow p) }
+    ensures truth { IfOk result (λ d. (e : List ℤ) → dnf_truth d e ≡ (dnf_truth a e || dnf_truth b e)) }
+{
+    disjoin_into(alloc, a, b, purse)
+}
+
+#[tactic(auto, using(crate::proofs::Charges::charges))]
+fn disjoin_into(alloc: Global, a: Dnf, b: Dnf, purse: &mut Purse) -> Result<Dnf, StepFault>
+    ensures { Charged (disjunction a b) purse.old result purse.new }
+{
+    purse.step(disjunction_charge(a.clauses(), b.clauses()))?;
+    charged_into(alloc, a, b, purse)
+}
+
+#[tactic(auto, using(crate::proofs::Charges::charges, crate::proofs::Lengths::lengths))]
+fn charged_into(alloc: Global, a: Dnf, b: Dnf, purse: &mut Purse) -> Result<Dnf, StepFault>
+    ensures { Charged (tidying (a ++ b)) purse.old result purse.new }
+{
+    purse.step(tidying_charge_of_both(a.len(), b.len()))?;
+    Ok(Dnf::of_both_into(alloc, a, b)?)
 }
 
 /// The conjunction of a and b. It charges 1, and each weight as often as there are clauses on the other side, and then
@@ -201,15 +278,91 @@ pub fn and(alloc: Global, a: &Dnf, b: &Dnf, purse: &mut Purse) -> Result<Dnf, St
 {
     know_clauses(a.clauses());
     know_clauses(b.clauses());
-    conjoin(alloc, a.clauses(), b.clauses(), purse)
+    conjoin(alloc, a, b, purse)
 }
 
 #[tactic(auto, using(crate::proofs::Charges::charges))]
-fn conjoin(alloc: Global, a: &[Clause], b: &[Clause], purse: &mut Purse) -> Result<Dnf, StepFault>
+fn conjoin(alloc: Global, a: &Dnf, b: &Dnf, purse: &mut Purse) -> Result<Dnf, StepFault>
     ensures { Charged (conjunction a.now b.now) purse.old result purse.new }
 {
-    purse.step(conjunction_charge(a, b))?;
-    let all = joined(alloc, a, b)?;
+    purse.step(conjunction_charge(a.clauses(), b.clauses()))?;
+    charged_joined(alloc, a, b, purse)
+}
+
+/// The conjunctions of the clauses, tidied: where one side is true, it is the other one.
+#[tactic(auto, using(crate::proofs::Across::trivial, crate::proofs::Charges::charges))]
+fn charged_joined(alloc: Global, a: &Dnf, b: &Dnf, purse: &mut Purse) -> Result<Dnf, StepFault>
+    ensures { Charged (tidying (joined a.now b.now)) purse.old result purse.new }
+{
+    if is_top(a.clauses()) {
+        know_forms(b.clauses());
+        return charged_copy(alloc, b, purse);
+    }
+    if is_top(b.clauses()) {
+        know_forms(a.clauses());
+        return charged_copy(alloc, a, purse);
+    }
+    let all = joined(alloc, a.clauses(), b.clauses())?;
+    charged_tidied(alloc, all, purse)
+}
+
+/// What is tidy, tidied.
+#[tactic(auto, using(crate::proofs::Charges::charges))]
+fn charged_copy(alloc: Global, d: &Dnf, purse: &mut Purse) -> Result<Dnf, StepFault>
+    ensures { Charged (tidying d.now) purse.old result purse.new }
+{
+    purse.step(tidying_charge(d.len()))?;
+    Ok(d.tidy_copy(alloc)?)
+}
+
+/// Whether the clauses are those of the disjunction that is true.
+#[tactic(auto, using(crate::proofs::Across::trivial))]
+fn is_top(cs: &[Clause]) -> bool
+    ensures { IsTrue result → cs.now ≡ top }
+{
+    let Some((c, rest)) = cs.split_first() else {
+        return false;
+    };
+    c.len() == 0 && rest.is_empty()
+}
+
+/// The clauses are normal forms: this call does nothing, and tells its caller so.
+fn know_forms(cs: &[Clause])
+    ensures { All IsClause cs.now }
+{
+    for c in cs {
+        c.know_clause();
+    }
+}
+
+/// The conjunction of a and other clauses, which are handed over.
+#[tactic(auto, using(crate::proofs::Charges::charges))]
+fn conjoin_with(
+    alloc: Global,
+    a: &Dnf,
+    b: Items<Clause>,
+    purse: &mut Purse,
+) -> Result<Dnf, StepFault>
+    ensures { Charged (conjunction a.now b) purse.old result purse.new }
+{
+    purse.step(conjunction_charge(a.clauses(), b.as_slice()))?;
+    charged_joined_with(alloc, a, b, purse)
+}
+
+#[tactic(auto, using(crate::proofs::Across::trivial, crate::proofs::Charges::charges))]
+fn charged_joined_with(
+    alloc: Global,
+    a: &Dnf,
+    b: Items<Clause>,
+    purse: &mut Purse,
+) -> Result<Dnf, StepFault>
+    ensures { Charged (tidying (joined a.now b)) purse.old result purse.new }
+{
+    if is_top(a.clauses()) {
+        know_forms(b.as_slice());
+        return charged_tidied(alloc, b, purse);
+    }
+    let all = joined(alloc, a.clauses(), b.as_slice())?;
     charged_tidied(alloc, all, purse)
 }
 
@@ -394,7 +547,7 @@ fn negated_clauses(alloc: Global, cs: &[Clause], purse: &mut Purse) -> Result<Dn
     let mut out = Dnf::top(alloc)?;
     for c in cs {
         let negated = negated_clause(alloc, c, purse)?;
-        out = conjoin(alloc, out.clauses(), negated.as_slice(), purse)?;
+        out = conjoin_with(alloc, &out, negated, purse)?;
     }
     Ok(out)
 }

@@ -9,13 +9,14 @@ mod covering;
 mod dnf;
 mod laws;
 mod literal;
+mod marks;
 mod normal_form;
 mod order;
 mod table;
 pub mod weight;
 
 pub use clause::{Clause, copy_literals, normal};
-pub use dnf::{Dnf, and, found, literal_clauses, negated_literal, not, or};
+pub use dnf::{Dnf, and, found, literal_clauses, negated_literal, not, or, or_into};
 pub use laws::{
     canonical_law, covers_law, form_law, formed_law, free_law, intervals_law, kept_law,
     negation_law, normal_law, operations_law, range_law,

@@ -6,7 +6,8 @@ ghost use Rattle.clause_set.specs.Normal.{decided, denied, divided, gcd_with, no
 ghost use Rattle.integers.specs.Divides.{divides, Divides};
 ghost use Rattle.linear_term.specs.Linear.{IsNormal};
 ghost use Rattle.linear_term.specs.Range.{InRange};
-ghost use Rattle.std.specs.Prelude.{◌≡◌, ◌<ℤ◌, ℤ, pos, unsigned_abs, [], ◌∷◌, ◌++◌, All, IfOk, OnOk, List};
+ghost use Rattle.std.specs.Int.{int_rem_euclid};
+ghost use Rattle.std.specs.Prelude.{◌≡◌, ◌<◌, ◌%◌, ◌<ℤ◌, ℤ, pos, unsigned_abs, [], ◌∷◌, ◌++◌, All, IfOk, OnOk, List};
 
 use super::bounds::{negated, turned};
 use super::literal::{Literal, Norm};
@@ -30,12 +31,34 @@ fn gcd_with(g: i128, pairs: &[(u32, i128)]) -> i128
     found
 }
 
-/// Whether a positive h divides k.
+/// Whether a positive h divides k: numbers of 64 bits are divided as such.
 fn divides(h: i128, k: i128) -> bool
     requires { pos 0 <ℤ h }
     ensures { result ≡ divides (unsigned_abs h) k }
 {
-    k.unsigned_abs() % h.unsigned_abs() == 0
+    rest(k.unsigned_abs(), h.unsigned_abs()) == 0
+}
+
+/// m modulo a positive n: numbers of 64 bits are divided as such.
+fn rest(m: u128, n: u128) -> u128
+    requires { 0 < n }
+    ensures { result ≡ m % n }
+{
+    if m < 18446744073709551616 && n < 18446744073709551616 {
+        return (m as u64 % n as u64) as u128;
+    }
+    m % n
+}
+
+/// k modulo a positive d, from 0 to d − 1: numbers of 64 bits are divided as such.
+fn remainder(k: i128, d: i128) -> i128
+    requires { pos 0 <ℤ d }
+    ensures { result ≡ int_rem_euclid k d }
+{
+    if -9223372036854775808 < k && k < 9223372036854775808 && d < 9223372036854775808 {
+        return (k as i64).rem_euclid(d as i64) as i128;
+    }
+    k.rem_euclid(d)
 }
 
 /// Each coefficient divided by a positive g.
@@ -84,7 +107,7 @@ fn push_residue(d: i128, pair: &(u32, i128), out: &mut Vec<(u32, i128)>) -> Resu
     requires { pos 0 <ℤ d }
     ensures { OnOk result (out.new.items ≡ out.old.items ++ residues d (pair.now ∷ [])) }
 {
-    let rest = pair.1.rem_euclid(d);
+    let rest = remainder(pair.1, d);
     if rest == 0 {
         return Ok(());
     }
@@ -99,7 +122,7 @@ fn residue(alloc: Global, d: i128, t: &Term) -> Result<Term, Memory>
 {
     t.know_normal();
     let pairs = residues(alloc, d, t.pairs())?;
-    let constant = t.constant().rem_euclid(d);
+    let constant = remainder(t.constant(), d);
     Term::of(alloc, pairs.as_slice(), constant)
 }
 

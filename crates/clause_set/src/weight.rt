@@ -69,3 +69,12 @@ pub(crate) fn tidying_charge(n: usize) -> u64
 {
     (n as u64).saturating_mul(n as u64)
 }
+
+/// The charge of tidying the clauses of two lists together.
+#[tactic(auto, using(crate::proofs::Lengths::squares))]
+pub(crate) fn tidying_charge_of_both(m: usize, n: usize) -> u64
+    ensures { result ≡ capped ((m + n) * (m + n)) }
+{
+    let count = (m as u64).saturating_add(n as u64);
+    count.saturating_mul(count)
+}

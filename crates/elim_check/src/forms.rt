@@ -10,7 +10,7 @@ ghost use Rattle.std.specs.Prelude.{◌+◌, ◌≤◌, ◌^◌, [], length};
 
 use super::fault::Stop;
 use super::names::some_value;
-use clause_set::{Dnf, Literal, and, not, or};
+use clause_set::{Dnf, Literal, and, not, or_into};
 use elim_rules::{of_literal, of_unequal};
 use formula::{Core, dual, size};
 use purse::{Entry, Purse};
@@ -83,7 +83,7 @@ fn disjunction_by_log(
     let mut any = Dnf::bottom(alloc);
     for f in members {
         let member = form_by_log(alloc, f, names, log, place, purse)?;
-        any = or(alloc, &any, &member, purse)?;
+        any = or_into(alloc, any, member, purse)?;
     }
     Ok(any)
 }

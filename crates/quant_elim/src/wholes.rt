@@ -12,7 +12,7 @@ ghost use Rattle.std.specs.Prelude.{◌≡◌, ◌+◌, ◌<◌, ◌≤◌, ◌^
 use super::atoms::atom;
 use super::knowing::know_terms;
 use super::taking::{name_out, with_log};
-use clause_set::{Dnf, and, not, or};
+use clause_set::{Dnf, and, not, or_into};
 use formula::{Core, dual, size};
 use purse::{ElimFault, ElimLog, Purse, StepFault};
 use sqlite_items::Items;
@@ -85,7 +85,7 @@ fn disjunction_of(
     let mut any = Dnf::bottom(alloc);
     for f in members {
         let member = eliminate_form(alloc, f, names, purse, log)?;
-        any = or(alloc, &any, &member, purse)?;
+        any = or_into(alloc, any, member, purse)?;
     }
     Ok(any)
 }
