@@ -27,6 +27,12 @@ pub true_there : (w : Meaning) (p : Problem) (d : List (List Literal)) (vs : Lis
 unfolding supports
 true_there w p d vs x formed c printed e many t = (true_where w p d e c.over many).1 t
 
+-- and only there
+pub constraint_there : (w : Meaning) (p : Problem) (d : List (List Literal)) (vs : List ℤ) (x : List ℕ) (formed : IsWellFormed p) (c : CoversRoot p d vs) (printed : IsTextOf p d x) (e : List ℤ)
+    → IsTrueAt w p (supports w p d vs x formed c printed).constraint e → dnf_truth d e ≡ true
+unfolding supports
+constraint_there w p d vs x formed c printed e t = (true_where w p d e c.over t.many).0 t
+
 no_values : (vs : List ℤ) → length vs ≡ 0 → vs ≡ []
 no_values [] e = refl
 no_values (v ∷ vs) e = absurd (omega (arith, e))

@@ -6,46 +6,13 @@ use Rattle.linear_term.specs.Linear.{Linear}
 use Rattle.typed_formula.specs.declared.typed.Relation.{Relation}
 use Rattle.typed_formula.specs.declared.typed.Relation.TheVariants.{Eq, Neq, Lt, Leq, Gt, Geq}
 use Rattle.typed_formula.specs.Formula.{Formula, Formulas, Expression, Expressions, constant, compares, applies, negation, every, some, implies, iff, for_all, for_some, part, no_formula, and_formula, number, name, call, minus, total, product, choice, absolute, lesser, greater, no_expression, and_expression}
-use Rattle.purse.specs.Trace.{Traced, just, step, next, capped, combining}
+use Rattle.purse.specs.Trace.{Traced, just, step, next, combining}
 use Rattle.formula.specs.Form.{Form, Forms, holds, fails, differs, conjunction, disjunction, no_form, and_form, forms}
-use Rattle.formula.specs.Sizes.{size, sizes, depth, depths}
 use Rattle.encoding.specs.Extent.{Extent, leaf, nothing, beside, above, above_two, in_both, extent, extents, extent_with, extents_with, measured, all_measured}
 use Rattle.pri_typing.specs.WellFormed.{is_numeric}
-use Rattle.encoding.specs.Encoding.{named, multiple, related, signed_relation, product_of, junction, quantified, cases, encoded, all_encoded, with_value, with_values, with_sum, with_more}
-
-capped_sum : (a b : ℕ) → capped (a + b) ≡ capped (capped a + capped b)
-capped_sum a b = omega arith
-
-capped_max : (a b : ℕ) → capped (max a b) ≡ max (capped a) (capped b)
-capped_max a b = omega arith
-
-capped_more : (a : ℕ) → capped (1 + a) ≡ capped (1 + capped a)
-capped_more a = omega arith
-
-measured-more : (g : Form) (gs : Forms) (a b : Extent) → measured g ≡ a → all_measured gs ≡ b → all_measured (and_form g gs) ≡ beside a b
-measured-more g gs a b p q =
-    λ i. record {
-      nodes = (capped_sum (size g) (sizes gs) ∙ (λ j. capped ((p j).nodes + (q j).nodes))) i;
-      levels = (capped_max (depth g) (depths gs) ∙ (λ j. max ((p j).levels) ((q j).levels))) i;
-    }
-
-measured-above : (n d : ℕ) (a : Extent) → record { nodes = capped n; levels = capped d } ≡ a → record { nodes = capped (1 + n); levels = capped (1 + d) } ≡ above a
-measured-above n d a p =
-    λ i. record {
-      nodes = (capped_more n ∙ (λ j. capped (1 + (p j).nodes))) i;
-      levels = (capped_more d ∙ (λ j. capped (1 + (p j).levels))) i;
-    }
-
-measured-nothing : all_measured no_form ≡ nothing
-measured-nothing = refl
-
-measured-junction : (plus : Bool) (gs : Forms) (a : Extent) → all_measured gs ≡ a → measured (junction plus gs) ≡ above a
-measured-junction true gs a p = measured-above (sizes gs) (depths gs) a p
-measured-junction false gs a p = measured-above (sizes gs) (depths gs) a p
-
-measured-quantified : (plus : Bool) (g : Form) (a : Extent) → measured g ≡ a → measured (quantified plus g) ≡ above a
-measured-quantified true g a p = measured-above (size g) (depth g) a p
-measured-quantified false g a p = measured-above (size g) (depth g) a p
+use Rattle.encoding.specs.Encoding.{named, multiple, related, signed_relation, product_of, junction, cases, encoded, all_encoded, with_value, with_values, with_sum, with_more}
+use Rattle.encoding.proofs.Measuring.{measured-more, measured-above, measured-nothing, measured-junction, measured-quantified}
+use Rattle.encoding.proofs.Bounding.{measured-bound}
 
 measured-two : (g h : Form) (a b : Extent) → measured g ≡ a → measured h ≡ b → all_measured (forms (g ∷ h ∷ [])) ≡ beside a (beside b nothing)
 measured-two g h a b p q = measured-more g (forms (h ∷ [])) a (beside b nothing) p (measured-more h no_form b nothing q measured-nothing)
@@ -91,8 +58,8 @@ mutual
       (junction false (forms ((encoded at n plus f).value ∷ (encoded at n false g).value ∷ []))) (above_two (extent f) (extent g)) (above_two (extent f) (extent g))
       (measured-pair false (encoded at n (not plus) f).value (encoded at n true g).value (extent f) (extent g) (extent_is f at n (not plus)) (extent_is g at n true))
       (measured-pair false (encoded at n plus f).value (encoded at n false g).value (extent f) (extent g) (extent_is f at n plus) (extent_is g at n false))
-  extent_is (for_all f) at n plus = measured-quantified plus (encoded (at ++ n ∷ []) (suc n) plus f).value (extent f) (extent_is f (at ++ n ∷ []) (suc n) plus)
-  extent_is (for_some f) at n plus = measured-quantified (not plus) (encoded (at ++ n ∷ []) (suc n) plus f).value (extent f) (extent_is f (at ++ n ∷ []) (suc n) plus)
+  extent_is (for_all s f) at n plus = measured-bound plus n s (encoded (at ++ n ∷ []) (suc n) plus f) (extent f) (extent_is f (at ++ n ∷ []) (suc n) plus)
+  extent_is (for_some s f) at n plus = measured-bound (not plus) n s (encoded (at ++ n ∷ []) (suc n) plus f) (extent f) (extent_is f (at ++ n ∷ []) (suc n) plus)
   extent_is (part k f) at n plus = extent_is f at n plus
 
   extents_are : (fs : Formulas) (at : List ℕ) (n : ℕ) (plus : Bool) → all_measured (all_encoded at n plus fs).value ≡ extents fs

@@ -8,11 +8,12 @@ use Rattle.typed_formula.specs.declared.typed.Relation.{Relation}
 use Rattle.typed_formula.specs.declared.typed.Relation.TheVariants.{Eq, Neq, Lt, Leq, Gt, Geq}
 use Rattle.typed_formula.specs.Formula.{Formula, Formulas, Expression, Expressions, constant, compares, applies, negation, every, some, implies, iff, for_all, for_some, part, no_formula, and_formula, number, name, call, minus, total, product, choice, absolute, lesser, greater, no_expression, and_expression}
 use Rattle.purse.specs.Trace.{Traced, just, step, next, combining}
+use Rattle.encoding.proofs.Types.{pure-bound}
 use Rattle.pri_typing.specs.Everywhere.{Property, Everywhere, AllEverywhere, TermEverywhere, TermsEverywhere}
 use Rattle.pri_typing.specs.Problems.{IsNoPredicate, IsNoCall}
 use Rattle.pri_typing.specs.WellFormed.{is_numeric}
 use Rattle.formula.specs.Form.{Form, Forms, is_pure, are_pure, holds, fails, no_form, forms}
-use Rattle.encoding.specs.Encoding.{named, multiple, related, signed_relation, product_of, junction, quantified, cases, encoded, all_encoded, with_value, with_values, with_sum, with_more}
+use Rattle.encoding.specs.Encoding.{named, multiple, related, signed_relation, product_of, junction, cases, encoded, all_encoded, with_value, with_values, with_sum, with_more}
 
 -- whether a formula has no application, found in the order of its encoding: b says it of what comes behind a term
 abbrev mutual
@@ -25,8 +26,8 @@ abbrev mutual
   is_free (some fs) = frees fs
   is_free (implies f g) = is_free f && is_free g
   is_free (iff f g) = is_free f && is_free g
-  is_free (for_all f) = is_free f
-  is_free (for_some f) = is_free f
+  is_free (for_all s f) = is_free f
+  is_free (for_some s f) = is_free f
   is_free (part k f) = is_free f
 
   frees : Formulas → Bool
@@ -66,10 +67,6 @@ pure-junction : (plus : Bool) (gs : Forms) → is_pure (junction plus gs) ≡ ar
 pure-junction true gs = refl
 pure-junction false gs = refl
 
-pure-quantified : (plus : Bool) (g : Form) → is_pure (quantified plus g) ≡ is_pure g
-pure-quantified true g = refl
-pure-quantified false g = refl
-
 pure-cases : (when first unless second : Traced Form) (c rest : Bool) → is_pure when.value ≡ c → is_pure first.value ≡ rest → is_pure unless.value ≡ c → is_pure second.value ≡ rest
     → is_pure (cases when first unless second).value ≡ (c && rest)
 unfolding next just
@@ -106,8 +103,8 @@ mutual
   free_is (iff f g) at n plus =
       (λ i. (free_is f at n (not plus) i && (free_is g at n true i && true)) && ((free_is f at n plus i && (free_is g at n false i && true)) && true))
       ∙ two_pairs (is_free f) (is_free g)
-  free_is (for_all f) at n plus = pure-quantified plus (encoded (at ++ n ∷ []) (suc n) plus f).value ∙ (free_is f (at ++ n ∷ []) (suc n) plus)
-  free_is (for_some f) at n plus = pure-quantified (not plus) (encoded (at ++ n ∷ []) (suc n) plus f).value ∙ (free_is f (at ++ n ∷ []) (suc n) plus)
+  free_is (for_all s f) at n plus = pure-bound plus n s (encoded (at ++ n ∷ []) (suc n) plus f) ∙ free_is f (at ++ n ∷ []) (suc n) plus
+  free_is (for_some s f) at n plus = pure-bound (not plus) n s (encoded (at ++ n ∷ []) (suc n) plus f) ∙ free_is f (at ++ n ∷ []) (suc n) plus
   free_is (part k f) at n plus = free_is f at n plus
 
   frees_are : (fs : Formulas) (at : List ℕ) (n : ℕ) (plus : Bool) → are_pure (all_encoded at n plus fs).value ≡ frees fs
@@ -171,8 +168,8 @@ mutual
   free_everywhere n (some fs) h = (tt, all_free_everywhere n fs h)
   free_everywhere n (implies f g) h = let p = and_parts (is_free f) (is_free g) h in (tt, free_everywhere n f p.0, free_everywhere n g p.1)
   free_everywhere n (iff f g) h = let p = and_parts (is_free f) (is_free g) h in (tt, free_everywhere n f p.0, free_everywhere n g p.1)
-  free_everywhere n (for_all f) h = (tt, free_everywhere (suc n) f h)
-  free_everywhere n (for_some f) h = (tt, free_everywhere (suc n) f h)
+  free_everywhere n (for_all s f) h = (tt, free_everywhere (suc n) f h)
+  free_everywhere n (for_some s f) h = (tt, free_everywhere (suc n) f h)
   free_everywhere n (part k f) h = (tt, free_everywhere n f h)
 
   all_free_everywhere : (n : ℕ) (fs : Formulas) → frees fs ≡ true → AllEverywhere none n fs
@@ -208,8 +205,8 @@ mutual
   everywhere_free n (some fs) h = all_everywhere_free n fs h.1
   everywhere_free n (implies f g) h = and_from (is_free f) (is_free g) (everywhere_free n f h.1) (everywhere_free n g h.2)
   everywhere_free n (iff f g) h = and_from (is_free f) (is_free g) (everywhere_free n f h.1) (everywhere_free n g h.2)
-  everywhere_free n (for_all f) h = everywhere_free (suc n) f h.1
-  everywhere_free n (for_some f) h = everywhere_free (suc n) f h.1
+  everywhere_free n (for_all s f) h = everywhere_free (suc n) f h.1
+  everywhere_free n (for_some s f) h = everywhere_free (suc n) f h.1
   everywhere_free n (part k f) h = everywhere_free n f h.1
 
   all_everywhere_free : (n : ℕ) (fs : Formulas) → AllEverywhere none n fs → frees fs ≡ true

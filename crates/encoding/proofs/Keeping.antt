@@ -20,7 +20,9 @@ use Rattle.typed_formula.proofs.Stability.{truth_stable, related_opposite}
 use Rattle.purse.specs.Trace.{Traced, just, step, next, combining}
 use Rattle.formula.specs.Form.{Form, Forms, FormTruth, AreFormsTrue, AreFormsFalse, forms, values_of, holds, fails, differs, conjunction, disjunction, universal}
 use Rattle.pri_typing.specs.WellFormed.{is_numeric, are_numeric}
-use Rattle.encoding.specs.Encoding.{named, multiple, related, signed_relation, product_of, junction, quantified, cases, encoded, all_encoded, with_value, with_values, with_sum, with_more}
+use Rattle.typed_formula.specs.declared.typed.Sort.{Sort}
+use Rattle.encoding.proofs.Types.{bound_all, bound_some}
+use Rattle.encoding.specs.Encoding.{named, multiple, related, signed_relation, product_of, junction, bound_by, cases, encoded, all_encoded, with_value, with_values, with_sum, with_more}
 use Rattle.encoding.specs.Meaning.{Signed}
 use Rattle.encoding.proofs.Products.{IsFormulaLinear, AreFormulasLinear, IsTermLinear, AreTermsLinear}
 use Rattle.formula.proofs.Extending.{Extends, extends_refl, extends_trans, extends_more, entry_last, value_extends, values_extend, over_more, over_number, over_name}
@@ -124,15 +126,21 @@ iff_is false w f g a b c k e d ha hb hc hk = (
   ),
 )
 
-for_all_is : (plus : Bool) (w : Meaning) (f : Formula) (g : Form) (e d : List ℤ)
-    → ((v : ℤ) → FormTruth w g (e ++ v ∷ []) ↔ Signed plus (Truth w f (d ++ v ∷ []))) → FormTruth w (quantified plus g) e ↔ Signed plus (Truth w (for_all f) d)
-for_all_is true w f g e d h = (λ k v. (h v).0 (k v), λ k v. (h v).1 (k v))
-for_all_is false w f g e d h = (λ n k. n (λ v x. (h v).0 x (k v)), λ n k. n (λ v. truth_stable w f (d ++ v ∷ []) (λ m. k v ((h v).1 m))))
+for_all_is : (plus : Bool) (w : Meaning) (n : ℕ) (s : Sort) (f : Formula) (body : Traced Form) (e d : List ℤ) → length e ≡ n
+    → ((v : ℤ) → FormTruth w body.value (e ++ v ∷ []) ↔ Signed plus (Truth w f (d ++ v ∷ []))) → FormTruth w (bound_by plus n s body).value e ↔ Signed plus (Truth w (for_all s f) d)
+unfolding next just
+for_all_is true w n s f body e d long h = iff_trans _ _ _ (bound_all w n s body.value e long) (λ k v t. (h v).0 (k v t), λ k v t. (h v).1 (k v t))
+for_all_is false w n s f body e d long h =
+    iff_trans _ _ _ (bound_some w n s body.value e long)
+    (λ m k. m (λ v t x. (h v).0 x (k v t)), λ m k. m (λ v t. truth_stable w f (d ++ v ∷ []) (λ u. k v t ((h v).1 u))))
 
-for_some_is : (plus : Bool) (w : Meaning) (f : Formula) (g : Form) (e d : List ℤ)
-    → ((v : ℤ) → FormTruth w g (e ++ v ∷ []) ↔ Signed plus (Truth w f (d ++ v ∷ []))) → FormTruth w (quantified (not plus) g) e ↔ Signed plus (Truth w (for_some f) d)
-for_some_is true w f g e d h = (λ n k. n (λ v x. k v ((h v).0 x)), λ n k. n (λ v x. k v ((h v).1 x)))
-for_some_is false w f g e d h = (λ k n. n (λ v. (h v).0 (k v)), λ n v. (h v).1 (λ t. n (λ k. k v t)))
+for_some_is : (plus : Bool) (w : Meaning) (n : ℕ) (s : Sort) (f : Formula) (body : Traced Form) (e d : List ℤ) → length e ≡ n
+    → ((v : ℤ) → FormTruth w body.value (e ++ v ∷ []) ↔ Signed plus (Truth w f (d ++ v ∷ []))) → FormTruth w (bound_by (not plus) n s body).value e ↔ Signed plus (Truth w (for_some s f) d)
+unfolding next just
+for_some_is true w n s f body e d long h =
+    iff_trans _ _ _ (bound_some w n s body.value e long) (λ m k. m (λ v t x. k v t ((h v).0 x)), λ m k. m (λ v t x. k v t ((h v).1 x)))
+for_some_is false w n s f body e d long h =
+    iff_trans _ _ _ (bound_all w n s body.value e long) (λ k m. m (λ v t. (h v).0 (k v t)), λ m v t. (h v).1 (λ x. m (λ k. k v t x)))
 
 predicate_is : (plus : Bool) (w : Meaning) (p : ℕ) (ls : List Linear) (e : List ℤ) (P : List ℤ → Type 0)
     → FormTruth w (cond plus (holds p ls) (fails p ls)) e ↔ Signed plus (w.truth p (values_of ls e) ≡ true)
@@ -262,10 +270,10 @@ mutual
   encoded_is w (iff f g) at n plus e d X r l =
       iff_is plus w f g (encoded at n (not plus) f).value (encoded at n true g).value (encoded at n plus f).value (encoded at n false g).value e d
       (encoded_is w f at n (not plus) e d X r (l.0)) (encoded_is w g at n true e d X r (l.1)) (encoded_is w f at n plus e d X r (l.0)) (encoded_is w g at n false e d X r (l.1))
-  encoded_is w (for_all f) at n plus e d X r l =
-      for_all_is plus w f (encoded (at ++ n ∷ []) (suc n) plus f).value e d (λ v. encoded_is w f (at ++ n ∷ []) (suc n) plus (e ++ v ∷ []) (d ++ v ∷ []) X (read_bound at n e d v r) l)
-  encoded_is w (for_some f) at n plus e d X r l =
-      for_some_is plus w f (encoded (at ++ n ∷ []) (suc n) plus f).value e d (λ v. encoded_is w f (at ++ n ∷ []) (suc n) plus (e ++ v ∷ []) (d ++ v ∷ []) X (read_bound at n e d v r) l)
+  encoded_is w (for_all s f) at n plus e d X r l =
+      for_all_is plus w n s f (encoded (at ++ n ∷ []) (suc n) plus f) e d r.long (λ v. encoded_is w f (at ++ n ∷ []) (suc n) plus (e ++ v ∷ []) (d ++ v ∷ []) X (read_bound at n e d v r) l)
+  encoded_is w (for_some s f) at n plus e d X r l =
+      for_some_is plus w n s f (encoded (at ++ n ∷ []) (suc n) plus f) e d r.long (λ v. encoded_is w f (at ++ n ∷ []) (suc n) plus (e ++ v ∷ []) (d ++ v ∷ []) X (read_bound at n e d v r) l)
   encoded_is w (part k f) at n plus e d X r l = encoded_is w f at n plus e d X r l
 
   pub all_encoded_are : (w : Meaning) (fs : Formulas) (at : List ℕ) (n : ℕ) (plus : Bool) (e d : List ℤ) (X : Type 0) → IsRead at n e d → AreFormulasLinear fs

@@ -2,6 +2,11 @@ pub mod Products
 pub mod Extending
 pub mod Cases
 pub mod Arithmetic
+pub mod Types
+pub mod Measuring
+pub mod Bounding
+pub mod Conditions
+pub mod PlainTypes
 pub mod Keeping
 pub mod Overs
 pub mod Frees

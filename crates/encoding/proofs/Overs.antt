@@ -10,8 +10,9 @@ use Rattle.typed_formula.specs.declared.typed.Relation.TheVariants.{Eq, Neq, Lt,
 use Rattle.typed_formula.specs.Formula.{Formula, Formulas, Expression, Expressions, constant, compares, applies, negation, every, some, implies, iff, for_all, for_some, part, no_formula, and_formula, number, name, call, minus, total, product, choice, absolute, lesser, greater, no_expression, and_expression}
 use Rattle.purse.specs.Trace.{Traced, just, step, next, combining}
 use Rattle.formula.specs.Form.{Form, Forms, IsFormOver, AreFormsOver, holds, fails, differs, universal, disjunction, no_form, forms}
+use Rattle.encoding.proofs.Types.{bound_over}
 use Rattle.pri_typing.specs.WellFormed.{is_numeric}
-use Rattle.encoding.specs.Encoding.{named, multiple, related, signed_relation, product_of, junction, quantified, cases, encoded, all_encoded, with_value, with_values, with_sum, with_more}
+use Rattle.encoding.specs.Encoding.{named, multiple, related, signed_relation, product_of, junction, cases, encoded, all_encoded, with_value, with_values, with_sum, with_more}
 use Rattle.formula.proofs.Extending.{over_number, over_name, over_more}
 use Rattle.encoding.proofs.Extending.{below_more, below-append, named_over}
 use Rattle.encoding.proofs.Arithmetic.{product_over}
@@ -33,10 +34,6 @@ related_over Lt n a b ha hb = combination-over n (pos 1) (pos 1) _ (linear.numbe
 junction_over : (plus : Bool) (n : ℕ) (gs : Forms) → AreFormsOver n gs → IsFormOver n (junction plus gs)
 junction_over true n gs h = h
 junction_over false n gs h = h
-
-quantified_over : (plus : Bool) (n : ℕ) (g : Form) → IsFormOver (suc n) g → IsFormOver n (quantified plus g)
-quantified_over true n g h = h
-quantified_over false n g h = h
 
 predicate_over : (plus : Bool) (n p : ℕ) (ls : List Linear) → All (IsOver n) ls → IsFormOver n (cond plus (holds p ls) (fails p ls))
 predicate_over true n p ls h = h
@@ -64,10 +61,10 @@ mutual
   encoded_over (implies f g) at n plus h = junction_over (not plus) n _ (encoded_over f at n (not plus) h, (encoded_over g at n plus h, tt))
   encoded_over (iff f g) at n plus h =
       ((encoded_over f at n (not plus) h, (encoded_over g at n true h, tt)), ((encoded_over f at n plus h, (encoded_over g at n false h, tt)), tt))
-  encoded_over (for_all f) at n plus h =
-      quantified_over plus n (encoded (at ++ n ∷ []) (suc n) plus f).value (encoded_over f (at ++ n ∷ []) (suc n) plus (below-append (suc n) at n (below_more n (suc n) at (omega arith) h) (omega arith)))
-  encoded_over (for_some f) at n plus h =
-      quantified_over (not plus) n (encoded (at ++ n ∷ []) (suc n) plus f).value (encoded_over f (at ++ n ∷ []) (suc n) plus (below-append (suc n) at n (below_more n (suc n) at (omega arith) h) (omega arith)))
+  encoded_over (for_all s f) at n plus h =
+      bound_over n plus s (encoded (at ++ n ∷ []) (suc n) plus f) (encoded_over f (at ++ n ∷ []) (suc n) plus (below-append (suc n) at n (below_more n (suc n) at (omega arith) h) (omega arith)))
+  encoded_over (for_some s f) at n plus h =
+      bound_over n (not plus) s (encoded (at ++ n ∷ []) (suc n) plus f) (encoded_over f (at ++ n ∷ []) (suc n) plus (below-append (suc n) at n (below_more n (suc n) at (omega arith) h) (omega arith)))
   encoded_over (part k f) at n plus h = encoded_over f at n plus h
 
   all_encoded_over : (fs : Formulas) (at : List ℕ) (n : ℕ) (plus : Bool) → All (λ x. x < n) at → AreFormsOver n (all_encoded at n plus fs).value

@@ -1,5 +1,5 @@
 -- What is so at each place of a formula is so at each place of what parts assume.
-use Rattle.std.proofs.Common.{◌≡◌, ◌↔◌, ℕ, Bool, true, false, not, if◌then◌else◌, ℤ, List, [], ◌∷◌, ◌++◌, length, map, ◌∙◌}
+use Rattle.std.proofs.Common.{◌≡◌, ◌↔◌, ℕ, Bool, true, false, not, if◌then◌else◌, ℤ, ◌+◌, ◌≤◌, List, [], ◌∷◌, ◌++◌, length, length-append, map, ◌∙◌, arith}
 use Rattle.std.specs.List.{AllByRecursion, filter}
 use Rattle.typed_formula.specs.Formula.{Formula, Formulas, formula, formulas, constant, compares, applies, negation, every, some, implies, iff, for_all, for_some, part, no_formula, and_formula}
 use Rattle.typed_formula.specs.Truth.{Meaning, Truth}
@@ -7,16 +7,29 @@ use Rattle.pri_typing.specs.declared.problem.Problem.{Problem}
 use Rattle.pri_typing.specs.Everywhere.{Property, Everywhere, AllEverywhere}
 use Rattle.pri_typing.specs.Problems.{IsPure, IsNoPredicate, IsNoCall, assumed, assumed_by, is_part_in}
 use Rattle.pri_typing.specs.WellFormed.{IsWellFormed, IsLinear, SignedFormula, components_of, formula_components, all_formula_components, of_terms}
-use Rattle.formula.specs.Form.{FormTruth, is_pure}
-use Rattle.encoding.specs.Root.{names_from}
-use Rattle.encoding.specs.Problems.{constants, parts_root}
-use Rattle.encoding.proofs.Problems.{over_constants_is}
+use Rattle.formula.specs.Form.{Form, Forms, FormTruth, AreFormsTrue, IsFormOver, AreFormsOver, is_pure, are_pure, forms, no_form, and_form}
+use Rattle.std.proofs.lemmas.Bool.{and_parts, and_from}
+use Rattle.purse.specs.Trace.{just, next}
+use Rattle.encoding.specs.Encoding.{all_encoded}
+use Rattle.encoding.specs.Meaning.{AreTypedIn}
+use Rattle.encoding.specs.Occurrences.{occurs}
+use Rattle.encoding.specs.Root.{names_from, conditions}
+use Rattle.encoding.specs.Problems.{constants, types, append, parts_root}
+use Rattle.encoding.proofs.Conditions.{conditions_true, conditions_true_pure, conditions_alone_over, kept_each}
+use Rattle.encoding.proofs.Problems.{over_constants_is, constants_over}
 use Rattle.encoding.proofs.Frees.{free_is, everywhere_free}
 
 -- the property asks nothing of a negation and of a conjunction themselves
 pub record Passes (P : Property) : Type 0 where
   pub nots : (f : Formula) → P.of_formula 0 (negation f)
   pub everies : (fs : Formulas) → P.of_formula 0 (every fs)
+
+-- there are as many types as constants
+pub types_many : (p : Problem) → IsWellFormed p → length (types p) ≡ constants p
+types_many p formed = length-append p.existential_types p.universal_types ∙ (λ i. formed.existential_types.many i + formed.universal_types.many i)
+
+few : (p : Problem) → IsWellFormed p → 0 + length (types p) ≤ constants p
+few p formed = let m = types_many p formed in omega (arith, m)
 
 abbrev Component : Property → SignedFormula → Type 0
 Component P c = Everywhere P 0 c.what
@@ -43,10 +56,10 @@ mutual
   components_everywhere P false (applies p ts) h = (h, tt)
   components_everywhere P true (iff f g) h = (h, tt)
   components_everywhere P false (iff f g) h = (h, tt)
-  components_everywhere P true (for_all f) h = (h, tt)
-  components_everywhere P false (for_all f) h = (h, tt)
-  components_everywhere P true (for_some f) h = (h, tt)
-  components_everywhere P false (for_some f) h = (h, tt)
+  components_everywhere P true (for_all s f) h = (h, tt)
+  components_everywhere P false (for_all s f) h = (h, tt)
+  components_everywhere P true (for_some s f) h = (h, tt)
+  components_everywhere P false (for_some s f) h = (h, tt)
   components_everywhere P true (part k f) h = (h, tt)
   components_everywhere P false (part k f) h = (h, tt)
 
@@ -81,16 +94,52 @@ assumed_everywhere P passes p set h =
       all_assumed P passes cs (kept P (λ c. is_part_in set c.what) (components_of p) (components_everywhere P true (formula p.formula) h)),
     )
 
--- what parts assume has its truth
+append_true : (w : Meaning) (gs : Forms) (hs : List Form) (e : List ℤ) → AreFormsTrue w (append gs hs) e ↔ (AreFormsTrue w gs e × AreFormsTrue w (forms hs) e)
+append_true w no_form hs e = (λ h. (tt, h), λ h. h.1)
+append_true w (and_form g gs) hs e =
+    let rest = append_true w gs hs e in
+    (λ h. let k = rest.0 (h.1) in ((h.0, k.0), k.1), λ h. (h.0.0, rest.1 (h.0.1, h.1)))
+
+append_pure : (gs : Forms) (hs : List Form) → are_pure gs ≡ true → are_pure (forms hs) ≡ true → are_pure (append gs hs) ≡ true
+append_pure no_form hs p q = q
+append_pure (and_form g gs) hs p q = let h = and_parts (is_pure g) (are_pure gs) p in and_from (is_pure g) (are_pure (append gs hs)) (h.0) (append_pure gs hs (h.1) q)
+
+append_over : (n : ℕ) (gs : Forms) (hs : List Form) → AreFormsOver n gs → AreFormsOver n (forms hs) → AreFormsOver n (append gs hs)
+append_over n no_form hs p q = q
+append_over n (and_form g gs) hs p q = (p.0, append_over n gs hs (p.1) q)
+
+-- the conditions of the names that stand in what parts assume
+abbrev own_conditions : Problem → List ℕ → List Form
+own_conditions p set = (conditions (λ x. occurs x (assumed_by p set)) 0 (types p)).value
+
+-- the encoding of what parts assume is true exactly where that is, and its constants have values of their types
 pub parts_are : (w : Meaning) (p : Problem) (set : List ℕ) (e : List ℤ) → IsWellFormed p → length e ≡ constants p
-    → FormTruth w (parts_root p set).value e ↔ Truth w (assumed_by p set) e
+    → FormTruth w (parts_root p set).value e ↔ (Truth w (assumed_by p set) e × AreTypedIn (types p) (assumed_by p set) e)
+unfolding next just
 parts_are w p set e formed l =
-    over_constants_is w p (assumed_by p set) e
-    (assumed_everywhere (of_terms IsLinear) (record { nots = λ f. tt; everies = λ fs. tt }) p set formed.products) l
+    let f = assumed_by p set in
+    let members = (all_encoded (names_from 0 (constants p)) (constants p) true (formulas (map assumed (filter (λ (c : SignedFormula). is_part_in set c.what) (components_of p))))).value in
+    let truth = over_constants_is w p f e (assumed_everywhere (of_terms IsLinear) (record { nots = λ f. tt; everies = λ fs. tt }) p set formed.products) l in
+    let all = append_true w members (own_conditions p set) e in
+    let typed = conditions_true w (λ x. occurs x f) 0 (types p) e in
+    let each = kept_each (λ x. occurs x f) (types p) e in
+    (λ h. let k = all.0 h in (truth.0 (k.0), each.0 (typed.0 (k.1))), λ h. all.1 (truth.1 (h.0), typed.1 (each.1 (h.1))))
 
 -- of a problem without applications it has none
 pub parts_pure : (p : Problem) (set : List ℕ) → IsPure p → is_pure (parts_root p set).value ≡ true
+unfolding next just
 parts_pure p set h =
     let none : Property = record { of_formula = IsNoPredicate; of_term = IsNoCall } in
-    free_is (assumed_by p set) (names_from 0 (constants p)) (constants p) true
-    ∙ everywhere_free 0 (assumed_by p set) (assumed_everywhere none (record { nots = λ f. tt; everies = λ fs. tt }) p set h)
+    let members = (all_encoded (names_from 0 (constants p)) (constants p) true (formulas (map assumed (filter (λ (c : SignedFormula). is_part_in set c.what) (components_of p))))).value in
+    append_pure members (own_conditions p set)
+    (free_is (assumed_by p set) (names_from 0 (constants p)) (constants p) true
+    ∙ everywhere_free 0 (assumed_by p set) (assumed_everywhere none (record { nots = λ f. tt; everies = λ fs. tt }) p set h))
+    (conditions_true_pure (λ x. occurs x (assumed_by p set)) 0 (types p))
+
+-- it speaks of constants alone
+pub parts_over : (p : Problem) (set : List ℕ) → IsWellFormed p → IsFormOver (constants p) (parts_root p set).value
+unfolding next just
+parts_over p set formed =
+    let members = (all_encoded (names_from 0 (constants p)) (constants p) true (formulas (map assumed (filter (λ (c : SignedFormula). is_part_in set c.what) (components_of p))))).value in
+    append_over (constants p) members (own_conditions p set) (constants_over p (assumed_by p set))
+    (conditions_alone_over (constants p) (λ x. occurs x (assumed_by p set)) 0 (types p) (few p formed))

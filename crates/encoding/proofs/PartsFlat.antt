@@ -1,10 +1,11 @@
 -- The flat conjunction of what parts assume.
-use Rattle.std.proofs.Common.{◌≡◌, ℕ, Bool, true, false, not, List, [], ◌∷◌, map, refl, ap}
+use Rattle.std.proofs.Common.{◌≡◌, ℕ, Bool, true, false, not, List, [], ◌∷◌, ◌++◌, map, refl, ap, ◌∙◌}
 use Rattle.typed_formula.specs.Formula.{Formula, every, formulas}
 use Rattle.purse.specs.Trace.{just, next}
 use Rattle.pri_typing.specs.Problems.{assumed}
 use Rattle.pri_typing.specs.WellFormed.{SignedFormula}
-use Rattle.formula.specs.Form.{Form, conjunction, and_form, forms}
+use Rattle.formula.specs.Form.{Form, Forms, conjunction, no_form, and_form, forms}
+use Rattle.encoding.specs.Problems.{append, extended}
 use Rattle.encoding.specs.Encoding.{encoded, all_encoded}
 
 abbrev member : List ℕ → ℕ → SignedFormula → Form
@@ -22,3 +23,11 @@ all_members at n (c ∷ cs) = λ i. and_form (member_is at n c.plus c.what i) (a
 pub parts_flat : (at : List ℕ) (n : ℕ) (cs : List SignedFormula) → (encoded at n true (every (formulas (map assumed cs)))).value ≡ conjunction (forms (map (member at n) cs))
 unfolding next just
 parts_flat at n cs = ap conjunction (all_members at n cs)
+
+pub append-forms : (gs hs : List Form) → append (forms gs) hs ≡ forms (gs ++ hs)
+append-forms [] hs = refl
+append-forms (g ∷ gs) hs = ap (and_form g) (append-forms gs hs)
+
+pub extended_flat : (at : List ℕ) (n : ℕ) (cs : List SignedFormula) (hs : List Form)
+    → extended (encoded at n true (every (formulas (map assumed cs)))).value hs ≡ conjunction (forms (map (member at n) cs ++ hs))
+extended_flat at n cs hs = ap (λ f. extended f hs) (parts_flat at n cs) ∙ ap conjunction (append-forms (map (member at n) cs) hs)

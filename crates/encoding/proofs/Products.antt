@@ -15,8 +15,8 @@ abbrev mutual
   IsFormulaLinear (some fs) = AreFormulasLinear fs
   IsFormulaLinear (implies f g) = IsFormulaLinear f × IsFormulaLinear g
   IsFormulaLinear (iff f g) = IsFormulaLinear f × IsFormulaLinear g
-  IsFormulaLinear (for_all f) = IsFormulaLinear f
-  IsFormulaLinear (for_some f) = IsFormulaLinear f
+  IsFormulaLinear (for_all s f) = IsFormulaLinear f
+  IsFormulaLinear (for_some s f) = IsFormulaLinear f
   IsFormulaLinear (part k f) = IsFormulaLinear f
 
   pub AreFormulasLinear : Formulas → Type 0
@@ -49,8 +49,8 @@ mutual
   products_of n (some fs) h = all_products n fs h.1
   products_of n (implies f g) h = (products_of n f h.1, products_of n g h.2)
   products_of n (iff f g) h = (products_of n f h.1, products_of n g h.2)
-  products_of n (for_all f) h = products_of (suc n) f h.1
-  products_of n (for_some f) h = products_of (suc n) f h.1
+  products_of n (for_all s f) h = products_of (suc n) f h.1
+  products_of n (for_some s f) h = products_of (suc n) f h.1
   products_of n (part k f) h = products_of n f h.1
 
   all_products : (n : ℕ) (fs : Formulas) → AllEverywhere (of_terms IsLinear) n fs → AreFormulasLinear fs

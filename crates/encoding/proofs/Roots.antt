@@ -1,36 +1,11 @@
--- The root of an encoding.
-use Rattle.std.proofs.Common.{◌≡◌, ◌↔◌, ℕ, zero, suc, ◌+◌, ◌<◌, ◌≤◌, ℤ, List, [], ◌∷◌, ◌++◌, length, All, true, refl, sym, subst, append_assoc, arith, length-append}
-use Rattle.std.proofs.lemmas.List.{append-nil}
+-- The names of constants, each for itself.
+use Rattle.std.proofs.Common.{◌≡◌, ℕ, zero, suc, ◌+◌, ◌<◌, ◌≤◌, ℤ, List, [], ◌∷◌, ◌++◌, length, All, refl, subst, append_assoc, arith, length-append}
 use Rattle.std.proofs.lemmas.List.Elements.{All-nil, All-cons}
 use Rattle.integers.specs.Entry.{entry}
 use Rattle.integers.proofs.Entries.{entry-append_right}
-use Rattle.typed_formula.specs.Formula.{Formula}
-use Rattle.typed_formula.specs.Truth.{Meaning, Truth}
-use Rattle.purse.specs.Trace.{just, next}
-use Rattle.formula.specs.Form.{Form, FormTruth}
-use Rattle.encoding.specs.Encoding.{encoded}
 use Rattle.encoding.specs.Meaning.{entries}
-use Rattle.encoding.proofs.Products.{IsFormulaLinear}
-use Rattle.encoding.specs.Root.{names_from, for_last, root}
+use Rattle.encoding.specs.Root.{names_from}
 use Rattle.encoding.proofs.Extending.{IsRead}
-use Rattle.encoding.proofs.Keeping.{encoded_is}
-
-goes_on : (w : Meaning) (k : ℕ) (f g : Form) (e : List ℤ) → ((v : ℤ) → FormTruth w g (e ++ v ∷ []) ↔ ((u : List ℤ) → length u ≡ k → FormTruth w f ((e ++ v ∷ []) ++ u)))
-    → ((v : ℤ) → FormTruth w g (e ++ v ∷ [])) → (u : List ℤ) → length u ≡ suc k → FormTruth w f (e ++ u)
-goes_on w k f g e h all [] l = absurd (omega arith)
-goes_on w k f g e h all (v ∷ u) l = subst (FormTruth w f) (append_assoc e (v ∷ []) u) ((h v).0 (all v) u (omega arith))
-
-stays_there : (w : Meaning) (f : Form) (e : List ℤ) → FormTruth w f e → (u : List ℤ) → length u ≡ 0 → FormTruth w f (e ++ u)
-stays_there w f e h [] l = subst (FormTruth w f) (sym (append-nil e)) h
-stays_there w f e h (v ∷ u) l = absurd (omega arith)
-
--- f for all last values
-pub for_last_is : (w : Meaning) (k : ℕ) (f : Form) (e : List ℤ) → FormTruth w (for_last k f) e ↔ ((u : List ℤ) → length u ≡ k → FormTruth w f (e ++ u))
-for_last_is w zero f e = (stays_there w f e, λ h. subst (FormTruth w f) (append-nil e) (h [] refl))
-for_last_is w (suc k) f e = (
-  goes_on w k f (for_last k f) e (λ v. for_last_is w k f (e ++ v ∷ [])),
-  λ h v. (for_last_is w k f (e ++ v ∷ [])).1 (λ u l. subst (FormTruth w f) (sym (append_assoc e (v ∷ []) u)) (h (v ∷ u) (omega arith))),
-)
 
 pub names_below : (m k n : ℕ) → m + k ≤ n → All (λ x. x < n) (names_from m k)
 names_below m zero n le = All-nil (λ x. x < n)
@@ -50,13 +25,3 @@ own_entries a (v ∷ b) m (suc k) la lb =
 
 pub own_read : (n : ℕ) (e : List ℤ) → length e ≡ n → IsRead (names_from 0 n) n e e
 own_read n e l = record { long = l; below = names_below 0 n n (omega arith); is = own_entries [] e 0 n refl l }
-
--- the root of an encoding is true exactly where the formula is, for all values of its last names
-pub root_is : (w : Meaning) (m k : ℕ) (f : Formula) (e : List ℤ) → length e ≡ m → IsFormulaLinear f
-    → FormTruth w (root m k f).value e ↔ ((u : List ℤ) → length u ≡ k → Truth w f (e ++ u))
-unfolding next just
-root_is w m k f e l lin =
-    let at_each : (u : List ℤ) → length u ≡ k → FormTruth w (encoded (names_from 0 (m + k)) (m + k) true f).value (e ++ u) ↔ Truth w f (e ++ u) =
-    λ u lu. encoded_is w f (names_from 0 (m + k)) (m + k) true (e ++ u) (e ++ u) ⊥ (own_read (m + k) (e ++ u) (omega (arith, length-append e u))) lin in
-    let last = for_last_is w k (encoded (names_from 0 (m + k)) (m + k) true f).value e in
-    (λ h u lu. (at_each u lu).0 (last.0 h u lu), λ h. last.1 (λ u lu. (at_each u lu).1 (h u lu)))

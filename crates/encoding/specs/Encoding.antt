@@ -1,5 +1,5 @@
 -- The encoding of a formula: negation normal form, terms linear, conditions of terms as cases, and functions as
--- relations.
+-- relations. A bound variable of a type other than `int` stands with the bounds of its type.
 --
 -- The terms of an atom are finished from the left, inner ones first; `rest` says what becomes of a finished term: it is
 -- given the number of names that are bound by then, and the term. So a call `f(t)` binds a new name y for its value,
@@ -10,6 +10,8 @@ use Rattle.linear_term.specs.Linear as linear
 use Rattle.linear_term.specs.Linear.{Linear}
 use Rattle.typed_formula.specs.declared.typed.Relation.{Relation}
 use Rattle.typed_formula.specs.declared.typed.Relation.TheVariants.{Eq, Neq, Lt, Leq, Gt, Geq}
+use Rattle.typed_formula.specs.declared.typed.Sort.{Sort}
+use Rattle.typed_formula.specs.declared.typed.Sort.TheVariants.{Int, Nat, Range}
 use Rattle.typed_formula.specs.Formula.{Formula, Formulas, Expression, Expressions, constant, compares, applies, negation, every, some, implies, iff, for_all, for_some, part, no_formula, and_formula, number, name, call, minus, total, product, choice, absolute, lesser, greater, no_expression, and_expression}
 use Rattle.typed_formula.specs.Truth.{opposite_relation}
 use Rattle.purse.specs.Trace.{Traced, just, next, combining}
@@ -65,6 +67,47 @@ cases when first unless second =
 abbrev pub product_of : Bool → Linear → Linear → Traced Linear
 product_of left s t = cond left (multiple s.constant t) (multiple t.constant s)
 
+-- Types.
+
+-- a bound of a type: its least value, or its greatest
+pub data Bound : Type 0 where
+  least : ℤ → Bound
+  greatest : ℤ → Bound
+
+-- the bounds of a type
+abbrev pub bounds : Sort → List Bound
+bounds Int = []
+bounds Nat = least (pos 0) ∷ []
+bounds (Range a b) = least a ∷ greatest b ∷ []
+
+-- k·x + m·t is at least 0
+abbrev pub inequality : ℤ → ℕ → ℤ → Linear → Traced Form
+inequality k x m t = next (combining k (linear.name x) m t) (λ u. just (at_least u))
+
+-- the name x is within the bound: x - n is at least 0, or -x + n is
+abbrev pub within : ℕ → Bound → Traced Form
+within x (least n) = inequality (pos 1) x (negsuc 0) (linear.number n)
+within x (greatest n) = inequality (negsuc 0) x (pos 1) (linear.number n)
+
+-- it is not: -x + (n - 1) is at least 0, or x + (-n - 1) is
+abbrev pub outside : ℕ → Bound → Traced Form
+outside x (least n) = next (combining (pos 1) (linear.number n) (negsuc 0) (linear.number (pos 1))) (λ c. inequality (negsuc 0) x (pos 1) c)
+outside x (greatest n) = next (combining (negsuc 0) (linear.number n) (negsuc 0) (linear.number (pos 1))) (λ c. inequality (pos 1) x (pos 1) c)
+
+-- for all, that the name x is outside the one bound or the other; for some, that it is within each
+abbrev pub limits : Bool → ℕ → List Bound → Traced (List Form)
+limits all x [] = just []
+limits all x (b ∷ bs) = next (cond all (outside x b) (within x b)) (λ h. next (limits all x bs) (λ hs. just (h ∷ hs)))
+
+-- for all, one of these or the formula; for some, each of these and the formula
+abbrev pub restricted : Bool → List Form → Form → Form
+restricted all [] g = g
+restricted all (h ∷ hs) g = junction (not all) (forms ((h ∷ hs) ++ g ∷ []))
+
+-- the formula for all values of the type, or else for some, of the name x
+abbrev pub bound_by : Bool → ℕ → Sort → Traced Form → Traced Form
+bound_by all x s body = next body (λ g. next (limits all x (bounds s)) (λ hs. just (quantified all (restricted all hs g))))
+
 abbrev mutual
   -- The formula with plus, its negation with minus: the names of the formula stand for the names in `at`, all below n.
   pub encoded : List ℕ → ℕ → Bool → Formula → Traced Form
@@ -81,8 +124,8 @@ abbrev mutual
       next (encoded at n (not plus) f) (λ a. next (encoded at n true g) (λ b.
       next (encoded at n plus f) (λ c. next (encoded at n false g) (λ d.
       just (conjunction (forms (disjunction (forms (a ∷ b ∷ [])) ∷ disjunction (forms (c ∷ d ∷ [])) ∷ [])))))))
-  encoded at n plus (for_all f) = next (encoded (at ++ n ∷ []) (suc n) plus f) (λ g. just (quantified plus g))
-  encoded at n plus (for_some f) = next (encoded (at ++ n ∷ []) (suc n) plus f) (λ g. just (quantified (not plus) g))
+  encoded at n plus (for_all s f) = bound_by plus n s (encoded (at ++ n ∷ []) (suc n) plus f)
+  encoded at n plus (for_some s f) = bound_by (not plus) n s (encoded (at ++ n ∷ []) (suc n) plus f)
   encoded at n plus (part k f) = encoded at n plus f
 
   pub all_encoded : List ℕ → ℕ → Bool → Formulas → Traced Forms

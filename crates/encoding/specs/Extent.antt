@@ -1,8 +1,9 @@
 -- How large the encoding of a formula is, without the encoding: it does not depend on the sign, nor on the names and
 -- numbers in the formula. Numbers from 2^64 - 1 on count as 2^64 - 1.
-use Rattle.std.specs.Prelude.{ℕ, ◌+◌, max}
+use Rattle.std.specs.Prelude.{ℕ, zero, suc, ◌+◌, max, length}
 use Rattle.typed_formula.specs.Formula.{Formula, Formulas, Expression, Expressions, constant, compares, applies, negation, every, some, implies, iff, for_all, for_some, part, no_formula, and_formula, number, name, call, minus, total, product, choice, absolute, lesser, greater, no_expression, and_expression}
 use Rattle.purse.specs.Trace.{capped}
+use Rattle.encoding.specs.Encoding.{bounds}
 use Rattle.formula.specs.Form.{Form, Forms}
 use Rattle.formula.specs.Sizes.{size, sizes, depth, depths}
 
@@ -34,6 +35,16 @@ above_two a b = above (beside a (beside b nothing))
 abbrev pub in_both : Extent → Extent → Extent
 in_both c rest = above_two (above_two c rest) (above_two c rest)
 
+-- k atoms before others
+abbrev pub behind_atoms : ℕ → Extent → Extent
+behind_atoms zero e = e
+behind_atoms (suc k) e = beside leaf (behind_atoms k e)
+
+-- a formula behind k atoms in one connective, where there are any
+abbrev pub restricted_extent : ℕ → Extent → Extent
+restricted_extent zero e = e
+restricted_extent (suc k) e = above (behind_atoms (suc k) (beside e nothing))
+
 abbrev mutual
   -- of the encoding of a formula
   pub extent : Formula → Extent
@@ -45,8 +56,8 @@ abbrev mutual
   extent (some fs) = above (extents fs)
   extent (implies f g) = above_two (extent f) (extent g)
   extent (iff f g) = in_both (extent f) (extent g)
-  extent (for_all f) = above (extent f)
-  extent (for_some f) = above (extent f)
+  extent (for_all s f) = above (restricted_extent (length (bounds s)) (extent f))
+  extent (for_some s f) = above (restricted_extent (length (bounds s)) (extent f))
   extent (part k f) = extent f
 
   pub extents : Formulas → Extent

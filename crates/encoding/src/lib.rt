@@ -7,5 +7,6 @@
 mod laws;
 
 pub use laws::{
-    atom_law, body_law, encoding_law, extent_law, names_law, parts_law, problem_law, purity_law,
+    atom_law, body_law, encoding_law, extent_law, names_law, parts_law, plain_law, problem_law,
+    purity_law, types_law,
 };

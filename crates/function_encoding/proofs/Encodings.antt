@@ -1,5 +1,5 @@
 -- The encoding of formulas, one after another, and the room that each has.
-use Rattle.std.proofs.Common.{◌≡◌, ℕ, ◌+◌, ◌<◌, ◌≤◌, Bool, List, [], ◌∷◌, ◌++◌, map, reverse, length, drop, get_or, Result, Ok, Err, IsErrAnd, refl, sym, ap, ◌∙◌, subst, arith}
+use Rattle.std.proofs.Common.{◌≡◌, ℕ, zero, suc, ◌+◌, ◌<◌, ◌≤◌, Bool, List, [], ◌∷◌, ◌++◌, map, reverse, length, drop, get_or, Result, Ok, Err, IsErrAnd, refl, sym, ap, ◌∙◌, subst, arith}
 use Rattle.linear_term.specs.declared.range.TermFault.{TermFault}
 use Rattle.typed_formula.specs.declared.typed.Typed.{Typed}
 use Rattle.linear_term.specs.Linear.{Linear}
@@ -15,7 +15,7 @@ use Rattle.formula.specs.Tree.{form, forms_of}
 use Rattle.formula.specs.Made.{Made, seen}
 use Rattle.formula.proofs.Making.{made_just, left_done, pushed}
 use Rattle.encoding.specs.Encoding.{encoded, all_encoded, signed_relation}
-use Rattle.encoding.specs.Extent.{Extent, above, above_two, beside, in_both, extent, extents, extent_with}
+use Rattle.encoding.specs.Extent.{Extent, above, above_two, beside, nothing, behind_atoms, restricted_extent, in_both, extent, extents, extent_with}
 use Rattle.function_encoding.specs.Actions.{Action, relate, predicate, ran, compiled, compiled_all}
 use Rattle.function_encoding.specs.Ranged.{IsRanged, AreRanged}
 use Rattle.function_encoding.specs.Room.{HasRoom, AreActionsRanged, extent_left}
@@ -31,6 +31,17 @@ formula_as at n plus r f g e h = subst (λ z. Made form (encoded at n plus z) r)
 -- room below a node, and in two cases
 pub room_above : (n : ℕ) (e : Extent) → HasRoom n (above e) → HasRoom (n + 1) e
 room_above n e h = omega arith
+
+levels_behind : (k : ℕ) (e : Extent) → e.levels ≤ (behind_atoms k e).levels
+levels_behind zero e = omega arith
+levels_behind (suc k) e = let rest = levels_behind k e in omega (arith, rest)
+
+pub room_bound : (n k : ℕ) (e : Extent) → HasRoom n (above (restricted_extent k e)) → HasRoom (n + 1) e
+room_bound n zero e h = room_above n e h
+room_bound n (suc k) e h =
+    let all = room_above n (above (behind_atoms (suc k) (beside e nothing))) h in
+    let le = levels_behind (suc k) (beside e nothing) in
+    omega (arith, all, le)
 
 pub room_two : (n : ℕ) (a b : Extent) → HasRoom n (above_two a b) → HasRoom n a × HasRoom n b
 room_two n a b h = (omega arith, omega arith)

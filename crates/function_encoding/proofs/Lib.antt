@@ -1,10 +1,13 @@
 pub mod Acting
+pub mod Bounding
 pub mod Chosen
 pub mod Compiling
+pub mod Kept
 pub mod Encodings
 pub mod Extents
 pub mod Halting
 pub mod Limits
+pub mod Marking
 pub mod Members
 pub mod Multiples
 pub mod OwnNames

@@ -1,7 +1,9 @@
 pub mod Actions
+pub mod Bounds
 pub mod Counted
 pub mod Encoded
 pub mod Instructions
+pub mod Marks
 pub mod Members
 pub mod Ranged
 pub mod Refusals

@@ -1,5 +1,6 @@
--- Formulas and terms all of whose numbers are coefficients.
+-- Formulas and terms all of whose numbers, also those in types, are coefficients.
 use Rattle.linear_term.specs.Range.{InRange}
+use Rattle.typed_formula.specs.Sorts.{IsSortRanged}
 use Rattle.typed_formula.specs.Formula.{Formula, Formulas, Expression, Expressions, constant, compares, applies, negation, every, some, implies, iff, for_all, for_some, part, no_formula, and_formula, number, name, call, minus, total, product, choice, absolute, lesser, greater, no_expression, and_expression}
 
 abbrev mutual
@@ -12,8 +13,8 @@ abbrev mutual
   IsRanged (some fs) = AreRanged fs
   IsRanged (implies f g) = IsRanged f × IsRanged g
   IsRanged (iff f g) = IsRanged f × IsRanged g
-  IsRanged (for_all f) = IsRanged f
-  IsRanged (for_some f) = IsRanged f
+  IsRanged (for_all s f) = IsSortRanged s × IsRanged f
+  IsRanged (for_some s f) = IsSortRanged s × IsRanged f
   IsRanged (part k f) = IsRanged f
 
   pub AreRanged : Formulas → Type 0

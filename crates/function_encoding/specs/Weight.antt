@@ -13,8 +13,8 @@ abbrev mutual
   weight (some fs) = weights fs + 4
   weight (implies f g) = weight f + weight g + 4
   weight (iff f g) = weight f + weight g + 4
-  weight (for_all f) = weight f + 4
-  weight (for_some f) = weight f + 4
+  weight (for_all s f) = weight f + 4
+  weight (for_some s f) = weight f + 4
   weight (part k f) = weight f + 4
 
   pub weights : Formulas → ℕ

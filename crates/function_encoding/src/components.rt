@@ -65,8 +65,8 @@ fn collect<'a>(
         Typed::Rel(_, _, _) => Ok(()),
         Typed::Pred(_, _) => Ok(()),
         Typed::Iff(_, _) => Ok(()),
-        Typed::Forall(_) => Ok(()),
-        Typed::Exists(_) => Ok(()),
+        Typed::Forall(_, _) => Ok(()),
+        Typed::Exists(_, _) => Ok(()),
     }
 }
 

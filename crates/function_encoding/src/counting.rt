@@ -1,12 +1,14 @@
 // How large an encoding is, counted without building it: one pass over the formula, in which numbers stop at the greatest
 // u64.
 
-ghost use Rattle.std.specs.Prelude.{◌≡◌};
+ghost use Rattle.std.specs.Prelude.{◌≡◌, length};
 ghost use Rattle.typed_formula.specs.Formula.{formula, formulas_of, expression, expressions_of};
+ghost use Rattle.encoding.specs.Encoding.{bounds};
 ghost use Rattle.encoding.specs.Extent as extents_of;
 ghost use Rattle.function_encoding.specs.Counted.{counted};
 
 use formula::{Typed, TypedTerm};
+use typed_formula::Sort;
 
 /// Nodes and levels of a formula; 2^64 - 1 stands for any number from there on.
 #[derive(Clone, Copy, Debug, PartialEq, Eq)]
@@ -63,6 +65,28 @@ fn in_both(condition: Extent, rest: Extent) -> Extent
     above_two(case, case)
 }
 
+/// Formulas behind the conditions of a type.
+pub fn behind(sort: &Sort, e: Extent) -> Extent
+    ensures { counted result ≡ extents_of.behind_atoms (length (bounds sort.now)) (counted e) }
+{
+    match sort {
+        Sort::Int => e,
+        Sort::Nat => beside(LEAF, e),
+        Sort::Range(_, _) => beside(LEAF, beside(LEAF, e)),
+    }
+}
+
+/// A formula in one connective with the conditions of a type, where it has any.
+pub fn restricted(sort: &Sort, e: Extent) -> Extent
+    ensures { counted result ≡ extents_of.restricted_extent (length (bounds sort.now)) (counted e) }
+{
+    match sort {
+        Sort::Int => e,
+        Sort::Nat => above(beside(LEAF, beside(e, NOTHING))),
+        Sort::Range(_, _) => above(beside(LEAF, beside(LEAF, beside(e, NOTHING)))),
+    }
+}
+
 /// The extent of the encoding of a formula, of either sign.
 #[cycle(extent)]
 pub fn extent_of(f: &Typed) -> Extent
@@ -77,8 +101,8 @@ pub fn extent_of(f: &Typed) -> Extent
         Typed::Or(fs) => above(extents(fs.as_slice())),
         Typed::Implies(g, h) => above_two(extent_of(g.get()), extent_of(h.get())),
         Typed::Iff(g, h) => in_both(extent_of(g.get()), extent_of(h.get())),
-        Typed::Forall(g) => above(extent_of(g.get())),
-        Typed::Exists(g) => above(extent_of(g.get())),
+        Typed::Forall(sort, g) => above(restricted(sort, extent_of(g.get()))),
+        Typed::Exists(sort, g) => above(restricted(sort, extent_of(g.get()))),
         Typed::Part(_, g) => extent_of(g.get()),
     }
 }

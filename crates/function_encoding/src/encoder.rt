@@ -1,13 +1,14 @@
 // The encoder of formulas: connectives by their sign, atoms by their instructions.
 
-ghost use Rattle.std.specs.Prelude.{◌≡◌, ◌∷◌, [], ◌++◌, suc, reverse};
+ghost use Rattle.std.specs.Prelude.{◌≡◌, ◌∷◌, [], ◌++◌, suc, reverse, length};
 ghost use Rattle.linear_term.specs.Linear as linear;
 ghost use Rattle.purse.specs.Trace.{just, next};
+ghost use Rattle.typed_formula.specs.Sorts.{IsSortRanged};
 ghost use Rattle.typed_formula.specs.Formula.{formula, formulas_of, iff, implies};
 ghost use Rattle.formula.specs.Made.{Made};
 ghost use Rattle.formula.specs.Tree.{form, forms_of};
 ghost use Rattle.encoding.specs.Encoding as encoding;
-ghost use Rattle.encoding.specs.Extent.{above, above_two, extent, extents, in_both, leaf};
+ghost use Rattle.encoding.specs.Extent.{above, above_two, extent, extents, in_both, leaf, restricted_extent};
 ghost use Rattle.function_encoding.specs.Actions.{behind, parted, ran};
 ghost use Rattle.function_encoding.specs.Instructions.{actions_of};
 ghost use Rattle.function_encoding.specs.Ranged.{AreRanged, IsRanged};
@@ -17,9 +18,8 @@ ghost use Rattle.function_encoding.specs.Stops.{IsTestRanged, test_extent};
 
 use crate::actions::negated;
 use crate::atoms::{related, signed};
-use crate::building::{
-    behind_graph, both_ways, junction, pair, quantified, signed_predicate, two_cases,
-};
+use crate::bounds::bind;
+use crate::building::{behind_graph, both_ways, junction, pair, signed_predicate, two_cases};
 use crate::instruction::Instruction;
 use crate::instructions::{predicate_code, relation_code};
 use crate::naming::with_name;
@@ -30,6 +30,7 @@ use formula::{Core, Typed};
 use linear_term::{Term, TermFault};
 use sqlite_items::Items;
 use std::alloc::Global;
+use typed_formula::Sort;
 
 /// The formula with plus, its negation with minus; `at` says for each of its names which name stands for it, and n names
 /// are bound.
@@ -54,8 +55,8 @@ pub fn encoded(alloc: Global, at: &[u32], n: u32, plus: bool, f: &Typed) -> Resu
         Typed::Or(fs) => Ok(junction(!plus, all_encoded(alloc, &*at, n, plus, fs.as_slice())?)),
         Typed::Implies(g, h) => implied(alloc, &*at, n, plus, g.get(), h.get()),
         Typed::Iff(g, h) => equivalent(alloc, &*at, n, plus, g.get(), h.get()),
-        Typed::Forall(g) => bound(alloc, &*at, n, plus, plus, g.get()),
-        Typed::Exists(g) => bound(alloc, &*at, n, plus, !plus, g.get()),
+        Typed::Forall(sort, g) => bound(alloc, &*at, n, plus, plus, sort, g.get()),
+        Typed::Exists(sort, g) => bound(alloc, &*at, n, plus, !plus, sort, g.get()),
         Typed::Part(_, g) => encoded(alloc, &*at, n, plus, g.get()),
     }
 }
@@ -117,7 +118,7 @@ fn equivalent(
     Ok(both_ways(alloc, first, second, third, fourth)?)
 }
 
-/// Below a for-all, or else a for-some: the body, with the name n for the bound one.
+/// The body for all values of the type, or else for some, with the name n for the bound one.
 #[cycle(encode)]
 fn bound(
     alloc: Global,
@@ -125,15 +126,17 @@ fn bound(
     n: u32,
     plus: bool,
     for_all: bool,
+    sort: &Sort,
     g: &Typed,
 ) -> Result<Core, TermFault>
+    requires bounds { IsSortRanged sort.now }
     requires ranged { IsRanged (formula g.now) }
-    requires room { HasRoom n (above (extent (formula g.now))) }
-    ensures { Made form (next (encoding.encoded (at.now ++ n ∷ []) (suc n) plus (formula g.now)) (λ h. just (encoding.quantified for_all h))) result }
+    requires room { HasRoom n (above (restricted_extent (length (encoding.bounds sort.now)) (extent (formula g.now)))) }
+    ensures { Made form (encoding.bound_by for_all n sort.now (encoding.encoded (at.now ++ n ∷ []) (suc n) plus (formula g.now))) result }
 {
     let names = with_name(alloc, at, n)?;
     let body = encoded(alloc, names.as_slice(), n + 1, plus, &*g)?;
-    Ok(quantified(alloc, for_all, body)?)
+    bind(alloc, for_all, n, sort, body)
 }
 
 /// The formula that the instructions make over the stack.

@@ -1,12 +1,14 @@
 // The encoding of a problem, and of what parts of it assume.
 
-ghost use Rattle.std.specs.Prelude.{◌≡◌, ◌↔◌, ◌<◌, ◌^◌, ◌+◌, false, ℤ, IfOk, IsTrue, List, length, map};
+ghost use Rattle.std.specs.Prelude.{◌≡◌, ◌↔◌, ◌<◌, ◌≤◌, ◌^◌, ◌+◌, false, ℤ, IfOk, IsTrue, List, length, map, All, Ok};
 ghost use Rattle.std.specs.List.{filter};
 ghost use Rattle.typed_formula.specs.Formula.{every, formula, formulas};
 ghost use Rattle.typed_formula.specs.Truth.{Meaning, Truth};
 ghost use Rattle.pri_typing.specs.Problems.{Holds, IsPure, assumed, assumed_by, is_part_in};
 ghost use Rattle.pri_typing.specs.WellFormed.{IsWellFormed, components_of};
-ghost use Rattle.formula.specs.Form.{FormTruth, IsFormOver, conjunction, forms, is_pure};
+ghost use Rattle.purse.specs.Trace.{Traced};
+ghost use Rattle.typed_formula.specs.Sorts.{IsSortRanged};
+ghost use Rattle.formula.specs.Form.{Form, FormTruth, IsFormOver, conjunction, forms, is_pure};
 ghost use Rattle.formula.specs.Made.{Made};
 ghost use Rattle.formula.specs.Tree.{form, forms_of};
 ghost use Rattle.encoding.specs.Encoding as encoding;
@@ -20,17 +22,21 @@ ghost use Rattle.function_encoding.specs.Ranged.{AreRanged, IsRanged};
 ghost use Rattle.function_encoding.specs.Room.{HasRoom};
 
 use crate::answer::{EncodeRefusal, Encoded};
-use crate::building::quantified;
+use crate::bounds::{bind, restricted};
+use crate::conditions::conditions;
 use crate::encoder::encoded;
 use crate::largeness::is_large;
 use crate::naming::own_names;
 use formula::Core;
-use linear_term::{Memory, TermFault};
+use linear_term::TermFault;
 use pri_typing::Problem;
+use sqlite_items::Items;
 use std::alloc::Global;
+use typed_formula::Sort;
 
 /// The problem as one formula of the calculus, over its existential constants: for all values of the universal constants,
-/// its formula in negation normal form, with functions as relations and conditions of terms as cases. Large comes first,
+/// its formula in negation normal form, with functions as relations and conditions of terms as cases; where an existential
+/// constant has a type with bounds, with its bounds. Large comes first,
 /// and without memory; then Overflow exactly where a number of the encoding leaves the range, with such a one. In every
 /// interpretation the root is true at values of the existential constants exactly where the problem holds there.
 pub fn encode(alloc: Global, p: &Problem) -> Result<Encoded, EncodeRefusal>
@@ -61,20 +67,36 @@ fn root(alloc: Global, p: &Problem) -> Result<Core, TermFault>
     requires small { problems.is_large (problem_root p.now).value ≡ false }
     ensures { Made form (problem_root p.now) result }
 {
-    let universals = p.universals.len() as u32;
-    let all = p.existentials.len() as u32 + universals;
-    let names = own_names(alloc, all)?;
-    let body = encoded(alloc, names.as_slice(), all, true, &p.formula)?;
-    Ok(for_last(alloc, universals, body)?)
+    let body = body(alloc, p)?;
+    let first = p.existentials.len() as u32;
+    let all = for_last(alloc, first, p.universal_types.as_slice(), body)?;
+    let types = p.existential_types.as_slice();
+    let conditions = conditions(alloc, true, &[], 0, types, Items::new(alloc))?;
+    Ok(restricted(false, conditions, all)?)
 }
 
-/// The formula for all values of its last k names.
-fn for_last(alloc: Global, k: u32, f: Core) -> Result<Core, Memory>
-    ensures { IfOk result (λ g. form g ≡ root_of_problem.for_last k (form f)) }
+/// The encoded formula of the problem, where that is not too large.
+fn body(alloc: Global, p: &Problem) -> Result<Core, TermFault>
+    requires formed { IsWellFormed p.now }
+    requires small { problems.is_large (problem_root p.now).value ≡ false }
+    ensures { Made form (problems.body p.now) result }
+{
+    let all = p.existentials.len() as u32 + p.universals.len() as u32;
+    let names = own_names(alloc, all)?;
+    encoded(alloc, names.as_slice(), all, true, &p.formula)
+}
+
+/// The formula for all values of these types of the names from `first` on, whatever work made it.
+fn for_last(alloc: Global, first: u32, sorts: &[Sort], f: Core) -> Result<Core, TermFault>
+    requires few { first + length sorts.now ≤ 1000 }
+    requires ranged { All IsSortRanged sorts.now }
+    ensures { (work : Traced Form) → Made form work (Ok f) → Made form (root_of_problem.for_last first sorts.now work) result }
 {
     let mut all = f;
-    for _ in 0..k {
-        all = quantified(alloc, true, all)?;
+    let mut i = sorts.len();
+    while i > 0 {
+        i -= 1;
+        all = bind(alloc, true, first + i as u32, &sorts[i], all)?;
     }
     Ok(all)
 }

@@ -50,8 +50,8 @@ mutual
     λ t. alike u x w n g e d a h.2 (k.0 (alike u x w n f d e (agree_back a) h.1 t)),
     λ t. alike u x w n f e d a h.1 (k.1 (alike u x w n g d e (agree_back a) h.2 t)),
   )
-  alike u x w n (for_all f) e d a h k = λ v. alike u x w (suc n) f (e ++ v ∷ []) (d ++ v ∷ []) (agree_more x e d a v) h.1 (k v)
-  alike u x w n (for_some f) e d a h k = λ t. k (λ v y. t v (alike u x w (suc n) f (e ++ v ∷ []) (d ++ v ∷ []) (agree_more x e d a v) h.1 y))
+  alike u x w n (for_all s f) e d a h k = λ v i. alike u x w (suc n) f (e ++ v ∷ []) (d ++ v ∷ []) (agree_more x e d a v) h.1 (k v i)
+  alike u x w n (for_some s f) e d a h k = λ t. k (λ v i y. t v i (alike u x w (suc n) f (e ++ v ∷ []) (d ++ v ∷ []) (agree_more x e d a v) h.1 y))
   alike u x w n (part k f) e d a h t = alike u x w n f e d a h.1 t
 
   all_alike : Unit {1} → (x : ℕ) (w : Meaning) (n : ℕ) (fs : Formulas) (e d : List ℤ) → Agree x e d → AllEverywhere (other x) n fs → AreAllTrue w fs e → AreAllTrue w fs d

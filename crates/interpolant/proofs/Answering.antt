@@ -25,7 +25,8 @@ use Rattle.function_encoding.proofs.Roots.{made_value}
 use Rattle.interpolant.specs.declared.fault.Interpolant.{Interpolant}
 use Rattle.interpolant.specs.declared.fault.InterpolantFault.{InterpolantFault}
 use Rattle.interpolant.specs.declared.fault.InterpolantFault.TheVariants.{Elim, Encode}
-use Rattle.interpolant.specs.Names.{AreMarks, is_marked, occurs}
+use Rattle.encoding.specs.Occurrences.{occurs}
+use Rattle.function_encoding.specs.Marks.{AreMarks, is_marked}
 use Rattle.interpolant.specs.Run.{Eliminates, Interpolates, interpolating, projecting}
 use Rattle.interpolant.specs.Sides.{IsBetween, cut_of, set_of}
 use Rattle.interpolant.proofs.Projected.{projecting-same}

@@ -1,5 +1,5 @@
 -- An encoding speaks of no constant that the formula lacks.
-use Rattle.std.proofs.Common.{◌≡◌, ◌≢◌, ℕ, zero, suc, ◌+◌, ◌<◌, ◌≤◌, pos, negsuc, Bool, true, false, not, cond, nat_eq, List, [], ◌∷◌, ◌++◌, ap, arith}
+use Rattle.std.proofs.Common.{◌≡◌, ◌≢◌, ℕ, zero, suc, ◌+◌, ◌<◌, ◌≤◌, pos, negsuc, Bool, true, false, not, cond, nat_eq, List, [], ◌∷◌, ◌++◌, refl, sym, ◌∙◌, ap, subst, append_assoc, append-nil, arith}
 use Rattle.std.specs.Bool.{beq}
 use Rattle.std.proofs.lemmas.Bool.Decides.{nat_tests}
 use Rattle.linear_term.specs.Linear as linear
@@ -14,8 +14,14 @@ use Rattle.pri_typing.specs.WellFormed.{is_numeric, of_terms}
 use Rattle.formula.specs.Form as tree
 use Rattle.formula.specs.Form.{Form, Forms, forms}
 use Rattle.elim_rules.proofs.Names.{number-lacks}
-use Rattle.encoding.specs.Encoding.{named, multiple, related, signed_relation, product_of, junction, quantified, cases, encoded, all_encoded, with_value, with_values, with_sum, with_more}
-use Rattle.encoding.specs.Root.{names_from}
+use Rattle.encoding.specs.Encoding.{named, multiple, related, signed_relation, product_of, junction, quantified, Bound, least, greatest, bounds, within, outside, limits, restricted, bound_by, cases, encoded, all_encoded, with_value, with_values, with_sum, with_more}
+use Rattle.typed_formula.specs.declared.typed.Sort.{Sort}
+use Rattle.encoding.specs.Occurrences.{occurs}
+use Rattle.encoding.specs.Problems.{append, constants, parts_root, types}
+use Rattle.encoding.specs.Root.{conditions, names_from}
+use Rattle.encoding.proofs.Arithmetic.{no_test}
+use Rattle.pri_typing.specs.declared.problem.Problem.{Problem}
+use Rattle.pri_typing.specs.Problems.{assumed_by}
 use Rattle.interpolant.specs.Sides.{IsOtherName, Lacks}
 
 abbrev other : ℕ → Property
@@ -96,6 +102,49 @@ module _ (x : ℕ) where
   quantified_free true g h = h
   quantified_free false g h = h
 
+  limit_free : (all : Bool) (y : ℕ) (b : Bound) → x ≢ y → AtomsLack x (cond all (outside y b) (within y b)).value
+  unfolding next just step
+  limit_free true y (least n) d = combination-unmentioned _ _ _ _ x (name-lacks x y d) (combination-unmentioned _ _ _ _ x (number-lacks n x) (number-lacks _ x))
+  limit_free true y (greatest n) d = combination-unmentioned _ _ _ _ x (name-lacks x y d) (combination-unmentioned _ _ _ _ x (number-lacks n x) (number-lacks _ x))
+  limit_free false y (least n) d = combination-unmentioned _ _ _ _ x (name-lacks x y d) (number-lacks n x)
+  limit_free false y (greatest n) d = combination-unmentioned _ _ _ _ x (name-lacks x y d) (number-lacks n x)
+
+  limits_free : (all : Bool) (y : ℕ) (bs : List Bound) (gs : List Form) → x ≢ y → AllAtomsLack x (forms gs) → AllAtomsLack x (forms ((limits all y bs).value ++ gs))
+  unfolding next just
+  limits_free all y [] gs d h = h
+  limits_free all y (b ∷ bs) gs d h = (limit_free all y b d, limits_free all y bs gs d h)
+
+  restricted_free : (all : Bool) (y : ℕ) (bs : List Bound) (g : Form) → x ≢ y → AtomsLack x g → AtomsLack x (restricted all (limits all y bs).value g)
+  unfolding next just
+  restricted_free all y [] g d h = h
+  restricted_free true y (b ∷ bs) g d h = limits_free true y (b ∷ bs) (g ∷ []) d (h, tt)
+  restricted_free false y (b ∷ bs) g d h = limits_free false y (b ∷ bs) (g ∷ []) d (h, tt)
+
+  bound_free : (all : Bool) (y : ℕ) (s : Sort) (work : Traced Form) → x ≢ y → AtomsLack x work.value → AtomsLack x (bound_by all y s work).value
+  unfolding next just
+  bound_free all y s work d h = quantified_free all _ (restricted_free all y (bounds s) work.value d h)
+
+  one_free : (kept : ℕ → Bool) (y : ℕ) (s : Sort) (gs : List Form) → kept x ≡ false → AllAtomsLack x (forms gs)
+      → AllAtomsLack x (forms ((cond (kept y) (limits false y (bounds s)) (just [])).value ++ gs))
+  unfolding just
+  one_free kept y s gs out h = by (kept y) refl
+    where
+      by : (b : Bool) → kept y ≡ b → AllAtomsLack x (forms ((cond b (limits false y (bounds s)) (just [])).value ++ gs))
+      by true e = limits_free false y (bounds s) gs (λ d. no_test (sym out ∙ ap kept d ∙ e)) h
+      by false e = h
+
+  pub conditions_free : (kept : ℕ → Bool) (y : ℕ) (ss : List Sort) (gs : List Form) → kept x ≡ false → AllAtomsLack x (forms gs) → AllAtomsLack x (forms ((conditions kept y ss).value ++ gs))
+  unfolding next just
+  conditions_free kept y [] gs out h = h
+  conditions_free kept y (s ∷ ss) gs out h =
+      let front : List Form = (cond (kept y) (limits false y (bounds s)) (just [])).value in
+      let back : List Form = (conditions kept (suc y) ss).value in
+      subst (λ l. AllAtomsLack x (forms l)) (sym (append_assoc front back gs)) (one_free kept y s (back ++ gs) out (conditions_free kept (suc y) ss gs out h))
+
+  pub append_free : (gs : Forms) (hs : List Form) → AllAtomsLack x gs → AllAtomsLack x (forms hs) → AllAtomsLack x (append gs hs)
+  append_free tree.no_form hs p q = q
+  append_free (tree.and_form g gs) hs p q = (p.0, append_free gs hs (p.1) q)
+
   predicate_free : (plus : Bool) (p : ℕ) (ls : List Linear) → AtomsLack x (cond plus (tree.holds p ls) (tree.fails p ls))
   predicate_free true p ls = tt
   predicate_free false p ls = tt
@@ -122,8 +171,10 @@ module _ (x : ℕ) where
     encoded_free k (implies f g) at n plus s h = junction_free (not plus) _ (encoded_free k f at n (not plus) s h.1, (encoded_free k g at n plus s h.2, tt))
     encoded_free k (iff f g) at n plus s h =
         ((encoded_free k f at n (not plus) s h.1, (encoded_free k g at n true s h.2, tt)), ((encoded_free k f at n plus s h.1, (encoded_free k g at n false s h.2, tt)), tt))
-    encoded_free k (for_all f) at n plus s h = quantified_free plus (encoded (at ++ n ∷ []) (suc n) plus f).value (encoded_free (suc k) f (at ++ n ∷ []) (suc n) plus (sends_bound x at n s) h.1)
-    encoded_free k (for_some f) at n plus s h = quantified_free (not plus) (encoded (at ++ n ∷ []) (suc n) plus f).value (encoded_free (suc k) f (at ++ n ∷ []) (suc n) plus (sends_bound x at n s) h.1)
+    encoded_free k (for_all sort f) at n plus s h =
+        bound_free plus n sort (encoded (at ++ n ∷ []) (suc n) plus f) (let lt = s.behind in λ e. omega (arith, lt, e)) (encoded_free (suc k) f (at ++ n ∷ []) (suc n) plus (sends_bound x at n s) h.1)
+    encoded_free k (for_some sort f) at n plus s h =
+        bound_free (not plus) n sort (encoded (at ++ n ∷ []) (suc n) plus f) (let lt = s.behind in λ e. omega (arith, lt, e)) (encoded_free (suc k) f (at ++ n ∷ []) (suc n) plus (sends_bound x at n s) h.1)
     encoded_free k (part i f) at n plus s h = encoded_free k f at n plus s h.1
 
     all_free : (k : ℕ) (fs : Formulas) (at : List ℕ) (n : ℕ) (plus : Bool) → Sends x at n → AllEverywhere (other x) k fs → AllAtomsLack x (all_encoded at n plus fs).value
@@ -188,3 +239,11 @@ module _ (x : ℕ) where
 -- of a formula over n names that lacks one of them
 pub encoding_lacks : (x n : ℕ) (f : Formula) → x < n → Lacks x f → AtomsLack x (encoded (names_from 0 n) n true f).value
 encoding_lacks x n f lt h = encoded_free x 0 f (names_from 0 n) n true (own_sends x n lt) h
+
+-- what parts assume, with the conditions of the constants that occur in it, lacks each constant that does not
+pub parts_lack : (x : ℕ) (p : Problem) (set : List ℕ) → x < constants p → Lacks x (assumed_by p set) → occurs x (assumed_by p set) ≡ false → AtomsLack x (parts_root p set).value
+unfolding next just
+parts_lack x p set lt h out =
+    let own : List Form = (conditions (λ y. occurs y (assumed_by p set)) 0 (types p)).value in
+    append_free x _ own (encoding_lacks x (constants p) (assumed_by p set) lt h)
+    (subst (λ l. AllAtomsLack x (forms l)) (append-nil own) (conditions_free x (λ y. occurs y (assumed_by p set)) 0 (types p) [] out tt))

@@ -1,10 +1,10 @@
 pub mod Occurrences
-pub mod Marking
 pub mod Alike
 pub mod Encoded
 pub mod Eliminated
 pub mod Projected
 pub mod Steps
+pub mod Mixing
 pub mod Standing
 pub mod Answering
 pub mod Smaller

@@ -7,7 +7,7 @@ use Rattle.pri_typing.specs.Everywhere.{Property, Everywhere, AllEverywhere, Ter
 use Rattle.pri_typing.specs.WellFormed.{of_terms}
 use Rattle.clause_set.proofs.Divisors.{kept-append}
 use Rattle.equation_rules.proofs.Lists.{any-none, none-any}
-use Rattle.interpolant.specs.Names.{names_in, names_in_all, names_in_term, names_in_terms, occurs}
+use Rattle.encoding.specs.Occurrences.{names_in, names_in_all, names_in_term, names_in_terms, occurs}
 use Rattle.interpolant.specs.Sides.{IsOtherName, Lacks}
 
 abbrev Others : ℕ → List ℕ → Type 0
@@ -39,8 +39,8 @@ mutual
   others_in x n (some fs) h = others_in_all x n fs h.1
   others_in x n (implies f g) h = join x (names_in f) (names_in g) (others_in x n f h.1) (others_in x n g h.2)
   others_in x n (iff f g) h = join x (names_in f) (names_in g) (others_in x n f h.1) (others_in x n g h.2)
-  others_in x n (for_all f) h = others_in x (suc n) f h.1
-  others_in x n (for_some f) h = others_in x (suc n) f h.1
+  others_in x n (for_all s f) h = others_in x (suc n) f h.1
+  others_in x n (for_some s f) h = others_in x (suc n) f h.1
   others_in x n (part k f) h = others_in x n f h.1
 
   others_in_all : (x n : ℕ) (fs : Formulas) → AllEverywhere (other x) n fs → Others x (names_in_all fs)
@@ -75,8 +75,8 @@ mutual
   others_of x n (some fs) h = (tt, others_of_all x n fs h)
   others_of x n (implies f g) h = let k = split x (names_in f) (names_in g) h in (tt, others_of x n f k.0, others_of x n g k.1)
   others_of x n (iff f g) h = let k = split x (names_in f) (names_in g) h in (tt, others_of x n f k.0, others_of x n g k.1)
-  others_of x n (for_all f) h = (tt, others_of x (suc n) f h)
-  others_of x n (for_some f) h = (tt, others_of x (suc n) f h)
+  others_of x n (for_all s f) h = (tt, others_of x (suc n) f h)
+  others_of x n (for_some s f) h = (tt, others_of x (suc n) f h)
   others_of x n (part k f) h = (tt, others_of x n f h)
 
   others_of_all : (x n : ℕ) (fs : Formulas) → Others x (names_in_all fs) → AllEverywhere (other x) n fs

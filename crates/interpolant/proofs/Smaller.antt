@@ -10,11 +10,15 @@ use Rattle.pri_typing.specs.declared.problem.Cut.{Cut}
 use Rattle.pri_typing.specs.declared.problem.Problem.{Problem}
 use Rattle.pri_typing.specs.Problems.{assumed, assumed_by, is_part_in}
 use Rattle.pri_typing.specs.WellFormed.{IsDivision, IsWellFormed, SignedFormula, all_formula_components, components_of, formula_components, part_number, part_numbers}
-use Rattle.encoding.specs.Extent.{Extent, above, above_two, beside, extent, extents}
-use Rattle.encoding.specs.Problems.{constants, is_large, parts_root, problem_root}
-use Rattle.encoding.specs.Root.{names_from}
-use Rattle.encoding.proofs.Extents.{extent_is}
-use Rattle.function_encoding.proofs.Limits.{large_is, problem_extent}
+use Rattle.typed_formula.specs.declared.typed.Sort.{Sort}
+use Rattle.encoding.specs.Encoding.{bounds}
+use Rattle.encoding.specs.Extent.{Extent, above, above_two, behind_atoms, beside, extent, extents, nothing, restricted_extent}
+use Rattle.encoding.specs.Occurrences.{occurs}
+use Rattle.encoding.specs.Problems.{is_large, parts_root, problem_root, types}
+use Rattle.function_encoding.specs.Bounds.{below_types, extents_before, kept_bounds}
+use Rattle.function_encoding.proofs.Chosen.{parts_extent}
+use Rattle.function_encoding.proofs.Kept.{kept-two}
+use Rattle.function_encoding.proofs.Limits.{large_is, problem_extent, restricted_levels, types_levels}
 
 -- ---- nodes and levels of components
 abbrev nodes_of : List SignedFormula → ℕ
@@ -103,10 +107,10 @@ mutual
   components_stand false (applies p ts) s = alone false (applies p ts)
   components_stand true (iff f g) s = alone true (iff f g)
   components_stand false (iff f g) s = alone false (iff f g)
-  components_stand true (for_all f) s = alone true (for_all f)
-  components_stand false (for_all f) s = alone false (for_all f)
-  components_stand true (for_some f) s = alone true (for_some f)
-  components_stand false (for_some f) s = alone false (for_some f)
+  components_stand true (for_all sort f) s = alone true (for_all sort f)
+  components_stand false (for_all sort f) s = alone false (for_all sort f)
+  components_stand true (for_some sort f) s = alone true (for_some sort f)
+  components_stand false (for_some sort f) s = alone false (for_some sort f)
   components_stand true (part k f) s = alone true (part k f)
   components_stand false (part k f) s = alone false (part k f)
 
@@ -135,10 +139,10 @@ above_or_alone true (applies p ts) s = inr (_, refl)
 above_or_alone false (applies p ts) s = inr (_, refl)
 above_or_alone true (iff f g) s = inr (_, refl)
 above_or_alone false (iff f g) s = inr (_, refl)
-above_or_alone true (for_all f) s = inr (_, refl)
-above_or_alone false (for_all f) s = inr (_, refl)
-above_or_alone true (for_some f) s = inr (_, refl)
-above_or_alone false (for_some f) s = inr (_, refl)
+above_or_alone true (for_all sort f) s = inr (_, refl)
+above_or_alone false (for_all sort f) s = inr (_, refl)
+above_or_alone true (for_some sort f) s = inr (_, refl)
+above_or_alone false (for_some sort f) s = inr (_, refl)
 above_or_alone true (part k f) s = inr (_, refl)
 above_or_alone false (part k f) s = inr (_, refl)
 
@@ -160,8 +164,8 @@ same_part (every fs) k l h g = no_number k h
 same_part (some fs) k l h g = no_number k h
 same_part (implies f g) k l h i = no_number k h
 same_part (iff f g) k l h i = no_number k h
-same_part (for_all f) k l h g = no_number k h
-same_part (for_some f) k l h g = no_number k h
+same_part (for_all sort f) k l h g = no_number k h
+same_part (for_some sort f) k l h g = no_number k h
 
 -- two different parts
 record TwoParts (parts : ℕ) : Type 0 where
@@ -217,15 +221,13 @@ assumed_extent c = by c.plus
     by true = refl
     by false = refl
 
-assumed_extents : (cs : List SignedFormula) → ((extents (formulas (map assumed cs))).nodes ≤ nodes_of cs) × ((extents (formulas (map assumed cs))).levels ≤ levels_of cs)
-assumed_extents [] = (omega arith, omega arith)
-assumed_extents (c ∷ cs) =
-    let rest = assumed_extents cs in
-    let n = rest.0 in
-    let l = rest.1 in
-    let cn = ap (λ (e : Extent). e.nodes) (assumed_extent c) in
-    let cl = ap (λ (e : Extent). e.levels) (assumed_extent c) in
-    (omega (arith, n, cn), omega (arith, l, cl))
+abbrev nodes_sum : Formulas → ℕ
+nodes_sum no_formula = 0
+nodes_sum (and_formula f fs) = (extent f).nodes + nodes_sum fs
+
+abbrev levels_max : Formulas → ℕ
+levels_max no_formula = 0
+levels_max (and_formula f fs) = max (extent f).levels (levels_max fs)
 
 within : (k n l : ℕ) → (nat_lt 1000000 (capped (k + n)) || nat_lt 2000 (capped (k + l))) ≡ false → (n ≤ 1000000) × (l ≤ 2000)
 within k n l h = by (nat_lt 1000000 (capped (k + n))) refl h
@@ -237,28 +239,122 @@ within k n l h = by (nat_lt 1000000 (capped (k + n))) refl h
         let sl : capped (k + l) ≤ 2000 = grind (arith, nat_tests) in
         (omega (arith, sn), omega (arith, sl))
 
+capped_tests : (n l : ℕ) → (nat_lt 1000000 n || nat_lt 2000 l) ≡ false → (nat_lt 1000000 (capped (0 + n)) || nat_lt 2000 (capped (0 + l))) ≡ false
+capped_tests n l h =
+    let one : nat_lt 1000000 (capped (0 + n)) ≡ nat_lt 1000000 n = grind (arith, nat_tests) in
+    let two : nat_lt 2000 (capped (0 + l)) ≡ nat_lt 2000 l = grind (arith, nat_tests) in
+    (λ i. one i || two i) ∙ h
+
 small_tests : (n l : ℕ) → n ≤ 1000000 → l ≤ 2000 → (nat_lt 1000000 n || nat_lt 2000 l) ≡ false
 small_tests n l h k =
     let one : nat_lt 1000000 n ≡ false = grind (arith, nat_tests) in
     let two : nat_lt 2000 l ≡ false = grind (arith, nat_tests) in
     λ i. one i || two i
 
+-- more nodes, and how many there are at least and at most
+least_nodes : (k : ℕ) (e : Extent) → (behind_atoms k e).nodes ≤ 1000000 → k + e.nodes ≤ (behind_atoms k e).nodes
+least_nodes zero e h = omega arith
+least_nodes (suc k) e h = let rest = least_nodes k e (omega (arith, h)) in omega (arith, h, rest)
+
+restricted_nodes : (k : ℕ) (e : Extent) → (restricted_extent k e).nodes ≤ 1000000 → k + e.nodes ≤ (restricted_extent k e).nodes
+restricted_nodes zero e h = omega arith
+restricted_nodes (suc k) e h =
+    let all = behind_atoms (suc k) (beside e nothing) in
+    let small : all.nodes ≤ 1000000 = omega (arith, h) in
+    let rest = least_nodes (suc k) (beside e nothing) small in
+    omega (arith, h, small, rest)
+
+types_nodes : (x : ℕ) (ss : List Sort) (e : Extent) → (below_types ss e).nodes ≤ 1000000 → kept_bounds (λ y. true) x ss + e.nodes ≤ (below_types ss e).nodes
+types_nodes x [] e h = omega arith
+types_nodes x (s ∷ ss) e h =
+    let under = restricted_extent (length (bounds s)) (below_types ss e) in
+    let small : under.nodes ≤ 1000000 = omega (arith, h) in
+    let own = restricted_nodes (length (bounds s)) (below_types ss e) small in
+    let rest = types_nodes (suc x) ss e (omega (arith, own, small)) in
+    omega (arith, h, small, own, rest)
+
+most_nodes : (k : ℕ) → (behind_atoms k nothing).nodes ≤ k
+most_nodes zero = omega arith
+most_nodes (suc k) = let rest = most_nodes k in omega (arith, rest)
+
+most_levels : (k : ℕ) → (behind_atoms k nothing).levels ≤ 1
+most_levels zero = omega arith
+most_levels (suc k) = let rest = most_levels k in omega (arith, rest)
+
+before_nodes : (fs : Formulas) (e : Extent) → ((extents_before fs e).nodes ≤ nodes_sum fs + e.nodes) × ((extents_before fs e).levels ≤ max (levels_max fs) e.levels)
+before_nodes no_formula e = (omega arith, omega arith)
+before_nodes (and_formula f fs) e = let rest = before_nodes fs e in let n = rest.0 in let l = rest.1 in (omega (arith, n), omega (arith, l))
+
+assumed_sums : (cs : List SignedFormula) → (nodes_sum (formulas (map assumed cs)) ≡ nodes_of cs) × (levels_max (formulas (map assumed cs)) ≡ levels_of cs)
+assumed_sums [] = (refl, refl)
+assumed_sums (c ∷ cs) =
+    let rest = assumed_sums cs in
+    (λ i. (assumed_extent c i).nodes + rest.0 i, λ i. max (assumed_extent c i).levels (rest.1 i))
+
+fewer : (kept : ℕ → Bool) (x : ℕ) (ss : List Sort) → kept_bounds kept x ss ≤ kept_bounds (λ y. true) x ss
+fewer kept x [] = omega arith
+fewer kept x (s ∷ ss) = by (kept x) (fewer kept (suc x) ss)
+  where
+    by : (b : Bool) → kept_bounds kept (suc x) ss ≤ kept_bounds (λ y. true) (suc x) ss
+        → cond b (length (bounds s)) 0 + kept_bounds kept (suc x) ss ≤ length (bounds s) + kept_bounds (λ y. true) (suc x) ss
+    by true h = omega (arith, h)
+    by false h = omega (arith, h)
+
+-- of a problem with few nodes and levels
+record Inside (p : Problem) : Type 0 where
+  all : ℕ
+  are : kept_bounds (λ y. true) 0 (types p) ≡ all
+  nodes : all + (extent (formula p.formula)).nodes ≤ 1000000
+  levels : (extent (formula p.formula)).levels ≤ 2000
+
+any_start : (x y : ℕ) (ss : List Sort) → kept_bounds (λ z. true) x ss ≡ kept_bounds (λ z. true) y ss
+any_start x y [] = refl
+any_start x y (s ∷ ss) = ap (λ k. length (bounds s) + k) (any_start (suc x) (suc y) ss)
+
+inside : (p : Problem) → is_large (problem_root p).value ≡ false → Inside p
+inside p small =
+    let e = extent (formula p.formula) in
+    let below = below_types p.universal_types e in
+    let k = kept_bounds (λ y. true) 0 p.existential_types in
+    let w = within 0 (restricted_extent k below).nodes (restricted_extent k below).levels (capped_tests (restricted_extent k below).nodes (restricted_extent k below).levels (large_is (problem_root p).value _ (problem_extent p) ∙ small)) in
+    let wn = w.0 in
+    let wl = w.1 in
+    let rn = restricted_nodes k below wn in
+    let bn = types_nodes 0 p.universal_types e (omega (arith, wn, rn)) in
+    record {
+      all = k + kept_bounds (λ y. true) 0 p.universal_types;
+      are = kept-two (λ y. true) 0 p.existential_types p.universal_types ∙ ap (λ j. k + j) (any_start (0 + length p.existential_types) 0 p.universal_types);
+      nodes = omega (arith, wn, rn, bn);
+      levels = types_levels p.universal_types e (restricted_levels k below wl);
+    }
+
 pub parts_small : (p : Problem) (cut : Cut) (set : List ℕ) → IsWellFormed p → Contains p.cuts cut → is_large (problem_root p).value ≡ false → is_large (parts_root p set).value ≡ false
 parts_small p cut set formed among small =
     let f = formula p.formula in
     let cs = components_of p in
     let q : SignedFormula → Bool = λ c. is_part_in set c.what in
-    let w = within (length p.universals) (extent f).nodes (extent f).levels (large_is (problem_root p).value _ (problem_extent p) ∙ small) in
-    let stand : Stand 1 (extent f) cs = elim (above_or_alone true f (record { nodes = w.0; levels = w.1 })) [ inl h ↦ h | inr h ↦ absurd (not_alone p cut formed among h) ] in
-    let kept = nodes-filter q cs in
-    let parts = assumed_extents (filter q cs) in
-    let n = w.0 in
-    let l = w.1 in
+    let kept : ℕ → Bool = λ x. occurs x (assumed_by p set) in
+    let in_limits = inside p small in
+    let n = in_limits.nodes in
+    let l = in_limits.levels in
+    let are = in_limits.are in
+    let stand : Stand 1 (extent f) cs = elim (above_or_alone true f (record { nodes = omega (arith, n); levels = l })) [ inl h ↦ h | inr h ↦ absurd (not_alone p cut formed among h) ] in
+    let chosen = nodes-filter q cs in
+    let fs = formulas (map assumed (filter q cs)) in
+    let sums = assumed_sums (filter q cs) in
+    let k = kept_bounds kept 0 (types p) in
+    let own = before_nodes fs (behind_atoms k nothing) in
+    let most = fewer kept 0 (types p) in
+    let an = most_nodes k in
+    let al = most_levels k in
     let sn = stand.nodes in
     let sl = stand.levels in
-    let kn = kept.0 in
-    let kl = kept.1 in
-    let pn = parts.0 in
-    let pl = parts.1 in
-    sym (large_is (parts_root p set).value (extent (assumed_by p set)) (extent_is (assumed_by p set) (names_from 0 (constants p)) (constants p) true))
-    ∙ small_tests (extent (assumed_by p set)).nodes (extent (assumed_by p set)).levels (omega (arith, n, sn, kn, pn)) (omega (arith, l, sl, kl, pl))
+    let cn = chosen.0 in
+    let cl = chosen.1 in
+    let mn = sums.0 in
+    let ml = sums.1 in
+    let on = own.0 in
+    let ol = own.1 in
+    let e = above (extents_before fs (behind_atoms k nothing)) in
+    sym (large_is (parts_root p set).value e (parts_extent p set))
+    ∙ small_tests e.nodes e.levels (omega (arith, n, are, most, an, sn, cn, mn, on)) (omega (arith, l, al, sl, cl, ml, ol))

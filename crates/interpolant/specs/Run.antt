@@ -19,7 +19,7 @@ use Rattle.function_encoding.specs.Encoded.{Encodes}
 use Rattle.interpolant.specs.declared.fault.Interpolant.{Interpolant}
 use Rattle.interpolant.specs.declared.fault.InterpolantFault.{InterpolantFault}
 use Rattle.interpolant.specs.declared.fault.InterpolantFault.TheVariants.{Elim, Encode}
-use Rattle.interpolant.specs.Names.{occurs}
+use Rattle.encoding.specs.Occurrences.{occurs}
 
 -- the work in a log of its own
 abbrev pub in_new_log : {A : Type 0} → Traced A → Traced A

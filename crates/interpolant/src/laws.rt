@@ -10,17 +10,17 @@ ghost use Rattle.pri_typing.specs.WellFormed.{IsWellFormed};
 ghost use Rattle.clause_set.specs.declared.literal.Literal.{Literal};
 ghost use Rattle.clause_set.specs.Literals.{dnf_truth};
 ghost use Rattle.encoding.specs.Problems.{constants, is_large, parts_root, problem_root};
-ghost use Rattle.interpolant.specs.Names.{occurs};
-ghost use Rattle.interpolant.specs.Sides.{Contradict, IsBetween, Lacks, side};
+ghost use Rattle.encoding.specs.Occurrences.{occurs};
+ghost use Rattle.interpolant.specs.Sides.{AreTyped, Contradict, IsBetween, Lacks, side};
 
-/// Where a problem holds and no component is plainly true, the two sides of a cut are never true together; nor are what
-/// stands between them and the second side.
+/// Where a problem holds and no component is plainly true, the two sides of a cut are never true together at values of the
+/// constants' types; nor are what stands between them and the second side.
 pub fn apart_law()
     ensures sides { (w : Meaning) (p : Problem) (cut : Cut) → IsWellFormed p → p.existentials ≡ [] → Contains p.cuts cut → length cut.sets ≡ 2
         → ¬ (IsPlainlyValid p) → Holds w p [] → Contradict w p (side p cut 0) (side p cut 1) }
     ensures between { (w : Meaning) (p : Problem) (cut : Cut) (d : List (List Literal)) → IsWellFormed p → p.existentials ≡ [] → Contains p.cuts cut
         → length cut.sets ≡ 2 → ¬ (IsPlainlyValid p) → Holds w p [] → IsBetween w p (side p cut 0) (side p cut 1) d
-        → (e : List ℤ) → length e ≡ constants p → dnf_truth d e ≡ true → ¬ (Truth w (side p cut 1) e) }
+        → (e : List ℤ) → AreTyped p e → dnf_truth d e ≡ true → ¬ (Truth w (side p cut 1) e) }
 {}
 
 /// What parts of a problem with a cut assume is not too large to be encoded, where the problem is not.

@@ -4,7 +4,6 @@
 
 mod fault;
 mod laws;
-mod marks;
 mod parts;
 mod projection;
 

@@ -8,9 +8,8 @@ ghost use Rattle.interpolant.specs.Run.{Interpolates};
 ghost use Rattle.interpolant.specs.Sides.{IsBetween, cut_of, set_of, side};
 
 use crate::fault::{Interpolant, InterpolantFault};
-use crate::marks::marks_of;
 use crate::projection::project;
-use function_encoding::encode_parts;
+use function_encoding::{encode_parts, marks_of};
 use pri_typing::Problem;
 use purse::Purse;
 use std::alloc::Global;

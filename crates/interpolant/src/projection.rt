@@ -3,7 +3,7 @@
 ghost use Rattle.std.specs.Prelude.{◌≡◌, ◌≤◌, ◌<◌, ◌+◌, ◌^◌, length};
 ghost use Rattle.formula.specs.Sizes.{depth};
 ghost use Rattle.formula.specs.Tree.{form};
-ghost use Rattle.interpolant.specs.Names.{is_marked};
+ghost use Rattle.function_encoding.specs.Marks.{is_marked};
 ghost use Rattle.interpolant.specs.Run as run;
 ghost use Rattle.interpolant.specs.Run.{Eliminates, others_out, projecting};
 

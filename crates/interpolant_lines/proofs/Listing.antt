@@ -1,8 +1,8 @@
 -- The lines of blocks: one list of them, the same for the same problem, and where each comes.
-use Rattle.std.proofs.Common.{◌≡◌, inl, inr, ◌<◌, ◌+◌, ℕ, zero, suc, Bool, true, false, if◌then◌else◌, List, [], ◌∷◌, length, map, filter, take, refl, sym, ◌∙◌, ap, subst, codes, slice_index_or, arith}
+use Rattle.std.proofs.Common.{◌≡◌, inl, inr, ◌<◌, ◌+◌, ℕ, zero, suc, Bool, true, false, if◌then◌else◌, List, [], ◌∷◌, ◌++◌, length, map, filter, take, refl, sym, ◌∙◌, ap, subst, codes, slice_index_or, arith}
 use Rattle.linear_term.specs.declared.range.Place.{Place}
 use Rattle.purse.specs.Runs.{raw_stay}
-use Rattle.purse.specs.Trace.{Funds, At, at, End, done, refused, out_of_range, stand, Traced}
+use Rattle.purse.specs.Trace.{Funds, At, at, End, done, refused, out_of_range, stand, Traced, just, next}
 use Rattle.purse.specs.Trace as trace
 use Rattle.typed_formula.specs.Formula.{Formula, every, formulas}
 use Rattle.formula.specs.Form.{Form}
@@ -13,9 +13,9 @@ use Rattle.pri_typing.specs.Problems.{assumed, assumed_by, is_part_in}
 use Rattle.pri_typing.specs.WellFormed.{formula_components}
 use Rattle.pri_printer.specs.Printed.{dnf_text}
 use Rattle.encoding.specs.Encoding.{encoded}
-use Rattle.encoding.specs.Problems.{constants, parts_root}
-use Rattle.encoding.specs.Root.{names_from}
-use Rattle.interpolant.specs.Names.{occurs}
+use Rattle.encoding.specs.Problems.{constants, extended, parts_root}
+use Rattle.encoding.specs.Root.{conditions, names_from}
+use Rattle.encoding.specs.Occurrences.{occurs}
 use Rattle.interpolant.specs.Run.{interpolating, projecting}
 use Rattle.interpolant.specs.Sides.{cut_of, set_of}
 use Rattle.problem_file.specs.Reads.{AreSame}
@@ -79,7 +79,8 @@ module _ (p q : Problem) (same : AreSame p q) where
   assumed_same set = ap (λ f. every (formulas (map assumed (filter (λ c. is_part_in set c.what) (formula_components true f))))) same.formula
 
   root_same : (set : List ℕ) → parts_root p set ≡ parts_root q set
-  root_same set = ap (λ n. encoded (names_from 0 n) n true (assumed_by p set)) constants_same ∙ ap (encoded (names_from 0 (constants q)) (constants q) true) (assumed_same set)
+  root_same set = λ i. next (encoded (names_from 0 (constants_same i)) (constants_same i) true (assumed_same set i)) (λ f.
+      next (conditions (λ x. occurs x (assumed_same set i)) 0 (same.existential_types i ++ same.universal_types i)) (λ hs. just (extended f hs)))
 
   run_same : (first second : List ℕ) → interpolating p first second ≡ interpolating q first second
   unfolding interpolating

@@ -84,8 +84,8 @@ printed_lacks p d x lt h =
 -- what stands between two formulas is printed as a formula that does
 printed_between : (w : Meaning) (p : Problem) (first second : Formula) (d : List (List Literal)) → IsBetween w p first second d → Between w p first (dnf_formula p d) second
 printed_between w p first second d is = record {
-  follows = λ e many t. (printed_true w p d e is.over many).1 (is.follows e many t);
-  contradicts = λ apart e many t. is.contradicts apart e many ((printed_true w p d e is.over many).0 t);
+  follows = λ e l t. (printed_true w p d e is.over l.many).1 (is.follows e l t);
+  contradicts = λ apart e l t. is.contradicts apart e l ((printed_true w p d e is.over l.many).0 t);
   shared = λ x lt h. printed_lacks p d x lt (is.shared x lt h);
   plain = printed_plain p d;
 }
@@ -107,7 +107,7 @@ module _ (w : Meaning) (p : Problem) (formed : IsWellFormed p) (pure : IsPure p)
         formula = dnf_formula p d;
         says = says.says;
         between = printed_between w p (side p b 0) (side p b 1) d is;
-        apart = λ plain v many t. between_apart w p b d formed alone among two plain holds is v many ((printed_true w p d v is.over many).0 t);
+        apart = λ plain v l t. between_apart w p b d formed alone among two plain holds is v l ((printed_true w p d v is.over l.many).0 t);
       })
   line_means b old text among two (steps out e) = unknown (codes "steps") e
   line_means b old text among two (overflow out e) = unknown (codes "overflow") e

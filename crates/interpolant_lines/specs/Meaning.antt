@@ -1,19 +1,19 @@
 -- What the lines of `\interpolant` blocks mean.
-use Rattle.std.specs.Prelude.{◌≡◌, ◌⊎◌, ◌<◌, ℕ, ℤ, List, [], ◌∷◌, length}
+use Rattle.std.specs.Prelude.{◌≡◌, ◌⊎◌, ◌<◌, ℕ, ℤ, List, [], ◌∷◌}
 use Rattle.typed_formula.specs.Formula.{Formula}
 use Rattle.typed_formula.specs.Truth.{Meaning, Truth}
 use Rattle.pri_typing.specs.declared.problem.Cut.{Cut}
 use Rattle.pri_typing.specs.declared.problem.Problem.{Problem}
 use Rattle.pri_typing.specs.Problems.{IsPlainlyValid, IsWithoutApplication, Says}
 use Rattle.encoding.specs.Problems.{constants}
-use Rattle.interpolant.specs.Sides.{Contradict, Lacks, side}
+use Rattle.interpolant.specs.Sides.{AreTyped, Contradict, Lacks, side}
 use Rattle.constraint_text.specs.Constraint.{interpolant_line}
 use Rattle.interpolant_lines.specs.Blocks.{unknown_line}
 
--- The formula stands between the others: it follows from the first; it contradicts the second where the first does; and it speaks
--- of those constants alone that stand in both, and of no predicate and no function.
+-- The formula stands between the others, at values of the constants' types: it follows from the first; it contradicts the second
+-- where the first does; and it speaks of those constants alone that stand in both, and of no predicate and no function.
 pub record Between (w : Meaning) (p : Problem) (first between second : Formula) : Type 0 where
-  pub follows : (e : List ℤ) → length e ≡ constants p → Truth w first e → Truth w between e
+  pub follows : (e : List ℤ) → AreTyped p e → Truth w first e → Truth w between e
   pub contradicts : Contradict w p first second → Contradict w p between second
   pub shared : (x : ℕ) → x < constants p → Lacks x first ⊎ Lacks x second → Lacks x between
   pub plain : IsWithoutApplication between

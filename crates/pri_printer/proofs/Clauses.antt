@@ -9,6 +9,7 @@ use Rattle.pri_reader.specs.declared.tree.Comparison.{Comparison}
 use Rattle.pri_reader.specs.declared.tree.Comparison.TheVariants as comparison
 use Rattle.pri_reader.specs.Grammar.{sum, unary, chain, conjunction, disjunction, whole, comparison_sign}
 use Rattle.typed_formula.specs.Formula.{Formula, Expression, number, name, minus, product, compares, for_some, negation}
+use Rattle.typed_formula.specs.declared.typed.Sort.TheVariants as sort
 use Rattle.typed_formula.specs.Formula as logic
 use Rattle.typed_formula.specs.declared.typed.Relation.TheVariants as relation
 use Rattle.clause_set.specs.declared.literal.Literal.{Literal}
@@ -53,8 +54,8 @@ divides_spelled : (n : ℕ) (sc : Scope) (names : List (List ℕ)) (k : List ℕ
 divides_spelled n sc names k m c d t r h =
     let body = compares relation.Eq (term_value t) (product (number (pos (unsigned_abs d))) (name m)) in
     let side = IsTerm (within k sc) (product (number (pos (unsigned_abs d))) (name m)) in
-    exists_spelled (suc (suc n)) (IsFormula (within k sc) body) (IsFormula sc (for_some body)) k _
-    (λ at place f q. record { faultless = λ x. q.faultless (ph.first_token f); is = ap for_some q.is })
+    exists_spelled (suc (suc n)) (IsFormula (within k sc) body) (IsFormula sc (for_some sort.Int body)) k _
+    (λ at place f q. record { faultless = λ x. q.faultless (ph.first_token f); is = ap (for_some sort.Int) q.is })
     c.quotient.is c.quotient.identifier
     (compared_is (suc (suc n)) comparison.Equal (32 ∷ 61 ∷ 32 ∷ []) (within k sc) (term_value t) (product (number (pos (unsigned_abs d))) (name m)) _ _ equal_sign
     (linear_spelled n (within k sc) names c.inside t.pairs t.constant h)

@@ -218,16 +218,17 @@ bound_self p k =
 bound_other : (p : Problem) (k u : List ℕ) → is_text u k ≡ false → refers (within k (scope_of_problem p)) u ≡ refers (scope_of_problem p) u
 bound_other p k u h = ap (λ c. bound_or_declared (scope_of_problem p).declared (if c then Some 0 else None) (declared_from [] u (scope_of_problem p).declared)) h
 
-word_cases : (n a b c : Bool) → (n && not (a || (b || (c || false)))) ≡ true
-    → (n ≡ true) × ((if a then t.Int else (if b then t.True else (if c then t.False else t.Identifier))) ≡ t.Identifier)
-word_cases false a b c h = absurd (false≢true h)
-word_cases true true b c h = absurd (false≢true h)
-word_cases true false true c h = absurd (false≢true h)
-word_cases true false false true h = absurd (false≢true h)
-word_cases true false false false h = (refl, refl)
+word_cases : (n a b c d : Bool) → (n && not (a || (b || (c || (d || false))))) ≡ true
+    → (n ≡ true) × ((if a then t.Int else (if b then t.Nat else (if c then t.True else (if d then t.False else t.Identifier)))) ≡ t.Identifier)
+word_cases false a b c d h = absurd (false≢true h)
+word_cases true true b c d h = absurd (false≢true h)
+word_cases true false true c d h = absurd (false≢true h)
+word_cases true false false true d h = absurd (false≢true h)
+word_cases true false false false true h = absurd (false≢true h)
+word_cases true false false false false h = (refl, refl)
 
 word_by : (text : List ℕ) → IsIdentifier text → (is_name text ≡ true) × (word_of text ≡ t.Identifier)
-word_by text h = word_cases (is_name text) (bytes_eq text (codes "int")) (bytes_eq text (codes "true")) (bytes_eq text (codes "false")) h
+word_by text h = word_cases (is_name text) (bytes_eq text (codes "int")) (bytes_eq text (codes "nat")) (bytes_eq text (codes "true")) (bytes_eq text (codes "false")) h
 
 identifier_at : (names : List (List ℕ)) (x : ℕ) → AllByRecursion IsIdentifier names → x < length names → IsIdentifier (get_or names x [])
 identifier_at [] x h l = absurd (omega arith)

@@ -5,6 +5,7 @@ use Rattle.std.specs.List.{list_any}
 use Rattle.std.specs.Ordering.{int_eq}
 use Rattle.linear_term.specs.Linear.{Linear, mentions, has_name}
 use Rattle.typed_formula.specs.Formula.{Formula, Formulas, Expression, Expressions, expressions, formulas, number, name, minus, product, total, compares, negation, every, some, for_some}
+use Rattle.typed_formula.specs.declared.typed.Sort.TheVariants as sort
 use Rattle.typed_formula.specs.Formula as logic
 use Rattle.typed_formula.specs.declared.typed.Relation.{Relation}
 use Rattle.clause_set.specs.declared.literal.Literal.{Literal}
@@ -33,7 +34,7 @@ record Suits (Q : Property) (P : ℕ → Type 0) (n : ℕ) : Type 0 where
   negated : (k : ℕ) (f : Formula) → Q.of_formula k (negation f)
   every_is : (k : ℕ) (fs : Formulas) → Q.of_formula k (every fs)
   some_is : (k : ℕ) (fs : Formulas) → Q.of_formula k (some fs)
-  bound : (k : ℕ) (f : Formula) → Q.of_formula k (for_some f)
+  bound : (k : ℕ) (f : Formula) → Q.of_formula k (for_some sort.Int f)
 
 abbrev SummandNames : (ℕ → Type 0) → Summand → Type 0
 SummandNames P (alone n) = Unit {0}

@@ -11,7 +11,8 @@ use Rattle.pri_tokens.specs.Spellings.{word_of}
 use Rattle.pri_reader.specs.declared.tree.Expr.{Expr}
 use Rattle.pri_reader.specs.declared.tree.Comparison.{Comparison}
 use Rattle.pri_reader.specs.declared.tree.Form.TheVariants as form
-use Rattle.pri_reader.specs.Grammar.{Setting, Derives, Takes, Part, right, chain, unary, rel, sum, factor, primary, whole, equivalence, implication, multiplication, disjunction, conjunction, right_one, right_two, chain_all, member_first, unary_not, unary_bound, unary_rel, rel_one, rel_two, sum_all, term_first, factor_minus, factor_primary, number, truth, use_bare, join, expr, comparison_sign, bound_first, name_of, value_of, truth_word}
+use Rattle.pri_reader.specs.declared.tree.TypeName.TheVariants as type
+use Rattle.pri_reader.specs.Grammar.{Setting, Derives, Takes, Part, right, chain, unary, rel, sum, factor, primary, whole, equivalence, implication, multiplication, disjunction, conjunction, right_one, right_two, chain_all, member_first, unary_not, unary_bound, unary_rel, rel_one, rel_two, sum_all, term_first, factor_minus, factor_primary, number, truth, use_bare, join, expr, comparison_sign, type_int, bound_first, of_type, name_of, value_of, truth_word}
 use Rattle.pri_typing.specs.Phrase.{Phrase, phrase}
 use Rattle.pri_typing.specs.Phrase as ph
 use Rattle.pri_printer.specs.Text.{exists_text}
@@ -249,7 +250,7 @@ exists_rest name body rest =
     ap (λ z. (92 ∷ 101 ∷ 120 ∷ 105 ∷ 115 ∷ 116 ∷ 115 ∷ []) ++ (32 ∷ ((105 ∷ 110 ∷ 116 ∷ []) ++ (32 ∷ z)))) (append_assoc name (59 ∷ (32 ∷ body)) rest)
 
 pub exists_spelled : (n : ℕ) (Q R : Phrase → Type 0) (name text : List ℕ)
-    → ((at place : ℕ) (f : Phrase) → Q f → R (ph.quantified at false (record { at = place; text = name } ∷ []) f))
+    → ((at place : ℕ) (f : Phrase) → Q f → R (ph.quantified at false (of_type type.Int (record { at = place; text = name }) ∷ []) f))
     → is_name name ≡ true → word_of name ≡ t.Identifier → Spells n unary Q text → Spells (suc n) unary R (exists_text name text)
 exists_spelled n Q R name text r w i h = record {
   wherever = λ s d rest a e p.
@@ -272,24 +273,24 @@ exists_spelled n Q R name text r w i h = record {
       let v = lexeme_at s.bytes (59 ∷ (32 ∷ body)) 1 t.Semicolon in
       let same = text-lexed s.bytes name (59 ∷ (32 ∷ body)) (word_of name) e5 in
       subst (λ u. Derived s d unary R u rest) (sym q) (record {
-        expression = expr x.at (form.Quantified false (name_of s z ∷ []) g.expression);
+        expression = expr x.at (form.Quantified false (of_type type.Int (name_of s z) ∷ []) g.expression);
         derived = unary_bound {all = false} {x = x} {c = v}
             (record {
               parts = command_lexed s.bytes word (32 ∷ (int ++ (32 ∷ (name ++ (59 ∷ (32 ∷ body)))))) e1 refl refl
                   ∙ ap (λ u. x ∷ u) (blank_lexed s.bytes (int ++ (32 ∷ (name ++ (59 ∷ (32 ∷ body))))) e2);
               is = refl;
             })
-            (bound_first {several = false} {i = y} {x = z}
-            (record {
+            (bound_first {several = false} {x = z}
+            (type_int {x = y} (record {
               parts = name_lexed s.bytes int (32 ∷ (name ++ (59 ∷ (32 ∷ body)))) e3 refl refl
                   ∙ ap (λ u. y ∷ u) (blank_lexed s.bytes (name ++ (59 ∷ (32 ∷ body))) e4);
               is = refl;
-            })
+            }))
             (record { parts = name_lexed s.bytes name (59 ∷ (32 ∷ body)) e5 w refl; is = i })
             (a.levels _ d (omega arith)))
             (record { parts = sign_lexed s.bytes (32 ∷ body) 59 t.Semicolon e6 refl ∙ ap (λ u. v ∷ u) (blank_lexed s.bytes body e7); is = refl })
             g.derived;
         is = subst R (sym (phrase-form _ ∙ phrase-Quantified _ _ _ _
-            ∙ ap (λ u. ph.quantified x.at false (record { at = z.at; text = u } ∷ []) (phrase g.expression)) same)) (r x.at z.at (phrase g.expression) g.is);
+            ∙ ap (λ u. ph.quantified x.at false (of_type type.Int (record { at = z.at; text = u }) ∷ []) (phrase g.expression)) same)) (r x.at z.at (phrase g.expression) g.is);
       });
 }

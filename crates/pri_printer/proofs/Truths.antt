@@ -55,10 +55,10 @@ body_is w e v d t h =
 divides_true : (w : Meaning) (e : List ℤ) (d : ℤ) (t : Linear) → PairNames (IsBelow (length e)) t.pairs
     → Truth w (divides_formula (length e) d t) e ↔ (divides (unsigned_abs d) (value_of t e) ≡ true)
 divides_true w e d t h = (
-  λ u. test_stable _ (λ no. u (λ v b. no (test_from_Divides (unsigned_abs d) (value_of t e)
+  λ u. test_stable _ (λ no. u (λ v i b. no (test_from_Divides (unsigned_abs d) (value_of t e)
       (record { quotient = v; is = swap_back _ v (unsigned_abs d) ((by_path (body_is w e v (unsigned_abs d) t h)).0 b) })))),
   λ b all. let q = Divides_from_test (unsigned_abs d) (value_of t e) b in
-      all q.quotient ((by_path (body_is w e q.quotient (unsigned_abs d) t h)).1 (swap _ q.quotient (unsigned_abs d) q.is)),
+      all q.quotient tt ((by_path (body_is w e q.quotient (unsigned_abs d) t h)).1 (swap _ q.quotient (unsigned_abs d) q.is)),
 )
 
 not_true : (b : Bool) → (¬ (b ≡ true)) ↔ (not b ≡ true)

@@ -2,6 +2,7 @@
 -- the name n.
 use Rattle.std.specs.Prelude.{ℕ, ℤ, pos, Bool, true, false, cond, nat_eq, unsigned_abs, List, [], ◌∷◌, map}
 use Rattle.linear_term.specs.Linear.{Linear}
+use Rattle.typed_formula.specs.declared.typed.Sort.TheVariants as sort
 use Rattle.typed_formula.specs.Formula.{Formula, Formulas, no_formula, Expression, formulas, expressions, compares, every, some, for_some, negation, number, name, minus, product, total}
 use Rattle.typed_formula.specs.Formula as logic
 use Rattle.typed_formula.specs.declared.typed.Relation.TheVariants as relation
@@ -45,7 +46,7 @@ term_value t = sum_value (summands t.pairs t.constant)
 
 -- t is d times some integer
 abbrev pub divides_formula : ℕ → ℤ → Linear → Formula
-divides_formula n d t = for_some (compares relation.Eq (term_value t) (product (number (pos (unsigned_abs d))) (name n)))
+divides_formula n d t = for_some sort.Int (compares relation.Eq (term_value t) (product (number (pos (unsigned_abs d))) (name n)))
 
 -- a literal
 abbrev pub literal_formula : ℕ → Literal → Formula

@@ -3,17 +3,16 @@ use Rattle.std.proofs.Common.{ℕ, suc, ◌≡◌, Bool, true, false, List, [], 
 use Rattle.pri_tokens.specs.declared.terminals.Terminal.{Terminal}
 use Rattle.pri_tokens.specs.declared.terminals.Terminal.TheVariants as t
 use Rattle.pri_tokens.specs.declared.terminals.Lexeme.{Lexeme}
-use Rattle.pri_reader.specs.declared.tree.Form.TheVariants as form
 use Rattle.pri_reader.specs.declared.tree.Name.{Name}
 use Rattle.pri_reader.specs.declared.classes.Prefix.{Prefix}
 use Rattle.pri_reader.specs.declared.classes.Prefix.TheVariants as p
 use Rattle.pri_reader.specs.declared.classes.Opening.{Opening}
 use Rattle.pri_reader.specs.declared.classes.Opening.TheVariants as o
 use Rattle.pri_reader.specs.Classes.{prefix_of, opening_of}
-use Rattle.pri_reader.specs.Grammar.{equivalence, unary, factor, parenthesized, quantifier, truth_word, pair_word, expr, Setting, name_of, Takes, bound_first, bound_next, bound_line, Derives, unary_not, unary_bound, unary_grouped, unary_part, factor_minus, factor_primary, number, truth, use_bare, use_empty, use_applied, group, conditional, absolute, pair, parentheses, argument_first}
+use Rattle.pri_reader.specs.Grammar.{equivalence, unary, factor, parenthesized, quantifier, truth_word, pair_word, Setting, name_of, Takes, Derives, unary_not, unary_part, factor_minus, factor_primary, number, truth, use_bare, use_empty, use_applied, group, conditional, absolute, pair, parentheses, argument_first}
 use Rattle.pri_reader.specs.MachineStates.{Frame, wrap, parenthesis_of, arguments_of, pair_left, grouped_at, applied, under_rel, under_right}
-use Rattle.pri_reader.specs.Machine.{parenthesis_moves, minus_moves, unary_moves, behind_name_moves, argument_moves, pair_moves, binder_moves, bound_int_moves, bound_moves, bound_more_moves, part_bracket_moves, part_name_moves, part_close_moves, follows}
-use Rattle.pri_reader.proofs.States.{Below, BehindName, AnArgument, APair, Binder, ABinder, ABoundInt, ABound, BoundMore, PartBracket, PartName, PartClose, Good}
+use Rattle.pri_reader.specs.Machine.{parenthesis_moves, minus_moves, unary_moves, behind_name_moves, argument_moves, pair_moves, part_bracket_moves, part_name_moves, part_close_moves, follows}
+use Rattle.pri_reader.proofs.States.{Below, BehindName, AnArgument, APair, PartBracket, PartName, PartClose, Good}
 use Rattle.pri_reader.proofs.Following.{begin_rel, begin_right, takes_as, follows_sound}
 
 -- What begins: which token it was.
@@ -213,85 +212,6 @@ pair_begins_sound s start max at n frames t.OpenParenthesis {x = x} {inner = inn
       outside = a.fits;
     })
 pair_begins_sound s start max at n frames _ e a = tt
-
-binder_of : (s : Setting) (start : List Lexeme) (at : ℕ) (all : Bool) (n : ℕ) (frames : List Frame) {tokens : List Lexeme} → ABinder s at all n tokens (Below s start frames)
-    → Binder s at all false tokens (Below s start frames)
-binder_of s start at all n frames {tokens = tokens} a = record {
-  depth = n;
-  outer = a.outer;
-  closes = λ e names f c end body rest b u v. subst (λ z. Derives s n unary (expr z (form.Quantified all names f)) a.outer rest) (sym a.at_is) (unary_bound a.takes b u v);
-  fits = a.fits;
-}
-
-grouped_binder : (s : Setting) (start : List Lexeme) (at : ℕ) (all : Bool) (n : ℕ) (frames : List Frame) {q : Lexeme} {tokens inner : List Lexeme} → ABinder s at all n tokens (Below s start frames)
-    → Takes t.OpenParenthesis q tokens inner → Binder s at all true inner (Below s start frames)
-grouped_binder s start at all n frames {inner = inner} a o = record {
-  depth = n;
-  outer = a.outer;
-  closes = λ e names f c end body rest b u v. subst (λ z. Derives s n unary (expr z (form.Quantified all names f)) a.outer rest) (sym a.at_is) (unary_grouped a.takes o b u v);
-  fits = a.fits;
-}
-
-pub binder_sound : (s : Setting) (start : List Lexeme) (at : ℕ) (all : Bool) (n : ℕ) (frames : List Frame) (k : Terminal) {x : Lexeme} {tokens inner : List Lexeme}
-    → Takes k x tokens inner → ABinder s at all n tokens (Below s start frames) → Good s start (binder_moves k at all n frames) inner
-unfolding binder_of grouped_binder
-binder_sound s start at all n frames t.Int {tokens = tokens} e a = record {
-  list = tokens;
-  binder = binder_of s start at all n frames a;
-  more = λ x rest u l. bound_first e u l;
-}
-binder_sound s start at all n frames t.OpenParenthesis {inner = inner} e a = record {
-  list = inner;
-  binder = grouped_binder s start at all n frames a e;
-  more = λ i x rest end u v l. bound_first u v l;
-}
-binder_sound s start at all n frames _ e a = tt
-
-pub bound_int_sound : (s : Setting) (start : List Lexeme) (at : ℕ) (all : Bool) (n : ℕ) (names : List Name) (frames : List Frame) (k : Terminal) {x : Lexeme} {tokens inner : List Lexeme}
-    → Takes k x tokens inner → ABoundInt s at all n names tokens (Below s start frames) → Good s start (bound_int_moves k at all n names frames) inner
-bound_int_sound s start at all n names frames t.Int {x = x} {inner = inner} e a = record {
-  list = a.list;
-  binder = a.binder;
-  more = λ y rest u l. a.more x y inner rest e u l;
-}
-bound_int_sound s start at all n names frames _ e a = tt
-
-pub bound_sound : (s : Setting) (start : List Lexeme) (at : ℕ) (all several : Bool) (n : ℕ) (names : List Name) (frames : List Frame) (k : Terminal) {x : Lexeme} {tokens inner : List Lexeme}
-    → Takes k x tokens inner → ABound s at all several n names tokens (Below s start frames) → Good s start (bound_moves s x k at all several n names frames) inner
-bound_sound s start at all several n names frames t.Identifier {x = x} {inner = inner} e a = λ l. record {
-  list = a.list;
-  binder = a.binder;
-  bound = a.more x inner e l;
-}
-bound_sound s start at all several n names frames _ e a = tt
-
-pub bound_more_sound : (s : Setting) (start : List Lexeme) (at : ℕ) (all several : Bool) (n : ℕ) (names : List Name) (frames : List Frame) (k : Terminal) {x : Lexeme} {tokens inner : List Lexeme}
-    → Takes k x tokens inner → BoundMore s at all several n names tokens (Below s start frames) → Good s start (bound_more_moves k at all several n names frames) inner
-bound_more_sound s start at all several n names frames t.Comma e a = record {
-  list = a.list;
-  binder = a.binder;
-  more = λ y rest u l. bound_next a.bound e u l;
-}
-bound_more_sound s start at all false n names frames t.Semicolon {x = x} {tokens = tokens} {inner = inner} e a = record {
-  new = unary;
-  depth = a.binder.depth;
-  outer = a.binder.outer;
-  wraps = λ f rest u. a.binder.closes n names f x tokens inner rest a.bound e u;
-  outside = a.binder.fits;
-}
-bound_more_sound s start at all true n names frames t.Semicolon e a = record {
-  list = a.list;
-  binder = a.binder;
-  more = λ i y mid rest u v l. bound_line a.bound e u v l;
-}
-bound_more_sound s start at all true n names frames t.CloseParenthesis {x = x} {tokens = tokens} {inner = inner} e a = record {
-  new = unary;
-  depth = a.binder.depth;
-  outer = a.binder.outer;
-  wraps = λ f rest u. a.binder.closes n names f x tokens inner rest a.bound e u;
-  outside = a.binder.fits;
-}
-bound_more_sound s start at all several n names frames _ e a = tt
 
 pub bracket_sound : (s : Setting) (start : List Lexeme) (at n : ℕ) (frames : List Frame) (k : Terminal) {x : Lexeme} {tokens inner : List Lexeme}
     → Takes k x tokens inner → PartBracket s at n tokens (Below s start frames) → Good s start (part_bracket_moves k at n frames) inner

@@ -4,12 +4,14 @@ use Rattle.pri_tokens.specs.declared.terminals.Terminal.{Terminal}
 use Rattle.pri_tokens.specs.declared.terminals.Terminal.TheVariants as t
 use Rattle.pri_tokens.specs.declared.terminals.Lexeme.{Lexeme}
 use Rattle.pri_reader.specs.declared.tree.Name.{Name}
+use Rattle.pri_reader.specs.declared.tree.TypeName.{TypeName}
+use Rattle.pri_reader.specs.declared.tree.Declared.{Declared}
 use Rattle.pri_reader.specs.declared.tree.ReadRefusal.TheVariants as refusal
-use Rattle.pri_reader.specs.Grammar.{name_of, Takes}
-use Rattle.pri_reader.specs.MachineStates.{Frame, wrap, bound_at, part_at, a_unary, a_binder, a_bound_int, a_bound, bound_more, a_part_bracket, a_part_name, a_part_close, bad}
-use Rattle.pri_reader.specs.Machine.{binder_moves, bound_int_moves, bound_moves, bound_more_moves, part_bracket_moves, part_name_moves, part_close_moves, follows, moves, run}
+use Rattle.pri_reader.specs.Grammar.{name_of, of_type, Takes}
+use Rattle.pri_reader.specs.MachineStates.{Frame, wrap, bound_at, part_at, a_unary, a_binder, for_binder, a_type, a_bound, bound_more, a_part_bracket, a_part_name, a_part_close, bad}
+use Rattle.pri_reader.specs.Machine.{binder_moves, type_moves, bound_moves, bound_more_moves, part_bracket_moves, part_name_moves, part_close_moves, follows, moves, run}
 use Rattle.pri_reader.specs.Reading.{file_setting, reads, place, NotNext, Opened}
-use Rattle.pri_reader.proofs.TokenSteps.{stuck, refused, refused_both, opened, too_deep, goes}
+use Rattle.pri_reader.proofs.TokenSteps.{stuck, refused, refused_both, opened, too_deep, passes, goes}
 
 only_bracket : (k : Terminal) (at : ℕ) (n : ℕ) (frames : List Frame) → (k ≡ t.OpenBracket → ⊥) → part_bracket_moves k at n frames ≡ bad
 only_bracket t.OpenBracket at n frames h = absurd (h refl)
@@ -53,102 +55,83 @@ pub bracket_close_step : (b : List ℕ) (tokens inner : List Lexeme) (x : Lexeme
 unfolding reads moves follows
 bracket_close_step b tokens inner x at name n frames e = goes b e _ _ refl
 
-pub plain_step : (b : List ℕ) (tokens inner : List Lexeme) (x : Lexeme) (at : ℕ) (all : Bool) (n : ℕ) (frames : List Frame) → Takes t.Int x tokens inner
-    → reads b tokens (a_binder at all n) (frames) ≡ reads b inner (a_bound at all false n []) (frames)
-unfolding reads moves follows
-plain_step b tokens inner x at all n frames e = goes b e _ _ refl
+other_binder : (k : Terminal) (at : ℕ) (all : Bool) (n : ℕ) (frames : List Frame) → (k ≡ t.OpenParenthesis → ⊥)
+    → binder_moves k at all n frames ≡ type_moves k (for_binder at all false n []) frames
+other_binder t.OpenParenthesis at all n frames h = absurd (h refl)
+other_binder _ at all n frames h = refl
+
+pub plain_pass : (b : List ℕ) (tokens : List Lexeme) (at : ℕ) (all : Bool) (n : ℕ) (frames : List Frame) → NotNext t.OpenParenthesis tokens
+    → reads b tokens (a_binder at all n) frames ≡ reads b tokens (a_type (for_binder at all false n [])) frames
+unfolding moves
+plain_pass b tokens at all n frames h = passes b t.OpenParenthesis tokens _ _ frames h refl (λ x k u. other_binder k at all n frames u)
 
 pub grouped_step : (b : List ℕ) (tokens inner : List Lexeme) (x : Lexeme) (at : ℕ) (all : Bool) (n : ℕ) (frames : List Frame) → Takes t.OpenParenthesis x tokens inner
-    → reads b tokens (a_binder at all n) (frames) ≡ reads b inner (a_bound_int at all n []) (frames)
+    → reads b tokens (a_binder at all n) (frames) ≡ reads b inner (a_type (for_binder at all true n [])) (frames)
 unfolding reads moves follows
 grouped_step b tokens inner x at all n frames e = goes b e _ _ refl
 
-only_binder : (k : Terminal) (at : ℕ) (all : Bool) (n : ℕ) (frames : List Frame) → (k ≡ t.Int → ⊥) → (k ≡ t.OpenParenthesis → ⊥) → binder_moves k at all n frames ≡ bad
-only_binder t.Int at all n frames h g = absurd (h refl)
-only_binder t.OpenParenthesis at all n frames h g = absurd (g refl)
-only_binder _ at all n frames h g = refl
+only_bound : (b : List ℕ) (k : Terminal) (x : Lexeme) (at : ℕ) (all several : Bool) (sort : TypeName) (n : ℕ) (names : List Declared) (frames : List Frame) → (k ≡ t.Identifier → ⊥)
+    → bound_moves (file_setting b) x k at all several sort n names frames ≡ bad
+only_bound b t.Identifier x at all several sort n names frames h = absurd (h refl)
+only_bound b _ x at all several sort n names frames h = refl
 
-pub binder_bad : (b : List ℕ) (tokens : List Lexeme) (at : ℕ) (all : Bool) (n : ℕ) (frames : List Frame) → NotNext t.Int tokens → NotNext t.OpenParenthesis tokens
-    → reads b tokens (a_binder at all n) frames ≡ Err (refusal.Syntax (place (length b) tokens))
+pub bound_bad : (b : List ℕ) (tokens : List Lexeme) (at : ℕ) (all several : Bool) (sort : TypeName) (n : ℕ) (names : List Declared) (frames : List Frame) → NotNext t.Identifier tokens
+    → reads b tokens (a_bound at all several sort n names) frames ≡ Err (refusal.Syntax (place (length b) tokens))
 unfolding reads moves
-binder_bad b tokens at all n frames h g = refused_both b t.Int t.OpenParenthesis tokens _ _ h g refl (λ x k u v. only_binder k at all n frames u v)
+bound_bad b tokens at all several sort n names frames h = refused b t.Identifier tokens _ _ h refl (λ x k g. only_bound b k x at all several sort n names frames g)
 
-only_bound_int : (k : Terminal) (at : ℕ) (all : Bool) (n : ℕ) (names : List Name) (frames : List Frame) → (k ≡ t.Int → ⊥) → bound_int_moves k at all n names frames ≡ bad
-only_bound_int t.Int at all n names frames h = absurd (h refl)
-only_bound_int _ at all n names frames h = refl
-
-pub bound_int_bad : (b : List ℕ) (tokens : List Lexeme) (at : ℕ) (all : Bool) (n : ℕ) (names : List Name) (frames : List Frame) → NotNext t.Int tokens
-    → reads b tokens (a_bound_int at all n names) (frames) ≡ Err (refusal.Syntax (place (length b) tokens))
+pub bound_step : (b : List ℕ) (tokens inner : List Lexeme) (x : Lexeme) (at : ℕ) (all several : Bool) (sort : TypeName) (n : ℕ) (names : List Declared) (frames : List Frame) → Takes t.Identifier x tokens inner → {d : ℕ} → Opened n d
+    → reads b tokens (a_bound at all several sort n names) (frames) ≡ reads b inner (bound_more at all several sort d (names ++ of_type sort (name_of (file_setting b) x) ∷ [])) (frames)
 unfolding reads moves follows
-bound_int_bad b tokens at all n names frames h = refused b t.Int tokens _ _ h refl (λ y k z. only_bound_int k at all n names frames z)
+bound_step b tokens inner x at all several sort n names frames e {d = d} h = opened b e _ _ refl h.below ∙ ap (λ m. reads b inner (bound_more at all several sort m (names ++ of_type sort (name_of (file_setting b) x) ∷ [])) (frames)) (sym (h.is ∙ add-one n))
 
-pub bound_int_step : (b : List ℕ) (tokens inner : List Lexeme) (x : Lexeme) (at : ℕ) (all : Bool) (n : ℕ) (names : List Name) (frames : List Frame) → Takes t.Int x tokens inner
-    → reads b tokens (a_bound_int at all n names) (frames) ≡ reads b inner (a_bound at all true n names) (frames)
+pub bound_deep : (b : List ℕ) (tokens inner : List Lexeme) (x : Lexeme) (at : ℕ) (all several : Bool) (sort : TypeName) (n : ℕ) (names : List Declared) (frames : List Frame) → Takes t.Identifier x tokens inner → 200 ≤ n
+    → reads b tokens (a_bound at all several sort n names) (frames) ≡ Err (refusal.Deep x.at)
 unfolding reads moves follows
-bound_int_step b tokens inner x at all n names frames e = goes b e _ _ refl
+bound_deep b tokens inner x at all several sort n names frames e h = too_deep b e _ _ refl h
 
-only_bound : (b : List ℕ) (k : Terminal) (x : Lexeme) (at : ℕ) (all several : Bool) (n : ℕ) (names : List Name) (frames : List Frame) → (k ≡ t.Identifier → ⊥)
-    → bound_moves (file_setting b) x k at all several n names frames ≡ bad
-only_bound b t.Identifier x at all several n names frames h = absurd (h refl)
-only_bound b _ x at all several n names frames h = refl
+pub bound_comma_step : (b : List ℕ) (tokens inner : List Lexeme) (x : Lexeme) (at : ℕ) (all several : Bool) (sort : TypeName) (n : ℕ) (names : List Declared) (frames : List Frame) → Takes t.Comma x tokens inner
+    → reads b tokens (bound_more at all several sort n names) (frames) ≡ reads b inner (a_bound at all several sort n names) (frames)
+unfolding reads moves follows
+bound_comma_step b tokens inner x at all several sort n names frames e = goes b e _ _ refl
 
-pub bound_bad : (b : List ℕ) (tokens : List Lexeme) (at : ℕ) (all several : Bool) (n : ℕ) (names : List Name) (frames : List Frame) → NotNext t.Identifier tokens
-    → reads b tokens (a_bound at all several n names) frames ≡ Err (refusal.Syntax (place (length b) tokens))
+pub bound_line_step : (b : List ℕ) (tokens inner : List Lexeme) (x : Lexeme) (at : ℕ) (all : Bool) (sort : TypeName) (n : ℕ) (names : List Declared) (frames : List Frame) → Takes t.Semicolon x tokens inner
+    → reads b tokens (bound_more at all true sort n names) (frames) ≡ reads b inner (a_type (for_binder at all true n names)) (frames)
+unfolding reads moves follows
+bound_line_step b tokens inner x at all sort n names frames e = goes b e _ _ refl
+
+pub bound_plain_end_step : (b : List ℕ) (tokens inner : List Lexeme) (x : Lexeme) (at : ℕ) (all : Bool) (sort : TypeName) (n : ℕ) (names : List Declared) (frames : List Frame) → Takes t.Semicolon x tokens inner
+    → reads b tokens (bound_more at all false sort n names) (frames) ≡ reads b inner (a_unary n) (wrap (bound_at at all names) ∷ frames)
+unfolding reads moves follows
+bound_plain_end_step b tokens inner x at all sort n names frames e = goes b e _ _ refl
+
+pub bound_grouped_end_step : (b : List ℕ) (tokens inner : List Lexeme) (x : Lexeme) (at : ℕ) (all : Bool) (sort : TypeName) (n : ℕ) (names : List Declared) (frames : List Frame) → Takes t.CloseParenthesis x tokens inner
+    → reads b tokens (bound_more at all true sort n names) (frames) ≡ reads b inner (a_unary n) (wrap (bound_at at all names) ∷ frames)
+unfolding reads moves follows
+bound_grouped_end_step b tokens inner x at all sort n names frames e = goes b e _ _ refl
+
+only_plain_more : (k : Terminal) (at : ℕ) (all : Bool) (sort : TypeName) (n : ℕ) (names : List Declared) (frames : List Frame) → (k ≡ t.Comma → ⊥) → (k ≡ t.Semicolon → ⊥)
+    → bound_more_moves k at all false sort n names frames ≡ bad
+only_plain_more t.Comma at all sort n names frames h g = absurd (h refl)
+only_plain_more t.Semicolon at all sort n names frames h g = absurd (g refl)
+only_plain_more _ at all sort n names frames h g = refl
+
+pub plain_more_bad : (b : List ℕ) (tokens : List Lexeme) (at : ℕ) (all : Bool) (sort : TypeName) (n : ℕ) (names : List Declared) (frames : List Frame) → NotNext t.Comma tokens → NotNext t.Semicolon tokens
+    → reads b tokens (bound_more at all false sort n names) frames ≡ Err (refusal.Syntax (place (length b) tokens))
 unfolding reads moves
-bound_bad b tokens at all several n names frames h = refused b t.Identifier tokens _ _ h refl (λ x k g. only_bound b k x at all several n names frames g)
+plain_more_bad b tokens at all sort n names frames h g = refused_both b t.Comma t.Semicolon tokens _ _ h g refl (λ x k u v. only_plain_more k at all sort n names frames u v)
 
-pub bound_step : (b : List ℕ) (tokens inner : List Lexeme) (x : Lexeme) (at : ℕ) (all : Bool) (several : Bool) (n : ℕ) (names : List Name) (frames : List Frame) → Takes t.Identifier x tokens inner → {d : ℕ} → Opened n d
-    → reads b tokens (a_bound at all several n names) (frames) ≡ reads b inner (bound_more at all several d (names ++ name_of (file_setting b) x ∷ [])) (frames)
-unfolding reads moves follows
-bound_step b tokens inner x at all several n names frames e {d = d} h = opened b e _ _ refl h.below ∙ ap (λ m. reads b inner (bound_more at all several m (names ++ name_of (file_setting b) x ∷ [])) (frames)) (sym (h.is ∙ add-one n))
+only_grouped_more : (k : Terminal) (at : ℕ) (all : Bool) (sort : TypeName) (n : ℕ) (names : List Declared) (frames : List Frame) → (k ≡ t.Comma → ⊥) → (k ≡ t.Semicolon → ⊥) → (k ≡ t.CloseParenthesis → ⊥)
+    → bound_more_moves k at all true sort n names frames ≡ bad
+only_grouped_more t.Comma at all sort n names frames h g i = absurd (h refl)
+only_grouped_more t.Semicolon at all sort n names frames h g i = absurd (g refl)
+only_grouped_more t.CloseParenthesis at all sort n names frames h g i = absurd (i refl)
+only_grouped_more _ at all sort n names frames h g i = refl
 
-pub bound_deep : (b : List ℕ) (tokens inner : List Lexeme) (x : Lexeme) (at : ℕ) (all : Bool) (several : Bool) (n : ℕ) (names : List Name) (frames : List Frame) → Takes t.Identifier x tokens inner → 200 ≤ n
-    → reads b tokens (a_bound at all several n names) (frames) ≡ Err (refusal.Deep x.at)
-unfolding reads moves follows
-bound_deep b tokens inner x at all several n names frames e h = too_deep b e _ _ refl h
-
-pub bound_comma_step : (b : List ℕ) (tokens inner : List Lexeme) (x : Lexeme) (at : ℕ) (all : Bool) (several : Bool) (n : ℕ) (names : List Name) (frames : List Frame) → Takes t.Comma x tokens inner
-    → reads b tokens (bound_more at all several n names) (frames) ≡ reads b inner (a_bound at all several n names) (frames)
-unfolding reads moves follows
-bound_comma_step b tokens inner x at all several n names frames e = goes b e _ _ refl
-
-pub bound_line_step : (b : List ℕ) (tokens inner : List Lexeme) (x : Lexeme) (at : ℕ) (all : Bool) (n : ℕ) (names : List Name) (frames : List Frame) → Takes t.Semicolon x tokens inner
-    → reads b tokens (bound_more at all true n names) (frames) ≡ reads b inner (a_bound_int at all n names) (frames)
-unfolding reads moves follows
-bound_line_step b tokens inner x at all n names frames e = goes b e _ _ refl
-
-pub bound_plain_end_step : (b : List ℕ) (tokens inner : List Lexeme) (x : Lexeme) (at : ℕ) (all : Bool) (n : ℕ) (names : List Name) (frames : List Frame) → Takes t.Semicolon x tokens inner
-    → reads b tokens (bound_more at all false n names) (frames) ≡ reads b inner (a_unary n) (wrap (bound_at at all names) ∷ frames)
-unfolding reads moves follows
-bound_plain_end_step b tokens inner x at all n names frames e = goes b e _ _ refl
-
-pub bound_grouped_end_step : (b : List ℕ) (tokens inner : List Lexeme) (x : Lexeme) (at : ℕ) (all : Bool) (n : ℕ) (names : List Name) (frames : List Frame) → Takes t.CloseParenthesis x tokens inner
-    → reads b tokens (bound_more at all true n names) (frames) ≡ reads b inner (a_unary n) (wrap (bound_at at all names) ∷ frames)
-unfolding reads moves follows
-bound_grouped_end_step b tokens inner x at all n names frames e = goes b e _ _ refl
-
-only_plain_more : (k : Terminal) (at : ℕ) (all : Bool) (n : ℕ) (names : List Name) (frames : List Frame) → (k ≡ t.Comma → ⊥) → (k ≡ t.Semicolon → ⊥)
-    → bound_more_moves k at all false n names frames ≡ bad
-only_plain_more t.Comma at all n names frames h g = absurd (h refl)
-only_plain_more t.Semicolon at all n names frames h g = absurd (g refl)
-only_plain_more _ at all n names frames h g = refl
-
-pub plain_more_bad : (b : List ℕ) (tokens : List Lexeme) (at : ℕ) (all : Bool) (n : ℕ) (names : List Name) (frames : List Frame) → NotNext t.Comma tokens → NotNext t.Semicolon tokens
-    → reads b tokens (bound_more at all false n names) frames ≡ Err (refusal.Syntax (place (length b) tokens))
-unfolding reads moves
-plain_more_bad b tokens at all n names frames h g = refused_both b t.Comma t.Semicolon tokens _ _ h g refl (λ x k u v. only_plain_more k at all n names frames u v)
-
-only_grouped_more : (k : Terminal) (at : ℕ) (all : Bool) (n : ℕ) (names : List Name) (frames : List Frame) → (k ≡ t.Comma → ⊥) → (k ≡ t.Semicolon → ⊥) → (k ≡ t.CloseParenthesis → ⊥)
-    → bound_more_moves k at all true n names frames ≡ bad
-only_grouped_more t.Comma at all n names frames h g i = absurd (h refl)
-only_grouped_more t.Semicolon at all n names frames h g i = absurd (g refl)
-only_grouped_more t.CloseParenthesis at all n names frames h g i = absurd (i refl)
-only_grouped_more _ at all n names frames h g i = refl
-
-pub grouped_more_bad : (b : List ℕ) (tokens : List Lexeme) (at : ℕ) (all : Bool) (n : ℕ) (names : List Name) (frames : List Frame)
+pub grouped_more_bad : (b : List ℕ) (tokens : List Lexeme) (at : ℕ) (all : Bool) (sort : TypeName) (n : ℕ) (names : List Declared) (frames : List Frame)
     → NotNext t.Comma tokens → NotNext t.Semicolon tokens → NotNext t.CloseParenthesis tokens
-    → reads b tokens (bound_more at all true n names) frames ≡ Err (refusal.Syntax (place (length b) tokens))
+    → reads b tokens (bound_more at all true sort n names) frames ≡ Err (refusal.Syntax (place (length b) tokens))
 unfolding reads run moves
-grouped_more_bad b [] at all n names frames h g i = refl
-grouped_more_bad b (x ∷ inner) at all n names frames h g i =
-    stuck b {x = x} {tokens = x ∷ inner} {inner = inner} refl (bound_more at all true n names) frames (only_grouped_more x.terminal at all n names frames (h.no x inner refl) (g.no x inner refl) (i.no x inner refl))
+grouped_more_bad b [] at all sort n names frames h g i = refl
+grouped_more_bad b (x ∷ inner) at all sort n names frames h g i =
+    stuck b {x = x} {tokens = x ∷ inner} {inner = inner} refl (bound_more at all true sort n names) frames (only_grouped_more x.terminal at all sort n names frames (h.no x inner refl) (g.no x inner refl) (i.no x inner refl))

@@ -14,8 +14,8 @@ use Rattle.pri_reader.specs.declared.classes.Heading.TheVariants as h
 use Rattle.pri_reader.specs.Classes.{heading_of}
 use Rattle.pri_reader.specs.Grammar.{equivalence, whole, Setting, name_of, Takes, Derives, item, with_set, constants_word, items_word, items_block, has_problem, names_first, names_next, constants_none, constants_line, parameter_bare, parameter_named, parameters_first, parameters_next, Declares, item_bare, item_empty, item_applied, Items, items_first, items_next, ItemLines, lines_none, line_function, line_predicate, sets_first, sets_next, block_constants, block_items, block_problem, block_interpolant, Blocks, blocks_next}
 use Rattle.pri_reader.specs.MachineStates.{problem_of, a_brace, NamesFor, for_constants, for_set, ItemsFor, bad, on}
-use Rattle.pri_reader.specs.Machine.{items_for, with_item, block_moves, brace_moves, in_braces, line_moves, name_moves, sets_end, names_end, names_more_moves, item_moves, item_line_moves, items_more_moves, behind_item_moves, parameter_moves, first_parameter_moves, parameters_more_moves, behind_int_moves}
-use Rattle.pri_reader.proofs.States.{Below, AName, NamesMore, ALine, AnItemLine, SoFar, AnItem, ItemsMore, Adding, BehindItem, FirstParameter, AParameter, BehindInt, ParametersMore, ABrace, Good}
+use Rattle.pri_reader.specs.Machine.{items_for, with_item, block_moves, brace_moves, in_braces, name_moves, sets_end, names_end, names_more_moves, item_moves, item_line_moves, items_more_moves, behind_item_moves, parameter_moves, first_parameter_moves, parameters_more_moves, behind_int_moves}
+use Rattle.pri_reader.proofs.States.{Below, AName, NamesMore, AnItemLine, SoFar, AnItem, ItemsMore, Adding, BehindItem, FirstParameter, AParameter, BehindInt, ParametersMore, ABrace, Good}
 use Rattle.pri_reader.proofs.Following.{begin_right, takes_as}
 
 -- Blocks.
@@ -75,16 +75,6 @@ pub brace_sound : (s : Setting) (start : List Lexeme) (heading : Heading) (at : 
 brace_sound s start heading at blocks t.OpenBrace e a = inside_sound s start heading at blocks e a
 brace_sound s start heading at blocks _ e a = tt
 
-pub line_sound : (s : Setting) (start : List Lexeme) (universal : Bool) (at : ℕ) (names : List Name) (blocks : List Block) (k : Terminal) {x : Lexeme} {tokens inner : List Lexeme}
-    → Takes k x tokens inner → ALine s start universal at names blocks tokens → Good s start (line_moves k universal at names blocks) inner
-line_sound s start universal at names blocks t.Int {x = x} {tokens = tokens} {inner = inner} e a = record {
-  line = inner;
-  more = λ y rest u. names_first u;
-  fits = record { list = a.list; int = tokens; i = x; lines = a.lines; takes = e; closes = a.closes };
-}
-line_sound s start universal at names blocks t.CloseBrace {x = x} {tokens = tokens} {inner = inner} e a = a.closes names x tokens inner a.lines e
-line_sound s start universal at names blocks _ e a = tt
-
 pub a_name_sound : (s : Setting) (start : List Lexeme) (names_for : NamesFor) (names : List Name) (k : Terminal) {x : Lexeme} {tokens inner : List Lexeme}
     → Takes k x tokens inner → AName s start names_for names tokens → Good s start (name_moves s x k names_for names) inner
 a_name_sound s start names_for names t.Identifier {x = x} {inner = inner} e a = record { line = a.line; found = a.more x inner e; fits = a.fits }
@@ -98,9 +88,9 @@ sets_sound s start at (b ∷ sets) old names blocks {x = x} {tokens = tokens} {i
 
 names_end_sound : (s : Setting) (start : List Lexeme) (names_for : NamesFor) (names : List Name) (k : Terminal) {x : Lexeme} {tokens inner : List Lexeme}
     → Takes k x tokens inner → NamesMore s start names_for names tokens → Good s start (names_end k x.at names_for names) inner
-names_end_sound s start (for_constants universal at old blocks) names t.Semicolon e a = record {
+names_end_sound s start (for_constants sort universal at old blocks) names t.Semicolon e a = record {
   list = a.fits.list;
-  lines = constants_line a.fits.lines a.fits.takes a.found e;
+  lines = constants_line a.fits.lines a.fits.is_type a.found e;
   closes = a.fits.closes;
 }
 names_end_sound s start (for_set at sets old blocks) names t.Semicolon {x = x} {tokens = tokens} {inner = inner} e a = record {

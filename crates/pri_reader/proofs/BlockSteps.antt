@@ -7,26 +7,19 @@ use Rattle.pri_reader.specs.declared.tree.Expr.{Expr}
 use Rattle.pri_reader.specs.declared.tree.Block.{Block}
 use Rattle.pri_reader.specs.declared.tree.Block.TheVariants as block
 use Rattle.pri_reader.specs.declared.tree.Name.{Name}
+use Rattle.pri_reader.specs.declared.tree.TypeName.{TypeName}
+use Rattle.pri_reader.specs.declared.tree.Declared.{Declared}
 use Rattle.pri_reader.specs.declared.tree.NameSet.{NameSet}
 use Rattle.pri_reader.specs.declared.tree.ReadRefusal.TheVariants as refusal
 use Rattle.pri_reader.specs.declared.classes.Heading.{Heading}
 use Rattle.pri_reader.specs.declared.classes.Heading.TheVariants as h
 use Rattle.pri_reader.specs.Classes.{heading_of}
-use Rattle.pri_reader.specs.Grammar.{name_of, Takes, constants_block, items_block, with_set, has_problem, equivalence}
-use Rattle.pri_reader.specs.MachineStates.{problem_of, Want, gives, a_unary, a_block, a_brace, a_line, a_name, names_more, NamesFor, for_constants, for_set, ItemsFor, an_item_line, an_item, behind_item, a_first_parameter, a_parameter, behind_int, parameters_more, items_more, under_right, bad, on}
-use Rattle.pri_reader.specs.Machine.{items_for, with_item, block_moves, brace_moves, line_moves, name_moves, names_more_moves, item_line_moves, item_moves, behind_item_moves, first_parameter_moves, parameter_moves, behind_int_moves, parameters_more_moves, items_more_moves, problem_follows, follows, moves, limited, goes_on, ends, run}
+use Rattle.pri_reader.specs.Grammar.{name_of, all_of_type, Takes, constants_block, items_block, with_set, has_problem, equivalence}
+use Rattle.pri_reader.specs.MachineStates.{problem_of, gives, a_unary, a_block, a_brace, a_line, a_type, a_name, names_more, for_line, NamesFor, for_constants, for_set, ItemsFor, an_item_line, an_item, behind_item, a_first_parameter, a_parameter, behind_int, parameters_more, items_more, under_right, bad, on}
+use Rattle.pri_reader.specs.Machine.{items_for, with_item, block_moves, brace_moves, line_moves, type_moves, name_moves, names_more_moves, item_line_moves, item_moves, behind_item_moves, first_parameter_moves, parameter_moves, behind_int_moves, parameters_more_moves, items_more_moves, problem_follows, follows, moves, run}
 use Rattle.pri_reader.specs.Reading.{file_setting, reads, place, NotNext}
 use Rattle.pri_reader.proofs.Moves.{taken}
-use Rattle.pri_reader.proofs.TokenSteps.{it, stuck, refused, refused_both, goes}
-
--- a token that is not of this terminal does the same in another state
-passes : (b : List ℕ) (terminal : Terminal) (tokens : List Lexeme) (want new : Want) → NotNext terminal tokens → ends (length b) want ≡ ends (length b) new
-    → ((x : Lexeme) (k : Terminal) → (k ≡ terminal → ⊥) → moves (file_setting b) x k want [] ≡ moves (file_setting b) x k new [])
-    → reads b tokens want [] ≡ reads b tokens new []
-unfolding reads run
-passes b terminal [] want new h e m = e
-passes b terminal (x ∷ inner) want new h e m =
-    ap (λ z. goes_on (run (file_setting b) (length b) inner) (limited ((file_setting b).small inner) ((file_setting b).shallow inner) x.at z)) (m x x.terminal (h.no x inner refl))
+use Rattle.pri_reader.proofs.TokenSteps.{it, stuck, refused, refused_both, passes, goes}
 
 only_brace : (k : Terminal) (heading : Heading) (at : ℕ) (blocks : List Block) → (k ≡ t.OpenBrace → ⊥) → brace_moves k heading at blocks ≡ bad
 only_brace t.OpenBrace heading at blocks h0 = absurd (h0 refl)
@@ -64,20 +57,15 @@ pub problem_close : (b : List ℕ) (tokens inner : List Lexeme) (x : Lexeme) (at
 unfolding reads moves follows
 problem_close b tokens inner x at blocks f e = goes b e _ _ refl
 
-only_line : (k : Terminal) (universal : Bool) (at : ℕ) (names : List Name) (blocks : List Block) → (k ≡ t.Int → ⊥) → (k ≡ t.CloseBrace → ⊥) → line_moves k universal at names blocks ≡ bad
-only_line t.Int universal at names blocks h0 h1 = absurd (h0 refl)
-only_line t.CloseBrace universal at names blocks h0 h1 = absurd (h1 refl)
-only_line _ universal at names blocks h0 h1 = refl
+other_line : (k : Terminal) (universal : Bool) (at : ℕ) (names : List Declared) (blocks : List Block) → (k ≡ t.CloseBrace → ⊥) → line_moves k universal at names blocks ≡ type_moves k (for_line universal at names blocks) []
+other_line t.CloseBrace universal at names blocks h = absurd (h refl)
+other_line _ universal at names blocks h = refl
 
-pub line_bad : (b : List ℕ) (tokens : List Lexeme) (universal : Bool) (at : ℕ) (names : List Name) (blocks : List Block) → NotNext t.Int tokens → NotNext t.CloseBrace tokens → reads b tokens (a_line universal at names blocks) ([]) ≡ Err (refusal.Syntax (place (length b) tokens))
-unfolding reads moves follows
-line_bad b tokens universal at names blocks h0 h1 = refused_both b t.Int t.CloseBrace tokens _ _ h0 h1 refl (λ x k u0 u1. only_line k universal at names blocks u0 u1)
+pub line_pass : (b : List ℕ) (tokens : List Lexeme) (universal : Bool) (at : ℕ) (names : List Declared) (blocks : List Block) → NotNext t.CloseBrace tokens → reads b tokens (a_line universal at names blocks) [] ≡ reads b tokens (a_type (for_line universal at names blocks)) []
+unfolding moves
+line_pass b tokens universal at names blocks h = passes b t.CloseBrace tokens _ _ [] h refl (λ x k u. other_line k universal at names blocks u)
 
-pub line_int : (b : List ℕ) (tokens inner : List Lexeme) (x : Lexeme) (universal : Bool) (at : ℕ) (names : List Name) (blocks : List Block) → Takes t.Int x tokens inner → reads b tokens (a_line universal at names blocks) ([]) ≡ reads b inner (a_name (for_constants universal at names blocks) []) ([])
-unfolding reads moves follows
-line_int b tokens inner x universal at names blocks e = goes b e _ _ refl
-
-pub line_close : (b : List ℕ) (tokens inner : List Lexeme) (x : Lexeme) (universal : Bool) (at : ℕ) (names : List Name) (blocks : List Block) → Takes t.CloseBrace x tokens inner → reads b tokens (a_line universal at names blocks) ([]) ≡ reads b inner (a_block (blocks ++ constants_block universal at names ∷ [])) ([])
+pub line_close : (b : List ℕ) (tokens inner : List Lexeme) (x : Lexeme) (universal : Bool) (at : ℕ) (names : List Declared) (blocks : List Block) → Takes t.CloseBrace x tokens inner → reads b tokens (a_line universal at names blocks) ([]) ≡ reads b inner (a_block (blocks ++ constants_block universal at names ∷ [])) ([])
 unfolding reads moves follows
 line_close b tokens inner x universal at names blocks e = goes b e _ _ refl
 
@@ -97,18 +85,18 @@ pub names_comma : (b : List ℕ) (tokens inner : List Lexeme) (x : Lexeme) (for 
 unfolding reads moves follows
 names_comma b tokens inner x for names e = goes b e _ _ refl
 
-only_constants : (k : Terminal) (here : ℕ) (universal : Bool) (at : ℕ) (names : List Name) (blocks : List Block) (more : List Name) → (k ≡ t.Comma → ⊥) → (k ≡ t.Semicolon → ⊥) → names_more_moves k here (for_constants universal at names blocks) more ≡ bad
-only_constants t.Comma here universal at names blocks more h0 h1 = absurd (h0 refl)
-only_constants t.Semicolon here universal at names blocks more h0 h1 = absurd (h1 refl)
-only_constants _ here universal at names blocks more h0 h1 = refl
+only_constants : (k : Terminal) (here : ℕ) (sort : TypeName) (universal : Bool) (at : ℕ) (names : List Declared) (blocks : List Block) (more : List Name) → (k ≡ t.Comma → ⊥) → (k ≡ t.Semicolon → ⊥) → names_more_moves k here (for_constants sort universal at names blocks) more ≡ bad
+only_constants t.Comma here sort universal at names blocks more h0 h1 = absurd (h0 refl)
+only_constants t.Semicolon here sort universal at names blocks more h0 h1 = absurd (h1 refl)
+only_constants _ here sort universal at names blocks more h0 h1 = refl
 
-pub constants_bad : (b : List ℕ) (tokens : List Lexeme) (universal : Bool) (at : ℕ) (names : List Name) (blocks : List Block) (more : List Name) → NotNext t.Comma tokens → NotNext t.Semicolon tokens → reads b tokens (names_more (for_constants universal at names blocks) more) ([]) ≡ Err (refusal.Syntax (place (length b) tokens))
+pub constants_bad : (b : List ℕ) (tokens : List Lexeme) (sort : TypeName) (universal : Bool) (at : ℕ) (names : List Declared) (blocks : List Block) (more : List Name) → NotNext t.Comma tokens → NotNext t.Semicolon tokens → reads b tokens (names_more (for_constants sort universal at names blocks) more) ([]) ≡ Err (refusal.Syntax (place (length b) tokens))
 unfolding reads moves follows
-constants_bad b tokens universal at names blocks more h0 h1 = refused_both b t.Comma t.Semicolon tokens _ _ h0 h1 refl (λ x k u0 u1. only_constants k x.at universal at names blocks more u0 u1)
+constants_bad b tokens sort universal at names blocks more h0 h1 = refused_both b t.Comma t.Semicolon tokens _ _ h0 h1 refl (λ x k u0 u1. only_constants k x.at sort universal at names blocks more u0 u1)
 
-pub constants_end : (b : List ℕ) (tokens inner : List Lexeme) (x : Lexeme) (universal : Bool) (at : ℕ) (names : List Name) (blocks : List Block) (more : List Name) → Takes t.Semicolon x tokens inner → reads b tokens (names_more (for_constants universal at names blocks) more) ([]) ≡ reads b inner (a_line universal at (names ++ more) blocks) ([])
+pub constants_end : (b : List ℕ) (tokens inner : List Lexeme) (x : Lexeme) (sort : TypeName) (universal : Bool) (at : ℕ) (names : List Declared) (blocks : List Block) (more : List Name) → Takes t.Semicolon x tokens inner → reads b tokens (names_more (for_constants sort universal at names blocks) more) ([]) ≡ reads b inner (a_line universal at (names ++ all_of_type sort more) blocks) ([])
 unfolding reads moves follows
-constants_end b tokens inner x universal at names blocks more e = goes b e _ _ refl
+constants_end b tokens inner x sort universal at names blocks more e = goes b e _ _ refl
 
 pub set_next : (b : List ℕ) (tokens inner : List Lexeme) (x : Lexeme) (at : ℕ) (sets : List NameSet) (start : Option ℕ) (blocks : List Block) (names : List Name) → Takes t.Semicolon x tokens inner → reads b tokens (names_more (for_set at sets start blocks) names) ([]) ≡ reads b inner (a_name (for_set at (with_set sets start names) (Some x.at) blocks) []) ([])
 unfolding reads moves follows
@@ -157,7 +145,7 @@ other_item_line _ b x i h = refl
 
 pub item_line_pass : (b : List ℕ) (tokens : List Lexeme) (i : ItemsFor) → i.typed ≡ false → NotNext t.CloseBrace tokens → reads b tokens (an_item_line i) [] ≡ reads b tokens (an_item i) []
 unfolding moves
-item_line_pass b tokens i e h = passes b t.CloseBrace tokens _ _ h refl (λ x k u. ap (λ z. item_line_moves (file_setting b) x k z i) e ∙ other_item_line k b x i u)
+item_line_pass b tokens i e h = passes b t.CloseBrace tokens _ _ [] h refl (λ x k u. ap (λ z. item_line_moves (file_setting b) x k z i) e ∙ other_item_line k b x i u)
 
 only_item : (k : Terminal) (b : List ℕ) (x : Lexeme) (i : ItemsFor) → (k ≡ t.Identifier → ⊥) → item_moves (file_setting b) x k i ≡ bad
 only_item t.Identifier b x i h0 = absurd (h0 refl)
@@ -177,7 +165,7 @@ other_item_bare _ i name h = refl
 
 pub item_bare_pass : (b : List ℕ) (tokens : List Lexeme) (i : ItemsFor) (name : Name) → NotNext t.OpenParenthesis tokens → reads b tokens (behind_item i name) [] ≡ reads b tokens (items_more (with_item i name 0)) []
 unfolding moves
-item_bare_pass b tokens i name h = passes b t.OpenParenthesis tokens _ _ h refl (λ x k u. other_item_bare k i name u)
+item_bare_pass b tokens i name h = passes b t.OpenParenthesis tokens _ _ [] h refl (λ x k u. other_item_bare k i name u)
 
 pub item_open : (b : List ℕ) (tokens inner : List Lexeme) (x : Lexeme) (i : ItemsFor) (name : Name) → Takes t.OpenParenthesis x tokens inner → reads b tokens (behind_item i name) ([]) ≡ reads b inner (a_first_parameter i name) ([])
 unfolding reads moves follows
@@ -193,7 +181,7 @@ other_item_parameters _ i name h = refl
 
 pub item_parameters_pass : (b : List ℕ) (tokens : List Lexeme) (i : ItemsFor) (name : Name) → NotNext t.CloseParenthesis tokens → reads b tokens (a_first_parameter i name) [] ≡ reads b tokens (a_parameter i name 0) []
 unfolding moves
-item_parameters_pass b tokens i name h = passes b t.CloseParenthesis tokens _ _ h refl (λ x k u. other_item_parameters k i name u)
+item_parameters_pass b tokens i name h = passes b t.CloseParenthesis tokens _ _ [] h refl (λ x k u. other_item_parameters k i name u)
 
 only_parameter : (k : Terminal) (i : ItemsFor) (name : Name) (n : ℕ) → (k ≡ t.Int → ⊥) → parameter_moves k i name n ≡ bad
 only_parameter t.Int i name n h0 = absurd (h0 refl)
@@ -217,7 +205,7 @@ other_parameter_unnamed _ i name n h = refl
 
 pub parameter_unnamed_pass : (b : List ℕ) (tokens : List Lexeme) (i : ItemsFor) (name : Name) (n : ℕ) → NotNext t.Identifier tokens → reads b tokens (behind_int i name n) [] ≡ reads b tokens (parameters_more i name n) []
 unfolding moves
-parameter_unnamed_pass b tokens i name n h = passes b t.Identifier tokens _ _ h refl (λ x k u. other_parameter_unnamed k i name n u)
+parameter_unnamed_pass b tokens i name n h = passes b t.Identifier tokens _ _ [] h refl (λ x k u. other_parameter_unnamed k i name n u)
 
 pub parameters_comma : (b : List ℕ) (tokens inner : List Lexeme) (x : Lexeme) (i : ItemsFor) (name : Name) (n : ℕ) → Takes t.Comma x tokens inner → reads b tokens (parameters_more i name n) ([]) ≡ reads b inner (a_parameter i name n) ([])
 unfolding reads moves follows

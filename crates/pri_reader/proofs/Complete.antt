@@ -7,11 +7,14 @@ use Rattle.pri_reader.specs.declared.tree.Expr.{Expr}
 use Rattle.pri_reader.specs.declared.tree.Form.TheVariants as form
 use Rattle.pri_reader.specs.declared.tree.Added.{Added}
 use Rattle.pri_reader.specs.declared.tree.Name.{Name}
+use Rattle.pri_reader.specs.declared.tree.TypeName.{TypeName}
+use Rattle.pri_reader.specs.declared.tree.Declared.{Declared}
 use Rattle.pri_reader.specs.Classes.{prefix_of, opening_of}
-use Rattle.pri_reader.specs.Grammar.{Right, equivalence, implication, multiplication, Chain, Part, right, chain, unary, rel, sum, factor, primary, parenthesized, whole, operand, member, quantifier, truth_word, pair_word, expr, join, added, Setting, name_of, Takes, Binding, bound_first, bound_next, bound_line, Derives, right_one, right_two, chain_all, unary_not, unary_bound, unary_grouped, unary_part, unary_rel, rel_one, rel_two, sum_all, factor_minus, factor_primary, number, truth, use_bare, use_empty, use_applied, group, conditional, absolute, pair, parentheses, Members, member_first, member_next, Terms, term_first, term_next, Arguments, argument_first, argument_next}
-use Rattle.pri_reader.specs.MachineStates.{Frame, right_of, chain_of, rel_of, sum_of, wrap, parenthesis_of, test_of, branch_of, arguments_of, pair_left, pair_right, second, not_at, minus_at, bound_at, part_at, compared, grouped_at, absolute_at, branches, Want, a_unary, a_minus, a_parenthesis, an_argument, a_pair, a_binder, a_bound_int, a_bound, bound_more, gives, under_sum, under_rel, under_chain, under_right}
+use Rattle.pri_reader.specs.Grammar.{Right, equivalence, implication, multiplication, Chain, Part, right, chain, unary, rel, sum, factor, primary, parenthesized, whole, operand, member, quantifier, truth_word, pair_word, expr, join, added, Setting, name_of, Takes, IsType, Binding, bound_first, bound_next, bound_line, Derives, right_one, right_two, chain_all, unary_not, unary_bound, unary_grouped, unary_part, unary_rel, rel_one, rel_two, sum_all, factor_minus, factor_primary, number, truth, use_bare, use_empty, use_applied, group, conditional, absolute, pair, parentheses, Members, member_first, member_next, Terms, term_first, term_next, Arguments, argument_first, argument_next}
+use Rattle.pri_reader.specs.MachineStates.{Frame, right_of, chain_of, rel_of, sum_of, wrap, parenthesis_of, test_of, branch_of, arguments_of, pair_left, pair_right, second, not_at, minus_at, bound_at, part_at, compared, grouped_at, absolute_at, branches, Want, a_unary, a_minus, a_parenthesis, an_argument, a_pair, a_binder, for_binder, a_type, bound_more, gives, under_sum, under_rel, under_chain, under_right}
 use Rattle.pri_reader.specs.Machine.{unary_moves, argument_moves, follows, moves, limited, goes_on, run}
 use Rattle.pri_reader.proofs.Moves.{under, wants, taken, step_on, step_level, step_numeral, rank, Stops, stops_at, operand_rank, member_rank, right_joins, chain_joins, comparison_joins, adding_joins, pass_right, pass_chain, pass_rel, pass_sum, pass_wrap, pass_name, follow_right, follow_chain, follow_rel, follow_sum, begin_right, begin_member, begin_chain}
+use Rattle.pri_reader.proofs.CompleteTypes.{no_range_at, type_complete, binder_begins}
 
 -- How a part begins.
 
@@ -133,24 +136,24 @@ whole_argument s end tokens name n frames u =
 
 abbrev begins_bound : Bool → ℕ → Bool → ℕ → Want
 begins_bound false at all d = a_binder at all d
-begins_bound true at all d = a_bound_int at all d []
+begins_bound true at all d = a_type (for_binder at all true d [])
 
-begin_bound : (s : Setting) (end : ℕ) {i : Lexeme} {tokens inner : List Lexeme} (several : Bool) → Takes t.Int i tokens inner → (at : ℕ) (all : Bool) (d : ℕ) (frames : List Frame)
-    → run s end tokens (begins_bound several at all d) frames ≡ run s end inner (a_bound at all several d []) frames
-unfolding moves
-begin_bound s end true e at all d frames = step_on s end e _ _ refl
-begin_bound s end false e at all d frames = step_on s end e _ _ refl
+begin_bound : {s : Setting} {sort : TypeName} {tokens rest : List Lexeme} (end : ℕ) (several : Bool) → IsType s sort tokens rest → (at : ℕ) (all : Bool) (d : ℕ) (frames : List Frame)
+    → run s end tokens (begins_bound several at all d) frames ≡ run s end tokens (a_type (for_binder at all several d [])) frames
+begin_bound end true i at all d frames = refl
+begin_bound end false i at all d frames = binder_begins end i at all d frames
 
-bound_complete : {s : Setting} {several : Bool} {d e : ℕ} {names : List Name} {tokens rest : List Lexeme} (end : ℕ) → Binding s several d e names tokens rest
-    → (at : ℕ) (all : Bool) (frames : List Frame)
-    → run s end tokens (begins_bound several at all d) frames ≡ run s end rest (bound_more at all several e names) frames
+bound_complete : {s : Setting} {several : Bool} {sort : TypeName} {d e : ℕ} {names : List Declared} {tokens rest : List Lexeme} (end : ℕ)
+    → Binding s several sort d e names tokens rest → (at : ℕ) (all : Bool) (frames : List Frame)
+    → run s end tokens (begins_bound several at all d) frames ≡ run s end rest (bound_more at all several sort e names) frames
 unfolding moves
 bound_complete {s = s} {several = several} {d = d} end (bound_first i x l) at all frames =
-    begin_bound s end several i at all d frames ∙ step_level s end x _ _ refl l
+    begin_bound end several i at all d frames ∙ type_complete end i (no_range_at x refl) (for_binder at all several d []) frames ∙ step_level s end x _ _ refl l
 bound_complete {s = s} end (bound_next b c x l) at all frames =
     bound_complete end b at all frames ∙ step_on s end c _ _ refl ∙ step_level s end x _ _ refl l
-bound_complete {s = s} end (bound_line b c i x l) at all frames =
-    bound_complete end b at all frames ∙ step_on s end c _ _ refl ∙ step_on s end i _ _ refl ∙ step_level s end x _ _ refl l
+bound_complete {s = s} end (bound_line {e = e} {names = names} b c i x l) at all frames =
+    bound_complete end b at all frames ∙ step_on s end c _ _ refl ∙ type_complete end i (no_range_at x refl) (for_binder at all true e names) frames
+    ∙ step_level s end x _ _ refl l
 
 quantified : (s : Setting) (end : ℕ) {x : Lexeme} {tokens inner : List Lexeme} (all : Bool) → Takes (quantifier all) x tokens inner → (d : ℕ) (frames : List Frame)
     → run s end tokens (a_unary d) frames ≡ run s end inner (a_binder x.at all d) frames

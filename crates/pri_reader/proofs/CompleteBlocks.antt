@@ -4,6 +4,7 @@ use Rattle.pri_tokens.specs.declared.terminals.Terminal.{Terminal}
 use Rattle.pri_tokens.specs.declared.terminals.Terminal.TheVariants as t
 use Rattle.pri_tokens.specs.declared.terminals.Lexeme.{Lexeme}
 use Rattle.pri_reader.specs.declared.tree.Name.{Name}
+use Rattle.pri_reader.specs.declared.tree.Declared.{Declared}
 use Rattle.pri_reader.specs.declared.tree.NameSet.{NameSet}
 use Rattle.pri_reader.specs.declared.tree.Item.{Item}
 use Rattle.pri_reader.specs.declared.tree.File.{File}
@@ -12,10 +13,11 @@ use Rattle.pri_reader.specs.declared.tree.Block.TheVariants as block
 use Rattle.pri_reader.specs.declared.tree.ReadRefusal.TheVariants as refusal
 use Rattle.pri_reader.specs.declared.classes.Heading.TheVariants as h
 use Rattle.pri_reader.specs.Grammar.{Setting, name_of, Takes, constants_word, items_word, with_set, is_problem, has_problem, Names, names_first, names_next, Constants, constants_none, constants_line, Parameter, parameter_bare, parameter_named, Parameters, parameters_first, parameters_next, Declares, item_bare, item_empty, item_applied, Items, items_first, items_next, ItemLines, lines_none, line_function, line_predicate, Sets, sets_first, sets_next, Declaration, block_constants, block_items, block_problem, block_interpolant, Blocks, blocks_none, blocks_next, IsFile}
-use Rattle.pri_reader.specs.MachineStates.{problem_of, NamesFor, for_constants, for_set, ItemsFor, a_block, a_brace, a_line, a_name, names_more, an_item_line, an_item, behind_item, a_first_parameter, a_parameter, behind_int, parameters_more, items_more, on}
+use Rattle.pri_reader.specs.MachineStates.{problem_of, for_line, NamesFor, for_constants, for_set, ItemsFor, a_block, a_brace, a_line, a_name, names_more, an_item_line, an_item, behind_item, a_first_parameter, a_parameter, behind_int, parameters_more, items_more, on}
 use Rattle.pri_reader.specs.Machine.{items_for, with_item, behind_item_moves, items_more_moves, behind_int_moves, parameters_more_moves, sets_end, block_moves, moves, follows, limited, goes_on, run}
 use Rattle.pri_reader.proofs.Moves.{taken, step_on, joins, Stops, stops_at}
 use Rattle.pri_reader.proofs.Complete.{complete}
+use Rattle.pri_reader.proofs.CompleteTypes.{next_opens_range, no_range_at, type_complete, line_begins}
 
 names_complete : {s : Setting} {names : List Name} {tokens rest : List Lexeme} (end : ℕ) → Names s names tokens rest → (names_for : NamesFor)
     → run s end tokens (a_name names_for []) [] ≡ run s end rest (names_more names_for names) []
@@ -23,14 +25,20 @@ unfolding moves
 names_complete {s = s} end (names_first e) names_for = step_on s end e _ _ refl
 names_complete {s = s} end (names_next m c e) names_for = names_complete end m names_for ∙ step_on s end c _ _ refl ∙ step_on s end e _ _ refl
 
-constants_complete : {s : Setting} {names : List Name} {tokens rest : List Lexeme} (end : ℕ) → Constants s names tokens rest
+-- names begin with an identifier
+names_no_range : {s : Setting} {names : List Name} {tokens rest : List Lexeme} → Names s names tokens rest → next_opens_range tokens ≡ false
+names_no_range (names_first e) = no_range_at e refl
+names_no_range (names_next m c e) = names_no_range m
+
+constants_complete : {s : Setting} {names : List Declared} {tokens rest : List Lexeme} (end : ℕ) → Constants s names tokens rest
     → (universal : Bool) (at : ℕ) (blocks : List Block)
     → run s end tokens (a_line universal at [] blocks) [] ≡ run s end rest (a_line universal at names blocks) []
 unfolding moves
 constants_complete end constants_none universal at blocks = refl
-constants_complete {s = s} end (constants_line {names = names} m i n c) universal at blocks =
-    constants_complete end m universal at blocks ∙ step_on s end i _ _ refl
-    ∙ names_complete end n (for_constants universal at names blocks) ∙ step_on s end c _ _ refl
+constants_complete {s = s} end (constants_line {sort = sort} {names = names} m i n c) universal at blocks =
+    constants_complete end m universal at blocks ∙ line_begins end i universal at names blocks
+    ∙ type_complete end i (names_no_range n) (for_line universal at names blocks) []
+    ∙ names_complete end n (for_constants sort universal at names blocks) ∙ step_on s end c _ _ refl
 
 -- no identifier comes next
 abbrev is_identifier : Terminal → Bool

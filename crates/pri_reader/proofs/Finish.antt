@@ -1,5 +1,5 @@
 -- Each state that the machine reaches can be completed: the shortest spelling of what it owes makes a file.
-use Rattle.std.proofs.Common.{ℕ, suc, ◌≡◌, ◌≤◌, ◌||◌, pos, Bool, true, false, List, [], ◌∷◌, ◌++◌, Some, None, Ok, Err, refl, ap, ◌∙◌, arith, if◌then◌else◌}
+use Rattle.std.proofs.Common.{ℕ, ℤ, suc, ◌≡◌, ◌≤◌, ◌||◌, pos, neg_ℤ, Bool, true, false, List, [], ◌∷◌, ◌++◌, Some, None, Ok, Err, refl, ap, ◌∙◌, arith, if◌then◌else◌}
 use Rattle.std.proofs.lemmas.List.Folds.{list_any-append}
 use Rattle.pri_tokens.specs.declared.terminals.Terminal.{Terminal}
 use Rattle.pri_tokens.specs.declared.terminals.Terminal.TheVariants as t
@@ -7,6 +7,9 @@ use Rattle.pri_tokens.specs.declared.terminals.Lexeme.{Lexeme}
 use Rattle.pri_reader.specs.declared.tree.Expr.{Expr}
 use Rattle.pri_reader.specs.declared.tree.Form.TheVariants as form
 use Rattle.pri_reader.specs.declared.tree.Name.{Name}
+use Rattle.pri_reader.specs.declared.tree.TypeName.{TypeName}
+use Rattle.pri_reader.specs.declared.tree.TypeName.TheVariants as type
+use Rattle.pri_reader.specs.declared.tree.Declared.{Declared}
 use Rattle.pri_reader.specs.declared.tree.NameSet.{NameSet}
 use Rattle.pri_reader.specs.declared.tree.File.{File}
 use Rattle.pri_reader.specs.declared.tree.Block.{Block}
@@ -14,8 +17,8 @@ use Rattle.pri_reader.specs.declared.tree.Block.TheVariants as block
 use Rattle.pri_reader.specs.declared.tree.ReadRefusal.TheVariants as refusal
 use Rattle.pri_reader.specs.declared.classes.Heading.{Heading}
 use Rattle.pri_reader.specs.declared.classes.Heading.TheVariants as h
-use Rattle.pri_reader.specs.Grammar.{Right, equivalence, implication, multiplication, Chain, disjunction, conjunction, expr, chained, summed, paired, Setting, value_of, name_of, name_set, set_at, constants_block, items_block, is_problem, has_problem, with_set}
-use Rattle.pri_reader.specs.MachineStates.{bad, branches, bound_at, part_at, under_right, Frame, right_of, chain_of, rel_of, sum_of, wrap, wrapped, parenthesis_of, test_of, branch_of, arguments_of, pair_left, pair_right, problem_of, Want, a_unary, a_minus, a_parenthesis, behind_name, an_argument, a_pair, a_binder, a_bound_int, a_bound, bound_more, a_part_bracket, a_part_name, a_part_close, gives, a_block, a_brace, a_line, a_name, names_more, an_item_line, an_item, behind_item, a_first_parameter, a_parameter, behind_int, parameters_more, items_more, NamesFor, for_constants, for_set, ItemsFor, on, applied, under_rel}
+use Rattle.pri_reader.specs.Grammar.{Right, equivalence, implication, multiplication, Chain, disjunction, conjunction, expr, chained, summed, paired, Setting, value_of, name_of, of_type, all_of_type, name_set, set_at, constants_block, items_block, is_problem, has_problem, with_set}
+use Rattle.pri_reader.specs.MachineStates.{bad, branches, bound_at, part_at, under_right, Frame, right_of, chain_of, rel_of, sum_of, wrap, wrapped, parenthesis_of, test_of, branch_of, arguments_of, pair_left, pair_right, problem_of, Want, a_unary, a_minus, a_parenthesis, behind_name, an_argument, a_pair, a_binder, TypeFor, for_line, for_binder, Side, lower, upper, a_type, behind_int_word, an_endpoint, an_endpoint_number, behind_endpoint, behind_type, a_bound, bound_more, a_part_bracket, a_part_name, a_part_close, gives, a_block, a_brace, a_line, a_name, names_more, an_item_line, an_item, behind_item, a_first_parameter, a_parameter, behind_int, parameters_more, items_more, NamesFor, for_constants, for_set, ItemsFor, on, applied, under_rel}
 use Rattle.pri_reader.specs.Machine.{with_item, items_for, block_moves, follows, moves, limited, goes_on, run}
 use Rattle.pri_reader.specs.First.{unlimited, Completes}
 use Rattle.pri_reader.proofs.Moves.{Stops, stops_less, right_rank, chain_rank, pass_right, pass_chain, pass_rel, pass_sum, pass_wrap, pass_name}
@@ -214,35 +217,29 @@ a_pair_completes s max at n frames i =
       ends = c.ends;
     }
 
-bound_more_completes : (s : Setting) (at : ℕ) (all several : Bool) (n : ℕ) (names : List Name) (frames : List Frame) → IsInProblem frames
-    → Completes s (bound_more at all several n names) frames
+bound_more_completes : (s : Setting) (at : ℕ) (all several : Bool) (sort : TypeName) (n : ℕ) (names : List Declared) (frames : List Frame) → IsInProblem frames
+    → Completes s (bound_more at all several sort n names) frames
 unfolding run moves
-bound_more_completes s at all true n names frames i =
+bound_more_completes s at all true sort n names frames i =
     let c = a_unary_completes s n (wrap (bound_at at all names) ∷ frames) i in record { more = token t.CloseParenthesis ∷ c.more; file = c.file; ends = c.ends }
-bound_more_completes s at all false n names frames i =
+bound_more_completes s at all false sort n names frames i =
     let c = a_unary_completes s n (wrap (bound_at at all names) ∷ frames) i in record { more = token t.Semicolon ∷ c.more; file = c.file; ends = c.ends }
 
 -- the name of a token that completes
 abbrev some_name : Setting → Name
 some_name s = name_of s (token t.Identifier)
 
-a_bound_completes : (s : Setting) (at : ℕ) (all several : Bool) (n : ℕ) (names : List Name) (frames : List Frame) → IsInProblem frames
-    → Completes s (a_bound at all several n names) frames
+a_bound_completes : (s : Setting) (at : ℕ) (all several : Bool) (sort : TypeName) (n : ℕ) (names : List Declared) (frames : List Frame) → IsInProblem frames
+    → Completes s (a_bound at all several sort n names) frames
 unfolding run moves
-a_bound_completes s at all several n names frames i =
-    let c = bound_more_completes s at all several (suc n) (names ++ some_name s ∷ []) frames i in
+a_bound_completes s at all several sort n names frames i =
+    let c = bound_more_completes s at all several sort (suc n) (names ++ of_type sort (some_name s) ∷ []) frames i in
     record { more = token t.Identifier ∷ c.more; file = c.file; ends = c.ends }
-
-a_bound_int_completes : (s : Setting) (at : ℕ) (all : Bool) (n : ℕ) (names : List Name) (frames : List Frame) → IsInProblem frames
-    → Completes s (a_bound_int at all n names) frames
-unfolding run moves
-a_bound_int_completes s at all n names frames i =
-    let c = a_bound_completes s at all true n names frames i in record { more = token t.Int ∷ c.more; file = c.file; ends = c.ends }
 
 a_binder_completes : (s : Setting) (at : ℕ) (all : Bool) (n : ℕ) (frames : List Frame) → IsInProblem frames → Completes s (a_binder at all n) frames
 unfolding run moves
 a_binder_completes s at all n frames i =
-    let c = a_bound_completes s at all false n [] frames i in record { more = token t.Int ∷ c.more; file = c.file; ends = c.ends }
+    let c = a_bound_completes s at all false type.Nat n [] frames i in record { more = token t.Nat ∷ c.more; file = c.file; ends = c.ends }
 
 a_part_close_completes : (s : Setting) (at : ℕ) (name : Name) (n : ℕ) (frames : List Frame) → IsInProblem frames → Completes s (a_part_close at name n) frames
 unfolding run moves
@@ -261,7 +258,7 @@ a_part_bracket_completes s at n frames i =
 
 -- In the other blocks.
 
-a_line_completes : (s : Setting) (universal : Bool) (at : ℕ) (names : List Name) (blocks : List Block) (frames : List Frame)
+a_line_completes : (s : Setting) (universal : Bool) (at : ℕ) (names : List Declared) (blocks : List Block) (frames : List Frame)
     → Completes s (a_line universal at names blocks) frames
 unfolding run moves
 a_line_completes s universal at names blocks frames =
@@ -281,8 +278,8 @@ last_set s at (first ∷ sets) one here blocks frames =
 
 names_more_completes : (s : Setting) (names_for : NamesFor) (names : List Name) (frames : List Frame) → Completes s (names_more names_for names) frames
 unfolding run moves
-names_more_completes s (for_constants universal at names blocks) more frames =
-    let c = a_line_completes s universal at (names ++ more) blocks [] in record { more = token t.Semicolon ∷ c.more; file = c.file; ends = c.ends }
+names_more_completes s (for_constants sort universal at names blocks) more frames =
+    let c = a_line_completes s universal at (names ++ all_of_type sort more) blocks [] in record { more = token t.Semicolon ∷ c.more; file = c.file; ends = c.ends }
 names_more_completes s (for_set at sets start blocks) names frames =
     let c = last_set s at sets (name_set (set_at start names) names) 0 blocks [] in
     record { more = token t.Semicolon ∷ c.more; file = c.file; ends = c.ends }
@@ -291,6 +288,51 @@ a_name_completes : (s : Setting) (names_for : NamesFor) (names : List Name) (fra
 unfolding run moves
 a_name_completes s names_for names frames =
     let c = names_more_completes s names_for (names ++ some_name s ∷ []) [] in record { more = token t.Identifier ∷ c.more; file = c.file; ends = c.ends }
+
+-- In a type.
+
+-- a type of a binder is in a problem
+abbrev pub IsTypeWhole : TypeFor → List Frame → Type 0
+IsTypeWhole (for_line universal at names blocks) frames = Unit {0}
+IsTypeWhole (for_binder at all several n names) frames = IsInProblem frames
+
+behind_type_completes : (s : Setting) (for : TypeFor) (sort : TypeName) (frames : List Frame) → IsTypeWhole for frames → Completes s (behind_type for sort) frames
+behind_type_completes s (for_line universal at names blocks) sort frames i = a_name_completes s (for_constants sort universal at names blocks) [] frames
+behind_type_completes s (for_binder at all several n names) sort frames i = a_bound_completes s at all several sort n names frames i
+
+a_type_completes : (s : Setting) (for : TypeFor) (frames : List Frame) → IsTypeWhole for frames → Completes s (a_type for) frames
+unfolding run moves
+a_type_completes s for frames i =
+    let c = behind_type_completes s for type.Nat frames i in record { more = token t.Nat ∷ c.more; file = c.file; ends = c.ends }
+
+-- the value of the number that completes
+abbrev some_value : Setting → ℤ
+some_value s = pos (value_of s (token t.Number))
+
+behind_endpoint_completes : (s : Setting) (for : TypeFor) (side : Side) (value : ℤ) (frames : List Frame) → IsTypeWhole for frames → Completes s (behind_endpoint for side value) frames
+unfolding run moves
+behind_endpoint_completes s for (upper least) value frames i =
+    let c = behind_type_completes s for (type.Range least value) frames i in record { more = token t.CloseBracket ∷ c.more; file = c.file; ends = c.ends }
+behind_endpoint_completes s for lower value frames i =
+    let c = behind_type_completes s for (type.Range value (some_value s)) frames i in
+    record { more = token t.Comma ∷ token t.Number ∷ token t.CloseBracket ∷ c.more; file = c.file; ends = c.ends }
+
+an_endpoint_completes : (s : Setting) (for : TypeFor) (side : Side) (frames : List Frame) → IsTypeWhole for frames → Completes s (an_endpoint for side) frames
+unfolding run moves
+an_endpoint_completes s for side frames i =
+    let c = behind_endpoint_completes s for side (some_value s) frames i in record { more = token t.Number ∷ c.more; file = c.file; ends = c.ends }
+
+an_endpoint_number_completes : (s : Setting) (for : TypeFor) (side : Side) (frames : List Frame) → IsTypeWhole for frames → Completes s (an_endpoint_number for side) frames
+unfolding run moves
+an_endpoint_number_completes s for side frames i =
+    let c = behind_endpoint_completes s for side (neg_ℤ (some_value s)) frames i in record { more = token t.Number ∷ c.more; file = c.file; ends = c.ends }
+
+behind_int_word_completes : (s : Setting) (for : TypeFor) (frames : List Frame) → IsTypeWhole for frames → Completes s (behind_int_word for) frames
+unfolding run moves
+behind_int_word_completes s for frames i =
+    let c = an_endpoint_completes s for lower frames i in record { more = token t.OpenBracket ∷ c.more; file = c.file; ends = c.ends }
+
+-- In the blocks of items.
 
 an_item_line_completes : (s : Setting) (i : ItemsFor) (frames : List Frame) → Completes s (an_item_line i) frames
 unfolding run moves
@@ -362,6 +404,11 @@ IsWhole (a_parameter i name n) frames = Unit {0}
 IsWhole (behind_int i name n) frames = Unit {0}
 IsWhole (parameters_more i name n) frames = Unit {0}
 IsWhole (items_more i) frames = Unit {0}
+IsWhole (a_type for) frames = IsTypeWhole for frames
+IsWhole (behind_int_word for) frames = IsTypeWhole for frames
+IsWhole (an_endpoint for side) frames = IsTypeWhole for frames
+IsWhole (an_endpoint_number for side) frames = IsTypeWhole for frames
+IsWhole (behind_endpoint for side value) frames = IsTypeWhole for frames
 IsWhole want frames = IsInProblem frames
 
 pub completes : (s : Setting) (want : Want) (frames : List Frame) → IsWhole want frames → Completes s want frames
@@ -372,9 +419,13 @@ completes s (behind_name name n) frames i = behind_name_completes s name n frame
 completes s (an_argument name n) frames i = an_argument_completes s name n frames i
 completes s (a_pair max at n) frames i = a_pair_completes s max at n frames i
 completes s (a_binder at all n) frames i = a_binder_completes s at all n frames i
-completes s (a_bound_int at all n names) frames i = a_bound_int_completes s at all n names frames i
-completes s (a_bound at all several n names) frames i = a_bound_completes s at all several n names frames i
-completes s (bound_more at all several n names) frames i = bound_more_completes s at all several n names frames i
+completes s (a_type for) frames i = a_type_completes s for frames i
+completes s (behind_int_word for) frames i = behind_int_word_completes s for frames i
+completes s (an_endpoint for side) frames i = an_endpoint_completes s for side frames i
+completes s (an_endpoint_number for side) frames i = an_endpoint_number_completes s for side frames i
+completes s (behind_endpoint for side value) frames i = behind_endpoint_completes s for side value frames i
+completes s (a_bound at all several sort n names) frames i = a_bound_completes s at all several sort n names frames i
+completes s (bound_more at all several sort n names) frames i = bound_more_completes s at all several sort n names frames i
 completes s (a_part_bracket at n) frames i = a_part_bracket_completes s at n frames i
 completes s (a_part_name at n) frames i = a_part_name_completes s at n frames i
 completes s (a_part_close at name n) frames i = a_part_close_completes s at name n frames i

@@ -1,12 +1,15 @@
 -- Every move of the machine leads from a state that can be completed to another one, and only a number is asked for its value,
 -- and only a token that opens a level for its depth.
-use Rattle.std.proofs.Common.{ℕ, suc, ◌≡◌, Bool, true, false, List, [], ◌∷◌, ◌++◌, Option, Some, None, refl, if◌then◌else◌}
+use Rattle.std.proofs.Common.{ℕ, ℤ, suc, ◌≡◌, Bool, true, false, List, [], ◌∷◌, ◌++◌, Option, Some, None, refl, if◌then◌else◌}
 use Rattle.pri_tokens.specs.declared.terminals.Terminal.{Terminal}
 use Rattle.pri_tokens.specs.declared.terminals.Terminal.TheVariants as t
 use Rattle.pri_tokens.specs.declared.terminals.Lexeme.{Lexeme}
 use Rattle.pri_reader.specs.declared.tree.Expr.{Expr}
 use Rattle.pri_reader.specs.declared.tree.Added.{Added}
 use Rattle.pri_reader.specs.declared.tree.Name.{Name}
+use Rattle.pri_reader.specs.declared.tree.TypeName.{TypeName}
+use Rattle.pri_reader.specs.declared.tree.TypeName.TheVariants as type
+use Rattle.pri_reader.specs.declared.tree.Declared.{Declared}
 use Rattle.pri_reader.specs.declared.tree.NameSet.{NameSet}
 use Rattle.pri_reader.specs.declared.tree.Block.{Block}
 use Rattle.pri_reader.specs.declared.tree.Comparison.{Comparison}
@@ -16,10 +19,10 @@ use Rattle.pri_reader.specs.declared.classes.Heading.{Heading}
 use Rattle.pri_reader.specs.declared.classes.Heading.TheVariants as h
 use Rattle.pri_reader.specs.Classes.{prefix_of, opening_of, heading_of, comparison_of, adding_of}
 use Rattle.pri_reader.specs.Grammar.{Right, equivalence, implication, multiplication, Chain, disjunction, conjunction, added, chained, summed, Setting, value_of, has_problem, with_set}
-use Rattle.pri_reader.specs.MachineStates.{Frame, right_of, chain_of, rel_of, sum_of, wrap, wrapped, second, parenthesis_of, test_of, branch_of, arguments_of, pair_left, pair_right, problem_of, Want, a_unary, a_minus, a_parenthesis, behind_name, an_argument, a_pair, a_binder, a_bound_int, a_bound, bound_more, a_part_bracket, a_part_name, a_part_close, gives, a_block, a_brace, a_line, a_name, names_more, an_item_line, an_item, behind_item, a_first_parameter, a_parameter, behind_int, parameters_more, items_more, NamesFor, for_constants, for_set, ItemsFor, Move, bad, on, numeral, level, applied, under_rel, under_right, under_member, wants_right}
-use Rattle.pri_reader.specs.Machine.{with_item, takes_right, takes_chain, sum_goes_on, rel_goes_on, parenthesis_follows, test_follows, branch_follows, arguments_follow, left_follows, pair_follows, problem_follows, parenthesis_moves, minus_moves, unary_moves, behind_name_moves, argument_moves, pair_moves, binder_moves, bound_int_moves, bound_moves, bound_more_moves, part_bracket_moves, part_name_moves, part_close_moves, follows, moves, block_moves, brace_moves, line_moves, name_moves, sets_end, names_more_moves, item_moves, item_line_moves, items_more_moves, behind_item_moves, parameter_moves, first_parameter_moves, parameters_more_moves, behind_int_moves}
+use Rattle.pri_reader.specs.MachineStates.{Frame, right_of, chain_of, rel_of, sum_of, wrap, wrapped, second, parenthesis_of, test_of, branch_of, arguments_of, pair_left, pair_right, problem_of, Want, a_unary, a_minus, a_parenthesis, behind_name, an_argument, a_pair, a_binder, TypeFor, for_line, for_binder, Side, lower, upper, a_type, behind_int_word, an_endpoint, an_endpoint_number, behind_endpoint, behind_type, a_bound, bound_more, a_part_bracket, a_part_name, a_part_close, gives, a_block, a_brace, a_line, a_name, names_more, an_item_line, an_item, behind_item, a_first_parameter, a_parameter, behind_int, parameters_more, items_more, NamesFor, for_constants, for_set, ItemsFor, Move, bad, on, numeral, level, applied, under_rel, under_right, under_member, wants_right}
+use Rattle.pri_reader.specs.Machine.{with_item, takes_right, takes_chain, sum_goes_on, rel_goes_on, parenthesis_follows, test_follows, branch_follows, arguments_follow, left_follows, pair_follows, problem_follows, parenthesis_moves, minus_moves, unary_moves, behind_name_moves, argument_moves, pair_moves, binder_moves, type_moves, behind_type_moves, int_word_moves, endpoint_moves, endpoint_number_moves, behind_endpoint_moves, bound_moves, bound_more_moves, part_bracket_moves, part_name_moves, part_close_moves, follows, moves, block_moves, brace_moves, line_moves, name_moves, sets_end, names_more_moves, item_moves, item_line_moves, items_more_moves, behind_item_moves, parameter_moves, first_parameter_moves, parameters_more_moves, behind_int_moves}
 use Rattle.pri_reader.specs.First.{opens_level, LeadsTo, leads_on, leads_numeral, leads_level, Reaches, reaches_first, reaches_next, Completes}
-use Rattle.pri_reader.proofs.Finish.{IsInProblem, IsWhole, completes}
+use Rattle.pri_reader.proofs.Finish.{IsInProblem, IsTypeWhole, IsWhole, completes}
 
 abbrev pub is_number : Terminal → Bool
 is_number t.Number = true
@@ -194,28 +197,31 @@ pair_begin_keeps : (k : Terminal) (value : ℕ) (max : Bool) (at n : ℕ) (frame
 pair_begin_keeps t.OpenParenthesis value max at n frames i = (refl, i)
 pair_begin_keeps _ value max at n frames i = tt
 
+names_whole : (for : TypeFor) (sort : TypeName) (frames : List Frame) → IsTypeWhole for frames → IsWhole (behind_type for sort) frames
+names_whole (for_line universal at names blocks) sort frames i = tt
+names_whole (for_binder at all several n names) sort frames i = i
+
+type_keeps : (k : Terminal) (value : ℕ) (for : TypeFor) (frames : List Frame) → IsTypeWhole for frames → Keeps k value (type_moves k for frames)
+type_keeps t.Nat value for frames i = (refl, names_whole for type.Nat frames i)
+type_keeps t.Int value for frames i = (refl, i)
+type_keeps _ value for frames i = tt
+
 binder_keeps : (k : Terminal) (value at : ℕ) (all : Bool) (n : ℕ) (frames : List Frame) → IsInProblem frames → Keeps k value (binder_moves k at all n frames)
-binder_keeps t.Int value at all n frames i = (refl, i)
 binder_keeps t.OpenParenthesis value at all n frames i = (refl, i)
-binder_keeps _ value at all n frames i = tt
+binder_keeps k value at all n frames i = type_keeps k value (for_binder at all false n []) frames i
 
-bound_int_keeps : (k : Terminal) (value at : ℕ) (all : Bool) (n : ℕ) (names : List Name) (frames : List Frame) → IsInProblem frames
-    → Keeps k value (bound_int_moves k at all n names frames)
-bound_int_keeps t.Int value at all n names frames i = (refl, i)
-bound_int_keeps _ value at all n names frames i = tt
+bound_keeps : (s : Setting) (x : Lexeme) (k : Terminal) (value at : ℕ) (all several : Bool) (sort : TypeName) (n : ℕ) (names : List Declared) (frames : List Frame) → IsInProblem frames
+    → Keeps k value (bound_moves s x k at all several sort n names frames)
+bound_keeps s x t.Identifier value at all several sort n names frames i = (refl, i)
+bound_keeps s x _ value at all several sort n names frames i = tt
 
-bound_keeps : (s : Setting) (x : Lexeme) (k : Terminal) (value at : ℕ) (all several : Bool) (n : ℕ) (names : List Name) (frames : List Frame) → IsInProblem frames
-    → Keeps k value (bound_moves s x k at all several n names frames)
-bound_keeps s x t.Identifier value at all several n names frames i = (refl, i)
-bound_keeps s x _ value at all several n names frames i = tt
-
-bound_more_keeps : (k : Terminal) (value at : ℕ) (all several : Bool) (n : ℕ) (names : List Name) (frames : List Frame) → IsInProblem frames
-    → Keeps k value (bound_more_moves k at all several n names frames)
-bound_more_keeps t.Comma value at all several n names frames i = (refl, i)
-bound_more_keeps t.Semicolon value at all false n names frames i = (refl, i)
-bound_more_keeps t.Semicolon value at all true n names frames i = (refl, i)
-bound_more_keeps t.CloseParenthesis value at all true n names frames i = (refl, i)
-bound_more_keeps _ value at all several n names frames i = tt
+bound_more_keeps : (k : Terminal) (value at : ℕ) (all several : Bool) (sort : TypeName) (n : ℕ) (names : List Declared) (frames : List Frame) → IsInProblem frames
+    → Keeps k value (bound_more_moves k at all several sort n names frames)
+bound_more_keeps t.Comma value at all several sort n names frames i = (refl, i)
+bound_more_keeps t.Semicolon value at all false sort n names frames i = (refl, i)
+bound_more_keeps t.Semicolon value at all true sort n names frames i = (refl, i)
+bound_more_keeps t.CloseParenthesis value at all true sort n names frames i = (refl, i)
+bound_more_keeps _ value at all several sort n names frames i = tt
 
 part_bracket_keeps : (k : Terminal) (value at n : ℕ) (frames : List Frame) → IsInProblem frames → Keeps k value (part_bracket_moves k at n frames)
 part_bracket_keeps t.OpenBracket value at n frames i = (refl, i)
@@ -246,10 +252,9 @@ brace_keeps t.OpenBrace value h.Problem at blocks = (refl, tt)
 brace_keeps t.OpenBrace value h.Interpolant at blocks = (refl, tt)
 brace_keeps _ value heading at blocks = tt
 
-line_keeps : (k : Terminal) (value : ℕ) (universal : Bool) (at : ℕ) (names : List Name) (blocks : List Block) → Keeps k value (line_moves k universal at names blocks)
-line_keeps t.Int value universal at names blocks = (refl, tt)
+line_keeps : (k : Terminal) (value : ℕ) (universal : Bool) (at : ℕ) (names : List Declared) (blocks : List Block) → Keeps k value (line_moves k universal at names blocks)
 line_keeps t.CloseBrace value universal at names blocks = (refl, tt)
-line_keeps _ value universal at names blocks = tt
+line_keeps k value universal at names blocks = type_keeps k value (for_line universal at names blocks) [] tt
 
 a_name_keeps : (s : Setting) (x : Lexeme) (k : Terminal) (value : ℕ) (names_for : NamesFor) (names : List Name) → Keeps k value (name_moves s x k names_for names)
 a_name_keeps s x t.Identifier value names_for names = (refl, tt)
@@ -261,10 +266,40 @@ sets_keep value at (first ∷ sets) all blocks = (refl, tt)
 
 names_more_keeps : (k : Terminal) (value here : ℕ) (names_for : NamesFor) (names : List Name) → Keeps k value (names_more_moves k here names_for names)
 names_more_keeps t.Comma value here names_for names = (refl, tt)
-names_more_keeps t.Semicolon value here (for_constants universal at old blocks) names = (refl, tt)
+names_more_keeps t.Semicolon value here (for_constants sort universal at old blocks) names = (refl, tt)
 names_more_keeps t.Semicolon value here (for_set at sets start blocks) names = (refl, tt)
 names_more_keeps t.CloseBrace value here (for_set at sets start blocks) names = sets_keep value at sets (with_set sets start names) blocks
 names_more_keeps _ value here names_for names = tt
+
+-- Types.
+
+behind_type_keeps : (s : Setting) (x : Lexeme) (k : Terminal) (value : ℕ) (for : TypeFor) (sort : TypeName) (frames : List Frame) → IsTypeWhole for frames
+    → Keeps k value (behind_type_moves s x k for sort frames)
+behind_type_keeps s x k value (for_line universal at names blocks) sort frames i = a_name_keeps s x k value (for_constants sort universal at names blocks) []
+behind_type_keeps s x k value (for_binder at all several n names) sort frames i = bound_keeps s x k value at all several sort n names frames i
+
+int_word_keeps : (s : Setting) (x : Lexeme) (k : Terminal) (value : ℕ) (for : TypeFor) (frames : List Frame) → IsTypeWhole for frames → Keeps k value (int_word_moves s x k for frames)
+int_word_keeps s x t.OpenBracket value for frames i = (refl, i)
+int_word_keeps s x k value for frames i = behind_type_keeps s x k value for type.Int frames i
+
+endpoint_keeps : (s : Setting) (x : Lexeme) (k : Terminal) (for : TypeFor) (side : Side) (frames : List Frame) → IsTypeWhole for frames
+    → Keeps k (value_of s x) (endpoint_moves s x k for side frames)
+endpoint_keeps s x t.Minus for side frames i = (refl, i)
+endpoint_keeps s x t.Number for side frames i = (refl, refl, i)
+endpoint_keeps s x _ for side frames i = tt
+
+endpoint_number_keeps : (s : Setting) (x : Lexeme) (k : Terminal) (for : TypeFor) (side : Side) (frames : List Frame) → IsTypeWhole for frames
+    → Keeps k (value_of s x) (endpoint_number_moves s x k for side frames)
+endpoint_number_keeps s x t.Number for side frames i = (refl, refl, i)
+endpoint_number_keeps s x _ for side frames i = tt
+
+behind_endpoint_keeps : (k : Terminal) (value : ℕ) (for : TypeFor) (side : Side) (found : ℤ) (frames : List Frame) → IsTypeWhole for frames
+    → Keeps k value (behind_endpoint_moves k for side found frames)
+behind_endpoint_keeps t.Comma value for lower found frames i = (refl, i)
+behind_endpoint_keeps t.CloseBracket value for (upper least) found frames i = (refl, names_whole for (type.Range least found) frames i)
+behind_endpoint_keeps _ value for side found frames i = tt
+
+-- Items.
 
 item_keeps : (s : Setting) (x : Lexeme) (k : Terminal) (value : ℕ) (i : ItemsFor) → Keeps k value (item_moves s x k i)
 item_keeps s x t.Identifier value i = (refl, tt)
@@ -314,9 +349,13 @@ moves_keep s x k (behind_name name n) frames i = name_keeps k (value_of s x) x.a
 moves_keep s x k (an_argument name n) frames i = argument_keeps s x k name n frames i
 moves_keep s x k (a_pair max at n) frames i = pair_begin_keeps k (value_of s x) max at n frames i
 moves_keep s x k (a_binder at all n) frames i = binder_keeps k (value_of s x) at all n frames i
-moves_keep s x k (a_bound_int at all n names) frames i = bound_int_keeps k (value_of s x) at all n names frames i
-moves_keep s x k (a_bound at all several n names) frames i = bound_keeps s x k (value_of s x) at all several n names frames i
-moves_keep s x k (bound_more at all several n names) frames i = bound_more_keeps k (value_of s x) at all several n names frames i
+moves_keep s x k (a_type for) frames i = type_keeps k (value_of s x) for frames i
+moves_keep s x k (behind_int_word for) frames i = int_word_keeps s x k (value_of s x) for frames i
+moves_keep s x k (an_endpoint for side) frames i = endpoint_keeps s x k for side frames i
+moves_keep s x k (an_endpoint_number for side) frames i = endpoint_number_keeps s x k for side frames i
+moves_keep s x k (behind_endpoint for side value) frames i = behind_endpoint_keeps k (value_of s x) for side value frames i
+moves_keep s x k (a_bound at all several sort n names) frames i = bound_keeps s x k (value_of s x) at all several sort n names frames i
+moves_keep s x k (bound_more at all several sort n names) frames i = bound_more_keeps k (value_of s x) at all several sort n names frames i
 moves_keep s x k (a_part_bracket at n) frames i = part_bracket_keeps k (value_of s x) at n frames i
 moves_keep s x k (a_part_name at n) frames i = part_name_keeps s x k (value_of s x) at n frames i
 moves_keep s x k (a_part_close at name n) frames i = part_close_keeps k (value_of s x) at name n frames i

@@ -4,6 +4,7 @@ pub mod BoundNames
 pub mod Chains
 pub mod Complete
 pub mod CompleteBlocks
+pub mod CompleteTypes
 pub mod ConstantLines
 pub mod Exits
 pub mod FileBlocks
@@ -19,6 +20,7 @@ pub mod Sets
 pub mod States
 pub mod Following
 pub mod Beginning
+pub mod BinderMoves
 pub mod BlockMoves
 pub mod Sound
 pub mod SourceFiles
@@ -31,3 +33,6 @@ pub mod Finish
 pub mod FinishMoves
 pub mod FinishRuns
 pub mod FirstRefusal
+pub mod Numbers
+pub mod TypeLines
+pub mod TypeSteps

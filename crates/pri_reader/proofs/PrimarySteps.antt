@@ -1,5 +1,5 @@
 -- What the machine does at the tokens of formulas that are no relation, and of terms.
-use Rattle.std.proofs.Common.{ℕ, ◌≡◌, ◌≤◌, ◌<◌, ◌^◌, Bool, List, [], ◌∷◌, ◌++◌, length, Option, Some, Ok, Err, refl, sym, ap, ◌∙◌, add-one, pos, if◌then◌else◌}
+use Rattle.std.proofs.Common.{ℕ, ◌≡◌, ◌≤◌, ◌<◌, ◌^◌, Bool, List, [], ◌∷◌, ◌++◌, length, Option, Some, Err, refl, sym, ap, ◌∙◌, add-one, pos}
 use Rattle.pri_tokens.specs.declared.terminals.Terminal.{Terminal}
 use Rattle.pri_tokens.specs.declared.terminals.Terminal.TheVariants as t
 use Rattle.pri_tokens.specs.declared.terminals.Lexeme.{Lexeme}
@@ -18,7 +18,7 @@ use Rattle.pri_reader.specs.MachineStates.{Frame, wrap, not_at, minus_at, groupe
 use Rattle.pri_reader.specs.Machine.{test_follows, branch_follows, arguments_follow, left_follows, pair_follows, minus_moves, unary_moves, behind_name_moves, argument_moves, pair_moves, follows, moves, limited, goes_on, run}
 use Rattle.pri_reader.specs.Reading.{file_setting, reads, place, NotNext, Begins, BeginsNone, Opened, Prefixes, PrefixesNone}
 use Rattle.pri_reader.proofs.Moves.{taken, step_numeral}
-use Rattle.pri_reader.proofs.TokenSteps.{below, not_below, it, stuck, refused, refused_both, opened, too_deep, goes}
+use Rattle.pri_reader.proofs.TokenSteps.{below, it, stuck, refused, refused_both, opened, too_deep, too_great, goes}
 
 at_prefix : (b : List ℕ) (x : Lexeme) (n : ℕ) (frames : List Frame) (q : Option Prefix) → prefix_of x.terminal ≡ q
     → moves (file_setting b) x x.terminal (a_unary n) frames ≡ unary_moves (file_setting b) x q (opening_of x.terminal) n frames
@@ -81,12 +81,7 @@ number_step b tokens inner x n frames e h =
 pub number_great : (b : List ℕ) (tokens inner : List Lexeme) (x : Lexeme) (n : ℕ) (frames : List Frame) → Begins o.Number x tokens inner
     → 2 ^ 127 ≤ decimal_value (text_of b x)
     → reads b tokens (a_minus n) frames ≡ Err (refusal.Literal x.at)
-unfolding reads
-number_great b tokens inner x n frames e h =
-    taken (file_setting b) (length b) (it e.parts) (a_minus n) frames
-    ∙ ap (λ z. goes_on (run (file_setting b) (length b) inner) (limited ((file_setting b).small inner) ((file_setting b).shallow inner) x.at z)) (at_opening b x n frames _ e.is)
-    ∙ ap (λ z. goes_on (run (file_setting b) (length b) inner) (if z then Ok (gives (expr x.at (form.Number (pos (decimal_value (text_of b x))))), frames) else Err (refusal.Literal x.at)))
-    (not_below (decimal_value (text_of b x)) (2 ^ 127) h)
+number_great b tokens inner x n frames e h = too_great b (it e.parts) _ _ (at_opening b x n frames _ e.is) h
 
 pub truth_step : (b : List ℕ) (tokens inner : List Lexeme) (x : Lexeme) (truth : Bool) (n : ℕ) (frames : List Frame) → Begins (o.Truth truth) x tokens inner
     → reads b tokens (a_minus n) frames ≡ reads b inner (gives (expr x.at (form.Truth truth))) frames

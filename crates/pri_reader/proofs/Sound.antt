@@ -7,12 +7,13 @@ use Rattle.pri_reader.specs.declared.tree.ReadRefusal.{ReadRefusal}
 use Rattle.pri_reader.specs.declared.tree.ReadRefusal.TheVariants as refusal
 use Rattle.pri_reader.specs.Classes.{prefix_of, opening_of}
 use Rattle.pri_reader.specs.Grammar.{Setting, Takes, has_problem, Blocks, blocks_none, IsFile}
-use Rattle.pri_reader.specs.MachineStates.{Frame, Want, a_unary, a_minus, a_parenthesis, behind_name, an_argument, a_pair, a_binder, a_bound_int, a_bound, bound_more, a_part_bracket, a_part_name, a_part_close, gives, a_block, a_brace, a_line, a_name, names_more, an_item_line, an_item, behind_item, a_first_parameter, a_parameter, behind_int, parameters_more, items_more, Move, bad, on, numeral, level}
+use Rattle.pri_reader.specs.MachineStates.{Frame, Want, a_unary, a_minus, a_parenthesis, behind_name, an_argument, a_pair, a_binder, a_type, behind_int_word, an_endpoint, an_endpoint_number, behind_endpoint, a_bound, bound_more, a_part_bracket, a_part_name, a_part_close, gives, a_block, a_brace, a_line, a_name, names_more, an_item_line, an_item, behind_item, a_first_parameter, a_parameter, behind_int, parameters_more, items_more, Move, bad, on, numeral, level}
 use Rattle.pri_reader.specs.Machine.{moves, limited, goes_on, ends, run}
 use Rattle.pri_reader.proofs.States.{IsOpen, Good}
 use Rattle.pri_reader.proofs.Following.{follows_sound}
-use Rattle.pri_reader.proofs.Beginning.{open_sound, minus_sound, unary_sound, argument_sound, name_sound, pair_begins_sound, binder_sound, bound_int_sound, bound_sound, bound_more_sound, bracket_sound, part_name_sound, part_close_sound}
-use Rattle.pri_reader.proofs.BlockMoves.{block_sound, brace_sound, line_sound, a_name_sound, names_more_sound, item_sound, item_line_sound, items_more_sound, behind_item_sound, parameter_sound, first_parameter_sound, parameters_more_sound, behind_int_sound}
+use Rattle.pri_reader.proofs.Beginning.{open_sound, minus_sound, unary_sound, argument_sound, name_sound, pair_begins_sound, bracket_sound, part_name_sound, part_close_sound}
+use Rattle.pri_reader.proofs.BinderMoves.{line_sound, binder_sound, type_sound, int_word_sound, endpoint_sound, endpoint_number_sound, behind_endpoint_sound, bound_sound, bound_more_sound}
+use Rattle.pri_reader.proofs.BlockMoves.{block_sound, brace_sound, a_name_sound, names_more_sound, item_sound, item_line_sound, items_more_sound, behind_item_sound, parameter_sound, first_parameter_sound, parameters_more_sound, behind_int_sound}
 
 -- Every state.
 
@@ -25,17 +26,21 @@ moves_sound s start (a_parenthesis n) frames x tokens inner e a = open_sound s s
 moves_sound s start (behind_name name n) frames x tokens inner e a = name_sound s start name n frames e a
 moves_sound s start (an_argument name n) frames x tokens inner e a = argument_sound s start name n frames e a
 moves_sound s start (a_pair max at n) frames x tokens inner e a = pair_begins_sound s start max at n frames x.terminal e a
-moves_sound s start (a_binder at all n) frames x tokens inner e a = binder_sound s start at all n frames x.terminal e a
-moves_sound s start (a_bound_int at all n names) frames x tokens inner e a = bound_int_sound s start at all n names frames x.terminal e a
-moves_sound s start (a_bound at all several n names) frames x tokens inner e a = bound_sound s start at all several n names frames x.terminal e a
-moves_sound s start (bound_more at all several n names) frames x tokens inner e a = bound_more_sound s start at all several n names frames x.terminal e a
+moves_sound s start (a_binder at all n) frames x tokens inner e a = binder_sound s start at all n frames e a
+moves_sound s start (a_type for) frames x tokens inner e a = type_sound s start for frames x.terminal e a
+moves_sound s start (behind_int_word for) frames x tokens inner e a = int_word_sound s start for frames e a
+moves_sound s start (an_endpoint for side) frames x tokens inner e a = endpoint_sound s start for side frames x.terminal e a
+moves_sound s start (an_endpoint_number for side) frames x tokens inner e a = endpoint_number_sound s start for side frames x.terminal e a
+moves_sound s start (behind_endpoint for side value) frames x tokens inner e a = behind_endpoint_sound s start for side value frames x.terminal e a
+moves_sound s start (a_bound at all several sort n names) frames x tokens inner e a = bound_sound s start at all several sort n names frames x.terminal e a
+moves_sound s start (bound_more at all several sort n names) frames x tokens inner e a = bound_more_sound s start at all several sort n names frames x.terminal e a
 moves_sound s start (a_part_bracket at n) frames x tokens inner e a = bracket_sound s start at n frames x.terminal e a
 moves_sound s start (a_part_name at n) frames x tokens inner e a = part_name_sound s start at n frames x.terminal e a
 moves_sound s start (a_part_close at name n) frames x tokens inner e a = part_close_sound s start at name n frames x.terminal e a
 moves_sound s start (gives f) frames x tokens inner e a = follows_sound s start frames f a.part a.depth x a.outer tokens inner e a.derived a.fits
 moves_sound s start (a_block blocks) frames x tokens inner e a = block_sound s start blocks x.terminal e a
 moves_sound s start (a_brace heading at blocks) frames x tokens inner e a = brace_sound s start heading at blocks x.terminal e a
-moves_sound s start (a_line universal at names blocks) frames x tokens inner e a = line_sound s start universal at names blocks x.terminal e a
+moves_sound s start (a_line universal at names blocks) frames x tokens inner e a = line_sound s start universal at names blocks e a
 moves_sound s start (a_name names_for names) frames x tokens inner e a = a_name_sound s start names_for names x.terminal e a
 moves_sound s start (names_more names_for names) frames x tokens inner e a = names_more_sound s start names_for names e a
 moves_sound s start (an_item_line i) frames x tokens inner e a = item_line_sound s start i.typed i.at i.items i.blocks x.terminal e a

@@ -1,5 +1,5 @@
 -- What the frames and the states of the machine say of the tokens before.
-use Rattle.std.proofs.Common.{ℕ, suc, ◌≡◌, ◌≤◌, Bool, true, false, List, [], ◌∷◌, ◌++◌, length, Option}
+use Rattle.std.proofs.Common.{ℕ, ℤ, neg_ℤ, pos, suc, ◌≡◌, ◌≤◌, Bool, true, false, List, [], ◌∷◌, ◌++◌, length, Option}
 use Rattle.pri_tokens.specs.declared.terminals.Terminal.{Terminal}
 use Rattle.pri_tokens.specs.declared.terminals.Terminal.TheVariants as t
 use Rattle.pri_tokens.specs.declared.terminals.Lexeme.{Lexeme}
@@ -7,14 +7,17 @@ use Rattle.pri_reader.specs.declared.tree.Expr.{Expr}
 use Rattle.pri_reader.specs.declared.tree.Form.TheVariants as form
 use Rattle.pri_reader.specs.declared.tree.Added.{Added}
 use Rattle.pri_reader.specs.declared.tree.Name.{Name}
+use Rattle.pri_reader.specs.declared.tree.TypeName.{TypeName}
+use Rattle.pri_reader.specs.declared.tree.TypeName.TheVariants as type
+use Rattle.pri_reader.specs.declared.tree.Declared.{Declared}
 use Rattle.pri_reader.specs.declared.tree.NameSet.{NameSet}
 use Rattle.pri_reader.specs.declared.tree.Item.{Item}
 use Rattle.pri_reader.specs.declared.tree.Block.{Block}
 use Rattle.pri_reader.specs.declared.tree.Block.TheVariants as block
 use Rattle.pri_reader.specs.declared.classes.Heading.{Heading}
 use Rattle.pri_reader.specs.declared.classes.Heading.TheVariants as h
-use Rattle.pri_reader.specs.Grammar.{Right, multiplication, Chain, Part, right, chain, unary, sum, factor, parenthesized, whole, operand, member, quantifier, expr, paired, Setting, name_of, Takes, Opens, Binding, Derives, Members, Terms, Arguments, item, with_set, constants_block, items_block, Names, Constants, Parameter, Parameters, Declares, Items, ItemLines, Sets, Blocks}
-use Rattle.pri_reader.specs.MachineStates.{Frame, right_of, chain_of, rel_of, sum_of, wrap, Wrap, wrapped, parenthesis_of, test_of, branch_of, arguments_of, pair_left, pair_right, problem_of, Want, a_unary, a_minus, a_parenthesis, behind_name, an_argument, a_pair, a_binder, a_bound_int, a_bound, bound_more, a_part_bracket, a_part_name, a_part_close, gives, a_block, a_brace, a_line, a_name, names_more, an_item_line, an_item, behind_item, a_first_parameter, a_parameter, behind_int, parameters_more, items_more, NamesFor, for_constants, for_set, ItemsFor, Move, bad, on, numeral, level, applied}
+use Rattle.pri_reader.specs.Grammar.{Right, multiplication, Chain, Part, right, chain, unary, sum, factor, parenthesized, whole, operand, member, quantifier, expr, paired, Setting, value_of, name_of, of_type, Takes, TakesNumber, Opens, Endpoint, IsType, Binding, Derives, Members, Terms, Arguments, item, with_set, constants_block, items_block, Names, Constants, Parameter, Parameters, Declares, Items, ItemLines, Sets, Blocks}
+use Rattle.pri_reader.specs.MachineStates.{Frame, right_of, chain_of, rel_of, sum_of, wrap, Wrap, wrapped, parenthesis_of, test_of, branch_of, arguments_of, pair_left, pair_right, problem_of, Want, a_unary, a_minus, a_parenthesis, behind_name, an_argument, a_pair, a_binder, TypeFor, for_line, for_binder, Side, lower, upper, a_type, behind_int_word, an_endpoint, an_endpoint_number, behind_endpoint, a_bound, bound_more, a_part_bracket, a_part_name, a_part_close, gives, a_block, a_brace, a_line, a_name, names_more, an_item_line, an_item, behind_item, a_first_parameter, a_parameter, behind_int, parameters_more, items_more, NamesFor, for_constants, for_set, ItemsFor, Move, bad, on, numeral, level, applied}
 
 -- what a frame says: K says of a part, a depth and tokens that an expression of that part, which begins there, fits below the
 -- frames behind it
@@ -156,7 +159,7 @@ closer true = t.CloseParenthesis
 pub record Binder (s : Setting) (at : ℕ) (all several : Bool) (list : List Lexeme) (K : Fits) : Type 0 where
   pub depth : ℕ
   pub outer : List Lexeme
-  pub closes : (e : ℕ) (names : List Name) (f : Expr) (c : Lexeme) (end body rest : List Lexeme) → Binding s several depth e names list end
+  pub closes : (sort : TypeName) (e : ℕ) (names : List Declared) (f : Expr) (c : Lexeme) (end body rest : List Lexeme) → Binding s several sort depth e names list end
       → Takes (closer several) c end body → Derives s e unary f body rest → Derives s depth unary (expr at (form.Quantified all names f)) outer rest
   pub fits : K unary depth outer
 
@@ -167,22 +170,16 @@ pub record ABinder (s : Setting) (at : ℕ) (all : Bool) (n : ℕ) (tokens : Lis
   pub at_is : at ≡ x.at
   pub fits : K unary n outer
 
-pub record ABoundInt (s : Setting) (at : ℕ) (all : Bool) (n : ℕ) (names : List Name) (tokens : List Lexeme) (K : Fits) : Type 0 where
-  pub list : List Lexeme
-  pub binder : Binder s at all true list K
-  pub more : (i x : Lexeme) (inner rest : List Lexeme) → Takes t.Int i tokens inner → Takes t.Identifier x inner rest → Opens s rest n
-      → Binding s true binder.depth (suc n) (names ++ name_of s x ∷ []) list rest
-
-pub record ABound (s : Setting) (at : ℕ) (all several : Bool) (n : ℕ) (names : List Name) (tokens : List Lexeme) (K : Fits) : Type 0 where
+pub record ABound (s : Setting) (at : ℕ) (all several : Bool) (sort : TypeName) (n : ℕ) (names : List Declared) (tokens : List Lexeme) (K : Fits) : Type 0 where
   pub list : List Lexeme
   pub binder : Binder s at all several list K
   pub more : (x : Lexeme) (rest : List Lexeme) → Takes t.Identifier x tokens rest → Opens s rest n
-      → Binding s several binder.depth (suc n) (names ++ name_of s x ∷ []) list rest
+      → Binding s several sort binder.depth (suc n) (names ++ of_type sort (name_of s x) ∷ []) list rest
 
-pub record BoundMore (s : Setting) (at : ℕ) (all several : Bool) (n : ℕ) (names : List Name) (tokens : List Lexeme) (K : Fits) : Type 0 where
+pub record BoundMore (s : Setting) (at : ℕ) (all several : Bool) (sort : TypeName) (n : ℕ) (names : List Declared) (tokens : List Lexeme) (K : Fits) : Type 0 where
   pub list : List Lexeme
   pub binder : Binder s at all several list K
-  pub bound : Binding s several binder.depth n names list tokens
+  pub bound : Binding s several sort binder.depth n names list tokens
 
 pub record PartBracket (s : Setting) (at n : ℕ) (tokens : List Lexeme) (K : Fits) : Type 0 where
   pub depth : ℕ
@@ -207,13 +204,12 @@ pub record PartClose (s : Setting) (at : ℕ) (name : Name) (n : ℕ) (tokens : 
 
 -- Blocks.
 
-pub record ForConstants (s : Setting) (start : List Lexeme) (universal : Bool) (at : ℕ) (old : List Name) (blocks : List Block) (line : List Lexeme) : Type 0 where
+pub record ForConstants (s : Setting) (start : List Lexeme) (sort : TypeName) (universal : Bool) (at : ℕ) (old : List Declared) (blocks : List Block) (line : List Lexeme) : Type 0 where
   pub list : List Lexeme
-  pub int : List Lexeme
-  pub i : Lexeme
-  pub lines : Constants s old list int
-  pub takes : Takes t.Int i int line
-  pub closes : (names : List Name) (c : Lexeme) (close rest : List Lexeme) → Constants s names list close → Takes t.CloseBrace c close rest
+  pub types : List Lexeme
+  pub lines : Constants s old list types
+  pub is_type : IsType s sort types line
+  pub closes : (names : List Declared) (c : Lexeme) (close rest : List Lexeme) → Constants s names list close → Takes t.CloseBrace c close rest
       → Blocks s (blocks ++ constants_block universal at names ∷ []) start rest
 
 pub record ForSet (s : Setting) (start : List Lexeme) (at : ℕ) (sets : List NameSet) (from : Option ℕ) (blocks : List Block) (line : List Lexeme) : Type 0 where
@@ -223,7 +219,7 @@ pub record ForSet (s : Setting) (start : List Lexeme) (at : ℕ) (sets : List Na
       → 1 ≤ length before → Takes t.CloseBrace c close rest → Blocks s (blocks ++ block.Interpolant at (with_set before old names) ∷ []) start rest
 
 abbrev pub ForNames : Setting → List Lexeme → NamesFor → List Lexeme → Type 0
-ForNames s start (for_constants universal at old blocks) line = ForConstants s start universal at old blocks line
+ForNames s start (for_constants sort universal at old blocks) line = ForConstants s start sort universal at old blocks line
 ForNames s start (for_set at sets from blocks) line = ForSet s start at sets from blocks line
 
 pub record AName (s : Setting) (start : List Lexeme) (names_for : NamesFor) (names : List Name) (tokens : List Lexeme) : Type 0 where
@@ -236,11 +232,40 @@ pub record NamesMore (s : Setting) (start : List Lexeme) (names_for : NamesFor) 
   pub found : Names s names line tokens
   pub fits : ForNames s start names_for line
 
-pub record ALine (s : Setting) (start : List Lexeme) (universal : Bool) (at : ℕ) (names : List Name) (blocks : List Block) (tokens : List Lexeme) : Type 0 where
+pub record ALine (s : Setting) (start : List Lexeme) (universal : Bool) (at : ℕ) (names : List Declared) (blocks : List Block) (tokens : List Lexeme) : Type 0 where
   pub list : List Lexeme
   pub lines : Constants s names list tokens
-  pub closes : (more : List Name) (c : Lexeme) (close rest : List Lexeme) → Constants s more list close → Takes t.CloseBrace c close rest
+  pub closes : (more : List Declared) (c : Lexeme) (close rest : List Lexeme) → Constants s more list close → Takes t.CloseBrace c close rest
       → Blocks s (blocks ++ constants_block universal at more ∷ []) start rest
+
+-- Types.
+
+-- what a state says in which the names of a type begin
+abbrev pub BehindType : Setting → List Lexeme → TypeFor → TypeName → List Frame → List Lexeme → Type 0
+BehindType s start (for_line universal at names blocks) sort frames tokens = AName s start (for_constants sort universal at names blocks) [] tokens
+BehindType s start (for_binder at all several n names) sort frames tokens = ABound s at all several sort n names tokens (Below s start frames)
+
+pub record AType (s : Setting) (start : List Lexeme) (for : TypeFor) (frames : List Frame) (tokens : List Lexeme) : Type 0 where
+  pub done : (sort : TypeName) (rest : List Lexeme) → IsType s sort tokens rest → BehindType s start for sort frames rest
+
+pub record BehindIntWord (s : Setting) (start : List Lexeme) (for : TypeFor) (frames : List Frame) (tokens : List Lexeme) : Type 0 where
+  pub outer : List Lexeme
+  pub x : Lexeme
+  pub takes : Takes t.Int x outer tokens
+  pub done : (sort : TypeName) (rest : List Lexeme) → IsType s sort outer rest → BehindType s start for sort frames rest
+
+-- what a state says behind an endpoint of this value: behind the rest of its range, the names of that type begin
+abbrev pub BehindEndpoint : Setting → List Lexeme → TypeFor → Side → ℤ → List Frame → List Lexeme → Type 0
+BehindEndpoint s start for lower value frames tokens = (most : ℤ) (c e : Lexeme) (inner close rest : List Lexeme) → Takes t.Comma c tokens inner → Endpoint s most inner close
+    → Takes t.CloseBracket e close rest → BehindType s start for (type.Range value most) frames rest
+BehindEndpoint s start for (upper least) value frames tokens = (e : Lexeme) (rest : List Lexeme) → Takes t.CloseBracket e tokens rest
+    → BehindType s start for (type.Range least value) frames rest
+
+pub record AnEndpoint (s : Setting) (start : List Lexeme) (for : TypeFor) (side : Side) (frames : List Frame) (tokens : List Lexeme) : Type 0 where
+  pub done : (value : ℤ) (behind : List Lexeme) → Endpoint s value tokens behind → BehindEndpoint s start for side value frames behind
+
+pub record AnEndpointNumber (s : Setting) (start : List Lexeme) (for : TypeFor) (side : Side) (frames : List Frame) (tokens : List Lexeme) : Type 0 where
+  pub done : (x : Lexeme) (behind : List Lexeme) → TakesNumber s x tokens behind → BehindEndpoint s start for side (neg_ℤ (pos (value_of s x))) frames behind
 
 pub record ItemsOpen (s : Setting) (start : List Lexeme) (typed : Bool) (at : ℕ) (blocks : List Block) : Type 0 where
   pub list : List Lexeme
@@ -312,7 +337,7 @@ pub record ParametersMore (s : Setting) (start : List Lexeme) (i : ItemsFor) (na
   pub found : Parameters n counting.list tokens
 
 abbrev pub ABrace : Setting → List Lexeme → Heading → ℕ → List Block → List Lexeme → Type 0
-ABrace s start (h.Constants universal) at blocks tokens = (names : List Name) (q c : Lexeme) (inner close rest : List Lexeme) → Takes t.OpenBrace q tokens inner
+ABrace s start (h.Constants universal) at blocks tokens = (names : List Declared) (q c : Lexeme) (inner close rest : List Lexeme) → Takes t.OpenBrace q tokens inner
     → Constants s names inner close → Takes t.CloseBrace c close rest → Blocks s (blocks ++ constants_block universal at names ∷ []) start rest
 ABrace s start (h.Items typed) at blocks tokens = (its : List Item) (q c : Lexeme) (inner close rest : List Lexeme) → Takes t.OpenBrace q tokens inner
     → ItemLines s typed its inner close → Takes t.CloseBrace c close rest → Blocks s (blocks ++ items_block typed at its ∷ []) start rest
@@ -331,9 +356,13 @@ IsOpen s start (behind_name name n) frames tokens = BehindName s name n tokens (
 IsOpen s start (an_argument name n) frames tokens = AnArgument s name n tokens (Below s start frames)
 IsOpen s start (a_pair max at n) frames tokens = APair s max at n tokens (Below s start frames)
 IsOpen s start (a_binder at all n) frames tokens = ABinder s at all n tokens (Below s start frames)
-IsOpen s start (a_bound_int at all n names) frames tokens = ABoundInt s at all n names tokens (Below s start frames)
-IsOpen s start (a_bound at all several n names) frames tokens = ABound s at all several n names tokens (Below s start frames)
-IsOpen s start (bound_more at all several n names) frames tokens = BoundMore s at all several n names tokens (Below s start frames)
+IsOpen s start (a_type for) frames tokens = AType s start for frames tokens
+IsOpen s start (behind_int_word for) frames tokens = BehindIntWord s start for frames tokens
+IsOpen s start (an_endpoint for side) frames tokens = AnEndpoint s start for side frames tokens
+IsOpen s start (an_endpoint_number for side) frames tokens = AnEndpointNumber s start for side frames tokens
+IsOpen s start (behind_endpoint for side value) frames tokens = BehindEndpoint s start for side value frames tokens
+IsOpen s start (a_bound at all several sort n names) frames tokens = ABound s at all several sort n names tokens (Below s start frames)
+IsOpen s start (bound_more at all several sort n names) frames tokens = BoundMore s at all several sort n names tokens (Below s start frames)
 IsOpen s start (a_part_bracket at n) frames tokens = PartBracket s at n tokens (Below s start frames)
 IsOpen s start (a_part_name at n) frames tokens = PartName s at n tokens (Below s start frames)
 IsOpen s start (a_part_close at name n) frames tokens = PartClose s at name n tokens (Below s start frames)

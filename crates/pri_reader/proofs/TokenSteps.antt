@@ -1,5 +1,5 @@
 -- What the machine does at a token, or where no token is taken.
-use Rattle.std.proofs.Common.{ℕ, ◌≡◌, ◌≤◌, ◌<◌, true, false, List, [], ◌∷◌, length, Ok, Err, refl, sym, ap, ◌∙◌, arith, add-one, nat_lt, if◌then◌else◌}
+use Rattle.std.proofs.Common.{ℕ, ◌≡◌, ◌≤◌, ◌<◌, ◌^◌, true, false, List, [], ◌∷◌, length, Ok, Err, refl, sym, ap, ◌∙◌, arith, add-one, nat_lt, if◌then◌else◌}
 use Rattle.std.proofs.lemmas.Bool.Decides.{nat_tests}
 use Rattle.pri_tokens.specs.declared.terminals.Terminal.{Terminal}
 use Rattle.pri_tokens.specs.declared.terminals.Terminal.TheVariants as t
@@ -7,7 +7,7 @@ use Rattle.pri_tokens.specs.declared.terminals.Lexeme.{Lexeme}
 use Rattle.pri_reader.specs.declared.tree.Expr.{Expr}
 use Rattle.pri_reader.specs.declared.tree.ReadRefusal.TheVariants as refusal
 use Rattle.pri_reader.specs.Grammar.{equivalence, Takes}
-use Rattle.pri_reader.specs.MachineStates.{Frame, wrap, Wrap, wrapped, parenthesis_of, Want, a_unary, a_parenthesis, gives, bad, on, level, under_right}
+use Rattle.pri_reader.specs.MachineStates.{Frame, wrap, Wrap, wrapped, parenthesis_of, Want, a_unary, a_parenthesis, gives, bad, on, numeral, level, under_right}
 use Rattle.pri_reader.specs.Machine.{parenthesis_follows, parenthesis_moves, follows, moves, limited, goes_on, ends, run}
 use Rattle.pri_reader.specs.Reading.{file_setting, reads, place, NotNext, Opened}
 use Rattle.pri_reader.proofs.Moves.{taken, step_on, step_level, pass_wrap}
@@ -61,6 +61,25 @@ too_deep b {x = x} {inner = inner} e want frames {n = n} {new = new} {more = mor
     taken (file_setting b) (length b) e want frames
     ∙ ap (λ z. goes_on (run (file_setting b) (length b) inner) (limited ((file_setting b).small inner) ((file_setting b).shallow inner) x.at z)) m
     ∙ ap (λ z. goes_on (run (file_setting b) (length b) inner) (if z then Ok (new, more) else Err (refusal.Deep x.at))) (not_below n 200 h)
+
+pub too_great : (b : List ℕ) {k : Terminal} {x : Lexeme} {tokens inner : List Lexeme} → Takes k x tokens inner
+    → (want : Want) (frames : List Frame) {value : ℕ} {new : Want} {more : List Frame} → moves (file_setting b) x k want frames ≡ numeral value new more → 2 ^ 127 ≤ value
+    → reads b tokens want frames ≡ Err (refusal.Literal x.at)
+unfolding reads
+too_great b {x = x} {inner = inner} e want frames {value = value} {new = new} {more = more} m h =
+    taken (file_setting b) (length b) e want frames
+    ∙ ap (λ z. goes_on (run (file_setting b) (length b) inner) (limited ((file_setting b).small inner) ((file_setting b).shallow inner) x.at z)) m
+    ∙ ap (λ z. goes_on (run (file_setting b) (length b) inner) (if z then Ok (new, more) else Err (refusal.Literal x.at))) (not_below value (2 ^ 127) h)
+
+-- a token that is not of this terminal does the same in another state
+pub passes : (b : List ℕ) (terminal : Terminal) (tokens : List Lexeme) (want new : Want) (frames : List Frame) → NotNext terminal tokens
+    → ends (length b) want ≡ ends (length b) new
+    → ((x : Lexeme) (k : Terminal) → (k ≡ terminal → ⊥) → moves (file_setting b) x k want frames ≡ moves (file_setting b) x k new frames)
+    → reads b tokens want frames ≡ reads b tokens new frames
+unfolding reads run
+passes b terminal [] want new frames h e m = e
+passes b terminal (x ∷ inner) want new frames h e m =
+    ap (λ z. goes_on (run (file_setting b) (length b) inner) (limited ((file_setting b).small inner) ((file_setting b).shallow inner) x.at z)) (m x x.terminal (h.no x inner refl))
 
 pub goes : (b : List ℕ) {k : Terminal} {x : Lexeme} {tokens inner : List Lexeme} → Takes k x tokens inner
     → (want : Want) (frames : List Frame) {new : Want} {more : List Frame} → moves (file_setting b) x k want frames ≡ on new more

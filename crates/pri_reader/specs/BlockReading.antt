@@ -4,12 +4,15 @@ use Rattle.pri_tokens.specs.declared.terminals.Terminal.{Terminal}
 use Rattle.pri_tokens.specs.declared.terminals.Lexeme.{Lexeme}
 use Rattle.pri_reader.specs.declared.tree.Block.{Block}
 use Rattle.pri_reader.specs.declared.tree.Item.{Item}
+use Rattle.pri_reader.specs.declared.tree.Name.{Name}
+use Rattle.pri_reader.specs.declared.tree.TypeName.{TypeName}
+use Rattle.pri_reader.specs.declared.tree.Declared.{Declared}
 use Rattle.pri_reader.specs.declared.tree.ReadRefusal.{ReadRefusal}
 use Rattle.pri_reader.specs.declared.tree.ReadRefusal.TheVariants as refusal
 use Rattle.pri_reader.specs.declared.classes.Heading.{Heading}
 use Rattle.pri_reader.specs.declared.classes.Heading.TheVariants as h
-use Rattle.pri_reader.specs.Grammar.{Takes, is_problem}
-use Rattle.pri_reader.specs.MachineStates.{Want, a_block, a_brace, an_item, an_item_line, ItemsFor}
+use Rattle.pri_reader.specs.Grammar.{Takes, all_of_type, is_problem}
+use Rattle.pri_reader.specs.MachineStates.{Want, a_block, a_brace, a_name, names_more, an_item, an_item_line, ItemsFor}
 use Rattle.pri_reader.specs.Machine.{items_for}
 use Rattle.pri_reader.specs.Reading.{FailsWith, NotNext, reads}
 
@@ -20,6 +23,12 @@ pub record Passes {A : Type 0} (b : List ℕ) (tokens : List Lexeme) (want : A �
 -- the file is refused so, where these tokens are read in any of these states
 pub record Stops (b : List ℕ) {A : Type 0} (want : A → Want) (tokens : List Lexeme) (e : ReadRefusal) : Type 0 where
   pub run : (a : A) → FailsWith e (reads b tokens (want a) [])
+
+-- the tokens before the rest are read as names, which are of this type
+pub record PassesNames (b : List ℕ) (sort : TypeName) (found : List Declared) (tokens rest : List Lexeme) : Type 0 where
+  pub names : List Name
+  pub typed : found ≡ all_of_type sort names
+  pub passes : Passes b tokens (λ for. a_name for []) rest (λ for. names_more for names)
 
 -- a token of this terminal may come next, and is taken then
 abbrev pub MayTake : Terminal → List Lexeme → List Lexeme → Type 0

@@ -1,6 +1,6 @@
 -- The grammar of problem files: which tokens are derived from which of its parts, and what they say. Below d open levels,
 -- the tokens before the rest are derived from a part. Each production is one constructor, and reads like its line.
-use Rattle.std.specs.Prelude.{ℕ, suc, ◌≡◌, ◌≤◌, Bool, true, false, List, [], ◌∷◌, ◌++◌, length, pos, Option, Some, None}
+use Rattle.std.specs.Prelude.{ℕ, ℤ, suc, ◌≡◌, ◌≤◌, Bool, true, false, List, [], ◌∷◌, ◌++◌, length, map, pos, neg_ℤ, Option, Some, None}
 use Rattle.std.specs.List.{list_any}
 use Rattle.pri_tokens.specs.declared.terminals.Terminal.{Terminal}
 use Rattle.pri_tokens.specs.declared.terminals.Terminal.TheVariants as t
@@ -11,6 +11,9 @@ use Rattle.pri_reader.specs.declared.tree.Form.{Form}
 use Rattle.pri_reader.specs.declared.tree.Form.TheVariants as form
 use Rattle.pri_reader.specs.declared.tree.Added.{Added}
 use Rattle.pri_reader.specs.declared.tree.Name.{Name}
+use Rattle.pri_reader.specs.declared.tree.TypeName.{TypeName}
+use Rattle.pri_reader.specs.declared.tree.TypeName.TheVariants as type
+use Rattle.pri_reader.specs.declared.tree.Declared.{Declared}
 use Rattle.pri_reader.specs.declared.tree.NameSet.{NameSet}
 use Rattle.pri_reader.specs.declared.tree.Item.{Item}
 use Rattle.pri_reader.specs.declared.tree.File.{File}
@@ -148,19 +151,45 @@ pub record Takes (terminal : Terminal) (x : Lexeme) (tokens rest : List Lexeme) 
 abbrev pub Opens : Setting → List Lexeme → ℕ → Type 0
 Opens s rest d = s.shallow rest d ≡ true
 
--- The names that a quantifier binds, each of which opens a level: below d levels before them, e behind them. They are
--- int identifier { , identifier }, and in parentheses also { ; int identifier { , identifier } }.
-pub data Binding (s : Setting) : Bool → ℕ → ℕ → List Name → List Lexeme → List Lexeme → Type 0 where
-  bound_first : {several : Bool} {d : ℕ} {i x : Lexeme} {tokens inner rest : List Lexeme}
-      → Takes t.Int i tokens inner → Takes t.Identifier x inner rest → Opens s rest d
-      → Binding s several d (suc d) (name_of s x ∷ []) tokens rest
-  bound_next : {several : Bool} {d e : ℕ} {names : List Name} {c x : Lexeme} {tokens comma inner rest : List Lexeme}
-      → Binding s several d e names tokens comma → Takes t.Comma c comma inner → Takes t.Identifier x inner rest → Opens s rest e
-      → Binding s several d (suc e) (names ++ name_of s x ∷ []) tokens rest
-  bound_line : {d e : ℕ} {names : List Name} {c i x : Lexeme} {tokens semicolon int inner rest : List Lexeme}
-      → Binding s true d e names tokens semicolon → Takes t.Semicolon c semicolon int → Takes t.Int i int inner
+-- the number x comes next, and is not too large
+pub record TakesNumber (s : Setting) (x : Lexeme) (tokens rest : List Lexeme) : Type 0 where
+  pub takes : Takes t.Number x tokens rest
+  pub small : s.small rest (value_of s x) ≡ true
+
+-- an endpoint of a range: bound = [ - ] number; its - opens no level
+pub data Endpoint (s : Setting) : ℤ → List Lexeme → List Lexeme → Type 0 where
+  endpoint_plain : {x : Lexeme} {tokens rest : List Lexeme} → TakesNumber s x tokens rest → Endpoint s (pos (value_of s x)) tokens rest
+  endpoint_minus : {m x : Lexeme} {tokens inner rest : List Lexeme}
+      → Takes t.Minus m tokens inner → TakesNumber s x inner rest → Endpoint s (neg_ℤ (pos (value_of s x))) tokens rest
+
+-- type = nat; or int [ [ bound , bound ] ]
+pub data IsType (s : Setting) : TypeName → List Lexeme → List Lexeme → Type 0 where
+  type_nat : {x : Lexeme} {tokens rest : List Lexeme} → Takes t.Nat x tokens rest → IsType s type.Nat tokens rest
+  type_int : {x : Lexeme} {tokens rest : List Lexeme} → Takes t.Int x tokens rest → IsType s type.Int tokens rest
+  type_range : {a b : ℤ} {x o c e : Lexeme} {tokens after lower comma upper close rest : List Lexeme}
+      → Takes t.Int x tokens after → Takes t.OpenBracket o after lower → Endpoint s a lower comma → Takes t.Comma c comma upper
+      → Endpoint s b upper close → Takes t.CloseBracket e close rest → IsType s (type.Range a b) tokens rest
+
+-- a name of this type
+abbrev pub of_type : TypeName → Name → Declared
+of_type sort name = record { sort = sort; name = name }
+
+abbrev pub all_of_type : TypeName → List Name → List Declared
+all_of_type sort names = map (of_type sort) names
+
+-- The names that a quantifier binds, each of which opens a level: below d levels before them, e behind them, the last of them
+-- of this type. They are type identifier { , identifier }, and in parentheses also { ; type identifier { , identifier } }.
+pub data Binding (s : Setting) : Bool → TypeName → ℕ → ℕ → List Declared → List Lexeme → List Lexeme → Type 0 where
+  bound_first : {several : Bool} {sort : TypeName} {d : ℕ} {x : Lexeme} {tokens inner rest : List Lexeme}
+      → IsType s sort tokens inner → Takes t.Identifier x inner rest → Opens s rest d
+      → Binding s several sort d (suc d) (of_type sort (name_of s x) ∷ []) tokens rest
+  bound_next : {several : Bool} {sort : TypeName} {d e : ℕ} {names : List Declared} {c x : Lexeme} {tokens comma inner rest : List Lexeme}
+      → Binding s several sort d e names tokens comma → Takes t.Comma c comma inner → Takes t.Identifier x inner rest → Opens s rest e
+      → Binding s several sort d (suc e) (names ++ of_type sort (name_of s x) ∷ []) tokens rest
+  bound_line : {old new : TypeName} {d e : ℕ} {names : List Declared} {c x : Lexeme} {tokens semicolon line inner rest : List Lexeme}
+      → Binding s true old d e names tokens semicolon → Takes t.Semicolon c semicolon line → IsType s new line inner
       → Takes t.Identifier x inner rest → Opens s rest e
-      → Binding s true d (suc e) (names ++ name_of s x ∷ []) tokens rest
+      → Binding s true new d (suc e) (names ++ of_type new (name_of s x) ∷ []) tokens rest
 
 mutual
   pub data Derives (s : Setting) : ℕ → Part → Expr → List Lexeme → List Lexeme → Type 0 where
@@ -177,13 +206,13 @@ mutual
     unary_not : {d : ℕ} {f : Expr} {x : Lexeme} {tokens inner rest : List Lexeme}
         → Takes t.Not x tokens inner → Opens s inner d → Derives s (suc d) unary f inner rest
         → Derives s d unary (expr x.at (form.Not f)) tokens rest
-    -- unary = quantifier unary, quantifier = (\forall or \exists) binder, binder = int identifier { , identifier } ;
-    unary_bound : {d e : ℕ} {all : Bool} {names : List Name} {f : Expr} {x c : Lexeme} {tokens inner semicolon body rest : List Lexeme}
-        → Takes (quantifier all) x tokens inner → Binding s false d e names inner semicolon → Takes t.Semicolon c semicolon body
+    -- unary = quantifier unary, quantifier = (\forall or \exists) binder, binder = type identifier { , identifier } ;
+    unary_bound : {d e : ℕ} {all : Bool} {sort : TypeName} {names : List Declared} {f : Expr} {x c : Lexeme} {tokens inner semicolon body rest : List Lexeme}
+        → Takes (quantifier all) x tokens inner → Binding s false sort d e names inner semicolon → Takes t.Semicolon c semicolon body
         → Derives s e unary f body rest → Derives s d unary (expr x.at (form.Quantified all names f)) tokens rest
-    -- binder = ( int identifier { , identifier } { ; int identifier { , identifier } } )
-    unary_grouped : {d e : ℕ} {all : Bool} {names : List Name} {f : Expr} {x o c : Lexeme} {tokens after inner close body rest : List Lexeme}
-        → Takes (quantifier all) x tokens after → Takes t.OpenParenthesis o after inner → Binding s true d e names inner close
+    -- binder = ( type identifier { , identifier } { ; type identifier { , identifier } } )
+    unary_grouped : {d e : ℕ} {all : Bool} {sort : TypeName} {names : List Declared} {f : Expr} {x o c : Lexeme} {tokens after inner close body rest : List Lexeme}
+        → Takes (quantifier all) x tokens after → Takes t.OpenParenthesis o after inner → Binding s true sort d e names inner close
         → Takes t.CloseParenthesis c close body → Derives s e unary f body rest
         → Derives s d unary (expr x.at (form.Quantified all names f)) tokens rest
     -- unary = \part [ identifier ] unary
@@ -277,7 +306,7 @@ abbrev pub constants_word : Bool → Terminal
 constants_word true = t.UniversalConstants
 constants_word false = t.ExistentialConstants
 
-abbrev pub constants_block : Bool → ℕ → List Name → Block
+abbrev pub constants_block : Bool → ℕ → List Declared → Block
 constants_block true at names = block.Universals at names
 constants_block false at names = block.Existentials at names
 
@@ -314,12 +343,12 @@ pub data Names (s : Setting) : List Name → List Lexeme → List Lexeme → Typ
       → Names s names tokens comma → Takes t.Comma c comma inner → Takes t.Identifier x inner rest
       → Names s (names ++ name_of s x ∷ []) tokens rest
 
--- { int identifier { , identifier } ; }
-pub data Constants (s : Setting) : List Name → List Lexeme → List Lexeme → Type 0 where
+-- { type identifier { , identifier } ; }
+pub data Constants (s : Setting) : List Declared → List Lexeme → List Lexeme → Type 0 where
   constants_none : {tokens : List Lexeme} → Constants s [] tokens tokens
-  constants_line : {names more : List Name} {i c : Lexeme} {tokens int inner semicolon rest : List Lexeme}
-      → Constants s names tokens int → Takes t.Int i int inner → Names s more inner semicolon → Takes t.Semicolon c semicolon rest
-      → Constants s (names ++ more) tokens rest
+  constants_line : {sort : TypeName} {names : List Declared} {more : List Name} {c : Lexeme} {tokens line inner semicolon rest : List Lexeme}
+      → Constants s names tokens line → IsType s sort line inner → Names s more inner semicolon → Takes t.Semicolon c semicolon rest
+      → Constants s (names ++ all_of_type sort more) tokens rest
 
 -- arg = int [ identifier ]
 pub data Parameter : List Lexeme → List Lexeme → Type 0 where
@@ -374,7 +403,7 @@ pub data Sets (s : Setting) : List NameSet → Option ℕ → List Name → List
       → Sets s (with_set before start old) (Some c.at) new tokens rest
 
 pub data Declaration (s : Setting) : Block → List Lexeme → List Lexeme → Type 0 where
-  block_constants : (universal : Bool) {names : List Name} {x o c : Lexeme} {tokens after inner close rest : List Lexeme}
+  block_constants : (universal : Bool) {names : List Declared} {x o c : Lexeme} {tokens after inner close rest : List Lexeme}
       → Takes (constants_word universal) x tokens after → Takes t.OpenBrace o after inner → Constants s names inner close
       → Takes t.CloseBrace c close rest → Declaration s (constants_block universal x.at names) tokens rest
   block_items : (typed : Bool) {items : List Item} {x o c : Lexeme} {tokens after inner close rest : List Lexeme}

@@ -1,6 +1,6 @@
 -- The reader as a machine: it takes one token after another. So it says by itself which token is the first that no file has
 -- there.
-use Rattle.std.specs.Prelude.{ℕ, suc, Bool, true, false, List, [], ◌∷◌, ◌++◌, Option, Some, None, Result, Ok, Err, pos, if◌then◌else◌}
+use Rattle.std.specs.Prelude.{ℕ, ℤ, suc, Bool, true, false, List, [], ◌∷◌, ◌++◌, Option, Some, None, Result, Ok, Err, pos, neg_ℤ, if◌then◌else◌}
 use Rattle.pri_tokens.specs.declared.terminals.Terminal.{Terminal}
 use Rattle.pri_tokens.specs.declared.terminals.Terminal.TheVariants as t
 use Rattle.pri_tokens.specs.declared.terminals.Lexeme.{Lexeme}
@@ -8,6 +8,9 @@ use Rattle.pri_reader.specs.declared.tree.Expr.{Expr}
 use Rattle.pri_reader.specs.declared.tree.Form.TheVariants as form
 use Rattle.pri_reader.specs.declared.tree.Added.{Added}
 use Rattle.pri_reader.specs.declared.tree.Name.{Name}
+use Rattle.pri_reader.specs.declared.tree.TypeName.{TypeName}
+use Rattle.pri_reader.specs.declared.tree.TypeName.TheVariants as type
+use Rattle.pri_reader.specs.declared.tree.Declared.{Declared}
 use Rattle.pri_reader.specs.declared.tree.NameSet.{NameSet}
 use Rattle.pri_reader.specs.declared.tree.Item.{Item}
 use Rattle.pri_reader.specs.declared.tree.File.{File}
@@ -23,8 +26,8 @@ use Rattle.pri_reader.specs.declared.classes.Opening.TheVariants as o
 use Rattle.pri_reader.specs.declared.classes.Heading.{Heading}
 use Rattle.pri_reader.specs.declared.classes.Heading.TheVariants as h
 use Rattle.pri_reader.specs.Classes.{prefix_of, opening_of, heading_of, comparison_of, adding_of}
-use Rattle.pri_reader.specs.Grammar.{Right, equivalence, implication, multiplication, Chain, disjunction, conjunction, expr, chained, added, summed, paired, Setting, value_of, name_of, constants_block, items_block, item, with_set, has_problem}
-use Rattle.pri_reader.specs.MachineStates.{second, not_at, minus_at, bound_at, part_at, compared, grouped_at, absolute_at, branches, wrapped, Frame, right_of, chain_of, rel_of, sum_of, wrap, parenthesis_of, test_of, branch_of, arguments_of, pair_left, pair_right, problem_of, NamesFor, for_constants, for_set, ItemsFor, Want, a_unary, a_minus, a_parenthesis, behind_name, an_argument, a_pair, a_binder, a_bound_int, a_bound, bound_more, a_part_bracket, a_part_name, a_part_close, gives, a_block, a_brace, a_line, a_name, names_more, an_item_line, an_item, behind_item, a_first_parameter, a_parameter, behind_int, parameters_more, items_more, Move, bad, on, numeral, level, applied, under_product, under_sum, under_rel, under_right, wants_right, under_member}
+use Rattle.pri_reader.specs.Grammar.{Right, equivalence, implication, multiplication, Chain, disjunction, conjunction, expr, chained, added, summed, paired, Setting, value_of, name_of, of_type, all_of_type, constants_block, items_block, item, with_set, has_problem}
+use Rattle.pri_reader.specs.MachineStates.{second, not_at, minus_at, bound_at, part_at, compared, grouped_at, absolute_at, branches, wrapped, Frame, right_of, chain_of, rel_of, sum_of, wrap, parenthesis_of, test_of, branch_of, arguments_of, pair_left, pair_right, problem_of, TypeFor, for_line, for_binder, Side, lower, upper, NamesFor, for_constants, for_set, ItemsFor, Want, a_unary, a_minus, a_parenthesis, behind_name, an_argument, a_pair, a_binder, a_type, behind_int_word, an_endpoint, an_endpoint_number, behind_endpoint, a_bound, bound_more, behind_type, a_part_bracket, a_part_name, a_part_close, gives, a_block, a_brace, a_line, a_name, names_more, an_item_line, an_item, behind_item, a_first_parameter, a_parameter, behind_int, parameters_more, items_more, Move, bad, on, numeral, level, applied, under_product, under_sum, under_rel, under_right, wants_right, under_member}
 
 -- Which tokens go on with a line.
 
@@ -134,25 +137,26 @@ abbrev pub pair_moves : Terminal → Bool → ℕ → ℕ → List Frame → Mov
 pair_moves t.OpenParenthesis max at n frames = level n (a_unary (suc n)) (under_right equivalence (suc n) (pair_left max at (suc n) ∷ frames))
 pair_moves _ max at n frames = bad
 
+-- a type begins
+abbrev pub type_moves : Terminal → TypeFor → List Frame → Move
+type_moves t.Nat for frames = on (behind_type for type.Nat) frames
+type_moves t.Int for frames = on (behind_int_word for) frames
+type_moves _ for frames = bad
+
 abbrev pub binder_moves : Terminal → ℕ → Bool → ℕ → List Frame → Move
-binder_moves t.Int at all n frames = on (a_bound at all false n []) frames
-binder_moves t.OpenParenthesis at all n frames = on (a_bound_int at all n []) frames
-binder_moves _ at all n frames = bad
+binder_moves t.OpenParenthesis at all n frames = on (a_type (for_binder at all true n [])) frames
+binder_moves kind at all n frames = type_moves kind (for_binder at all false n []) frames
 
-abbrev pub bound_int_moves : Terminal → ℕ → Bool → ℕ → List Name → List Frame → Move
-bound_int_moves t.Int at all n names frames = on (a_bound at all true n names) frames
-bound_int_moves _ at all n names frames = bad
+abbrev pub bound_moves : Setting → Lexeme → Terminal → ℕ → Bool → Bool → TypeName → ℕ → List Declared → List Frame → Move
+bound_moves s x t.Identifier at all several sort n names frames = level n (bound_more at all several sort (suc n) (names ++ of_type sort (name_of s x) ∷ [])) frames
+bound_moves s x _ at all several sort n names frames = bad
 
-abbrev pub bound_moves : Setting → Lexeme → Terminal → ℕ → Bool → Bool → ℕ → List Name → List Frame → Move
-bound_moves s x t.Identifier at all several n names frames = level n (bound_more at all several (suc n) (names ++ name_of s x ∷ [])) frames
-bound_moves s x _ at all several n names frames = bad
-
-abbrev pub bound_more_moves : Terminal → ℕ → Bool → Bool → ℕ → List Name → List Frame → Move
-bound_more_moves t.Comma at all several n names frames = on (a_bound at all several n names) frames
-bound_more_moves t.Semicolon at all false n names frames = on (a_unary n) (wrap (bound_at at all names) ∷ frames)
-bound_more_moves t.Semicolon at all true n names frames = on (a_bound_int at all n names) frames
-bound_more_moves t.CloseParenthesis at all true n names frames = on (a_unary n) (wrap (bound_at at all names) ∷ frames)
-bound_more_moves _ at all several n names frames = bad
+abbrev pub bound_more_moves : Terminal → ℕ → Bool → Bool → TypeName → ℕ → List Declared → List Frame → Move
+bound_more_moves t.Comma at all several sort n names frames = on (a_bound at all several sort n names) frames
+bound_more_moves t.Semicolon at all false sort n names frames = on (a_unary n) (wrap (bound_at at all names) ∷ frames)
+bound_more_moves t.Semicolon at all true sort n names frames = on (a_type (for_binder at all true n names)) frames
+bound_more_moves t.CloseParenthesis at all true sort n names frames = on (a_unary n) (wrap (bound_at at all names) ∷ frames)
+bound_more_moves _ at all several sort n names frames = bad
 
 abbrev pub part_bracket_moves : Terminal → ℕ → ℕ → List Frame → Move
 part_bracket_moves t.OpenBracket at n frames = on (a_part_name at n) frames
@@ -189,10 +193,9 @@ abbrev pub brace_moves : Terminal → Heading → ℕ → List Block → Move
 brace_moves t.OpenBrace heading at blocks = in_braces heading at blocks
 brace_moves _ heading at blocks = bad
 
-abbrev pub line_moves : Terminal → Bool → ℕ → List Name → List Block → Move
-line_moves t.Int universal at names blocks = on (a_name (for_constants universal at names blocks) []) []
+abbrev pub line_moves : Terminal → Bool → ℕ → List Declared → List Block → Move
 line_moves t.CloseBrace universal at names blocks = on (a_block (blocks ++ constants_block universal at names ∷ [])) []
-line_moves _ universal at names blocks = bad
+line_moves kind universal at names blocks = type_moves kind (for_line universal at names blocks) []
 
 abbrev pub name_moves : Setting → Lexeme → Terminal → NamesFor → List Name → Move
 name_moves s x t.Identifier names_for names = on (names_more names_for (names ++ name_of s x ∷ [])) []
@@ -204,7 +207,7 @@ sets_end at [] all blocks = bad
 sets_end at (one ∷ more) all blocks = on (a_block (blocks ++ block.Interpolant at all ∷ [])) []
 
 abbrev pub names_end : Terminal → ℕ → NamesFor → List Name → Move
-names_end t.Semicolon here (for_constants universal at names blocks) more = on (a_line universal at (names ++ more) blocks) []
+names_end t.Semicolon here (for_constants sort universal at names blocks) more = on (a_line universal at (names ++ all_of_type sort more) blocks) []
 names_end t.Semicolon here (for_set at sets start blocks) names = on (a_name (for_set at (with_set sets start names) (Some here) blocks) []) []
 names_end t.CloseBrace here (for_set at sets start blocks) names = sets_end at sets (with_set sets start names) blocks
 names_end _ here names_for names = bad
@@ -249,6 +252,31 @@ abbrev pub behind_int_moves : Terminal → ItemsFor → Name → ℕ → Move
 behind_int_moves t.Identifier i name n = on (parameters_more i name n) []
 behind_int_moves kind i name n = parameters_more_moves kind i name n
 
+-- Types.
+
+-- what the first token of the names of a type does
+abbrev pub behind_type_moves : Setting → Lexeme → Terminal → TypeFor → TypeName → List Frame → Move
+behind_type_moves s x kind (for_line universal at names blocks) sort frames = name_moves s x kind (for_constants sort universal at names blocks) []
+behind_type_moves s x kind (for_binder at all several n names) sort frames = bound_moves s x kind at all several sort n names frames
+
+abbrev pub int_word_moves : Setting → Lexeme → Terminal → TypeFor → List Frame → Move
+int_word_moves s x t.OpenBracket for frames = on (an_endpoint for lower) frames
+int_word_moves s x kind for frames = behind_type_moves s x kind for type.Int frames
+
+abbrev pub endpoint_number_moves : Setting → Lexeme → Terminal → TypeFor → Side → List Frame → Move
+endpoint_number_moves s x t.Number for side frames = numeral (value_of s x) (behind_endpoint for side (neg_ℤ (pos (value_of s x)))) frames
+endpoint_number_moves s x _ for side frames = bad
+
+abbrev pub endpoint_moves : Setting → Lexeme → Terminal → TypeFor → Side → List Frame → Move
+endpoint_moves s x t.Minus for side frames = on (an_endpoint_number for side) frames
+endpoint_moves s x t.Number for side frames = numeral (value_of s x) (behind_endpoint for side (pos (value_of s x))) frames
+endpoint_moves s x _ for side frames = bad
+
+abbrev pub behind_endpoint_moves : Terminal → TypeFor → Side → ℤ → List Frame → Move
+behind_endpoint_moves t.Comma for lower value frames = on (an_endpoint for (upper value)) frames
+behind_endpoint_moves t.CloseBracket for (upper least) value frames = on (behind_type for (type.Range least value)) frames
+behind_endpoint_moves _ for side value frames = bad
+
 -- what the token x, of this terminal, does in a state
 unfoldable pub moves : Setting → Lexeme → Terminal → Want → List Frame → Move
 moves s x kind (a_unary n) frames = unary_moves s x (prefix_of kind) (opening_of kind) n frames
@@ -258,9 +286,13 @@ moves s x kind (behind_name name n) frames = behind_name_moves kind x.at name n 
 moves s x kind (an_argument name n) frames = argument_moves s x kind name n frames
 moves s x kind (a_pair max at n) frames = pair_moves kind max at n frames
 moves s x kind (a_binder at all n) frames = binder_moves kind at all n frames
-moves s x kind (a_bound_int at all n names) frames = bound_int_moves kind at all n names frames
-moves s x kind (a_bound at all several n names) frames = bound_moves s x kind at all several n names frames
-moves s x kind (bound_more at all several n names) frames = bound_more_moves kind at all several n names frames
+moves s x kind (a_type for) frames = type_moves kind for frames
+moves s x kind (behind_int_word for) frames = int_word_moves s x kind for frames
+moves s x kind (an_endpoint for side) frames = endpoint_moves s x kind for side frames
+moves s x kind (an_endpoint_number for side) frames = endpoint_number_moves s x kind for side frames
+moves s x kind (behind_endpoint for side value) frames = behind_endpoint_moves kind for side value frames
+moves s x kind (a_bound at all several sort n names) frames = bound_moves s x kind at all several sort n names frames
+moves s x kind (bound_more at all several sort n names) frames = bound_more_moves kind at all several sort n names frames
 moves s x kind (a_part_bracket at n) frames = part_bracket_moves kind at n frames
 moves s x kind (a_part_name at n) frames = part_name_moves s x kind at n frames
 moves s x kind (a_part_close at name n) frames = part_close_moves kind at name n frames

@@ -1,9 +1,11 @@
 -- The states of the reader as a machine: what it takes next, and what is done with what it has read.
-use Rattle.std.specs.Prelude.{ℕ, Bool, false, List, [], ◌∷◌, Option}
+use Rattle.std.specs.Prelude.{ℕ, ℤ, Bool, false, List, [], ◌∷◌, Option}
 use Rattle.pri_reader.specs.declared.tree.Expr.{Expr}
 use Rattle.pri_reader.specs.declared.tree.Form.TheVariants as form
 use Rattle.pri_reader.specs.declared.tree.Added.{Added}
 use Rattle.pri_reader.specs.declared.tree.Name.{Name}
+use Rattle.pri_reader.specs.declared.tree.TypeName.{TypeName}
+use Rattle.pri_reader.specs.declared.tree.Declared.{Declared}
 use Rattle.pri_reader.specs.declared.tree.NameSet.{NameSet}
 use Rattle.pri_reader.specs.declared.tree.Item.{Item}
 use Rattle.pri_reader.specs.declared.tree.Block.{Block}
@@ -16,7 +18,7 @@ pub data Wrap : Type 0 where
   second : Right → Expr → ℕ → Wrap
   not_at : ℕ → Wrap
   minus_at : ℕ → Wrap
-  bound_at : ℕ → Bool → List Name → Wrap
+  bound_at : ℕ → Bool → List Declared → Wrap
   part_at : ℕ → Name → Wrap
   compared : Comparison → Expr → Wrap
   grouped_at : ℕ → Wrap
@@ -49,9 +51,19 @@ pub data Frame : Type 0 where
   pair_right : Bool → ℕ → Expr → Frame
   problem_of : ℕ → List Block → Frame
 
--- what a list of names is for: a block of constants, or a set of an interpolant
+-- what a type is for: a line of a block of constants, or a line of a binder; with the names so far
+pub data TypeFor : Type 0 where
+  for_line : Bool → ℕ → List Declared → List Block → TypeFor
+  for_binder : ℕ → Bool → Bool → ℕ → List Declared → TypeFor
+
+-- which endpoint of a range is read: the lower one, or the upper one behind this lower one
+pub data Side : Type 0 where
+  lower : Side
+  upper : ℤ → Side
+
+-- what a list of names is for: a line of this type of a block of constants, or a set of an interpolant
 pub data NamesFor : Type 0 where
-  for_constants : Bool → ℕ → List Name → List Block → NamesFor
+  for_constants : TypeName → Bool → ℕ → List Declared → List Block → NamesFor
   for_set : ℕ → List NameSet → Option ℕ → List Block → NamesFor
 
 -- a block of functions or predicates, with its items so far
@@ -70,16 +82,20 @@ pub data Want : Type 0 where
   an_argument : Name → ℕ → Want
   a_pair : Bool → ℕ → ℕ → Want
   a_binder : ℕ → Bool → ℕ → Want
-  a_bound_int : ℕ → Bool → ℕ → List Name → Want
-  a_bound : ℕ → Bool → Bool → ℕ → List Name → Want
-  bound_more : ℕ → Bool → Bool → ℕ → List Name → Want
+  a_type : TypeFor → Want
+  behind_int_word : TypeFor → Want
+  an_endpoint : TypeFor → Side → Want
+  an_endpoint_number : TypeFor → Side → Want
+  behind_endpoint : TypeFor → Side → ℤ → Want
+  a_bound : ℕ → Bool → Bool → TypeName → ℕ → List Declared → Want
+  bound_more : ℕ → Bool → Bool → TypeName → ℕ → List Declared → Want
   a_part_bracket : ℕ → ℕ → Want
   a_part_name : ℕ → ℕ → Want
   a_part_close : ℕ → Name → ℕ → Want
   gives : Expr → Want
   a_block : List Block → Want
   a_brace : Heading → ℕ → List Block → Want
-  a_line : Bool → ℕ → List Name → List Block → Want
+  a_line : Bool → ℕ → List Declared → List Block → Want
   a_name : NamesFor → List Name → Want
   names_more : NamesFor → List Name → Want
   an_item_line : ItemsFor → Want
@@ -97,6 +113,11 @@ pub data Move : Type 0 where
   on : Want → List Frame → Move
   numeral : ℕ → Want → List Frame → Move
   level : ℕ → Want → List Frame → Move
+
+-- behind a type: its names
+abbrev pub behind_type : TypeFor → TypeName → Want
+behind_type (for_line universal at names blocks) sort = a_name (for_constants sort universal at names blocks) []
+behind_type (for_binder at all several n names) sort = a_bound at all several sort n names
 
 -- a name with its arguments
 abbrev pub applied : Name → List Expr → Expr

@@ -1,21 +1,23 @@
 -- What the functions of the reader say of the machine.
-use Rattle.std.specs.Prelude.{ℕ, ◌≡◌, ◌≤◌, ◌<◌, ◌+◌, ◌^◌, Bool, List, [], ◌∷◌, ◌++◌, length, Result, Ok, Err, Some, None, nat_lt}
+use Rattle.std.specs.Prelude.{ℕ, ℤ, pos, ◌≡◌, ◌≤◌, ◌<◌, ◌+◌, ◌^◌, Bool, List, [], ◌∷◌, ◌++◌, length, Result, Ok, Err, Some, None, nat_lt}
 use Rattle.pri_tokens.specs.declared.terminals.Terminal.{Terminal}
+use Rattle.pri_tokens.specs.declared.terminals.Terminal.TheVariants as t
 use Rattle.pri_tokens.specs.declared.terminals.Lexeme.{Lexeme}
 use Rattle.pri_reader.specs.declared.tree.Expr.{Expr}
 use Rattle.pri_reader.specs.declared.tree.File.{File}
 use Rattle.pri_reader.specs.declared.tree.Comparison.{Comparison}
 use Rattle.pri_reader.specs.declared.tree.ReadRefusal.{ReadRefusal}
 use Rattle.pri_reader.specs.declared.tree.ReadRefusal.TheVariants as refusal
-use Rattle.pri_reader.specs.declared.tree.Name.{Name}
+use Rattle.pri_reader.specs.declared.tree.TypeName.{TypeName}
+use Rattle.pri_reader.specs.declared.tree.Declared.{Declared}
 use Rattle.pri_reader.specs.declared.binders.NextBound.{NextBound}
 use Rattle.pri_reader.specs.declared.binders.NextBound.TheVariants as next
 use Rattle.pri_reader.specs.declared.classes.Prefix.{Prefix}
 use Rattle.pri_reader.specs.declared.classes.Heading.{Heading}
 use Rattle.pri_reader.specs.declared.classes.Opening.{Opening}
 use Rattle.pri_reader.specs.Classes.{adding_of, comparison_of, heading_of, opening_of, prefix_of}
-use Rattle.pri_reader.specs.Grammar.{Setting}
-use Rattle.pri_reader.specs.MachineStates.{Want, a_bound, a_unary, bound_more, gives, Frame, bound_at, wrap}
+use Rattle.pri_reader.specs.Grammar.{Setting, value_of, Takes, TakesNumber}
+use Rattle.pri_reader.specs.MachineStates.{Want, TypeFor, Side, a_type, an_endpoint, behind_endpoint, behind_type, a_bound, a_unary, bound_more, gives, Frame, bound_at, wrap}
 use Rattle.pri_reader.specs.Machine.{run}
 
 -- the bytes of a file, with numerals below 2^127 and at most 200 levels
@@ -92,6 +94,18 @@ pub record Unwanted (terminal : Terminal) (bytes : List ℕ) (tokens : List Lexe
   pub is : e ≡ refusal.Syntax (place (length bytes) tokens)
   pub no : NotNext terminal tokens
 
+-- a number of this value comes next
+pub record TakesValue (b : List ℕ) (value : ℤ) (tokens rest : List Lexeme) : Type 0 where
+  pub x : Lexeme
+  pub takes : TakesNumber (file_setting b) x tokens rest
+  pub is : value ≡ pos (value_of (file_setting b) x)
+
+-- the next token is refused: it is no number, or a number above 2^127 − 1
+pub data RefusesNumber (b : List ℕ) (tokens : List Lexeme) (e : ReadRefusal) : Type 0 where
+  no_number : Unwanted t.Number b tokens e → RefusesNumber b tokens e
+  too_large : {x : Lexeme} {rest : List Lexeme} → Takes t.Number x tokens rest → 2 ^ 127 ≤ value_of (file_setting b) x → e ≡ refusal.Literal x.at
+      → RefusesNumber b tokens e
+
 -- the file is refused so; want of memory says nothing
 abbrev pub FailsWith : ReadRefusal → Result File ReadRefusal → Type 0
 FailsWith refusal.Memory outcome = Unit {0}
@@ -112,6 +126,30 @@ IsRead b want above f tokens rest = Leads b tokens want above rest (gives f) []
 pub record IsRefused (b : List ℕ) (want : Want) (above : List Frame) (tokens : List Lexeme) (e : ReadRefusal) : Type 0 where
   pub run : (frames : List Frame) → FailsWith e (reads b tokens want (above ++ frames))
 
+-- Types, for each use of one.
+
+-- the tokens lead from each of these states, with any frames, to one of those
+pub record LeadsEach {A : Type 0} (b : List ℕ) (tokens : List Lexeme) (want : A → Want) (rest : List Lexeme) (new : A → Want) : Type 0 where
+  pub run : (a : A) (frames : List Frame) → reads b tokens (want a) frames ≡ reads b rest (new a) frames
+
+-- the file is refused so, where these tokens are read in any of these states
+pub record RefusedEach (b : List ℕ) {A : Type 0} (want : A → Want) (tokens : List Lexeme) (e : ReadRefusal) : Type 0 where
+  pub run : (a : A) (frames : List Frame) → FailsWith e (reads b tokens (want a) frames)
+
+-- the tokens before the rest are read as this type
+abbrev pub ReadsType : List ℕ → TypeName → List Lexeme → List Lexeme → Type 0
+ReadsType b sort tokens rest = LeadsEach b tokens (λ for. a_type for) rest (λ for. behind_type for sort)
+
+abbrev pub ReadsNoType : List ℕ → List Lexeme → ReadRefusal → Type 0
+ReadsNoType b tokens e = RefusedEach b (λ for. a_type for) tokens e
+
+-- the tokens before the rest are read as this endpoint of a range
+abbrev pub ReadsEndpoint : List ℕ → ℤ → List Lexeme → List Lexeme → Type 0
+ReadsEndpoint b value tokens rest = LeadsEach b tokens (λ (p : TypeFor × Side). an_endpoint p.0 p.1) rest (λ (p : TypeFor × Side). behind_endpoint p.0 p.1 value)
+
+abbrev pub ReadsNoEndpoint : List ℕ → List Lexeme → ReadRefusal → Type 0
+ReadsNoEndpoint b tokens e = RefusedEach b (λ (p : TypeFor × Side). an_endpoint p.0 p.1) tokens e
+
 -- The names that a quantifier binds, for each offset and kind of the quantifier.
 
 -- the tokens lead from one state of a binder to another
@@ -119,26 +157,26 @@ pub record LeadsBound (b : List ℕ) (tokens : List Lexeme) (want : ℕ → Bool
   pub run : (at : ℕ) (all : Bool) (frames : List Frame) → reads b tokens (want at all) frames ≡ reads b rest (new at all) frames
 
 -- the tokens before the rest end a binder with these names, and e levels are open behind it
-pub record Binds (b : List ℕ) (want : ℕ → Bool → Want) (names : List Name) (e : ℕ) (tokens rest : List Lexeme) : Type 0 where
+pub record Binds (b : List ℕ) (want : ℕ → Bool → Want) (names : List Declared) (e : ℕ) (tokens rest : List Lexeme) : Type 0 where
   pub run : (at : ℕ) (all : Bool) (frames : List Frame) → reads b tokens (want at all) frames ≡ reads b rest (a_unary e) (wrap (bound_at at all names) ∷ frames)
 
 -- the file is refused so, where these tokens are read in a state of a binder
 pub record BindsNone (b : List ℕ) (want : ℕ → Bool → Want) (tokens : List Lexeme) (e : ReadRefusal) : Type 0 where
   pub run : (at : ℕ) (all : Bool) (frames : List Frame) → FailsWith e (reads b tokens (want at all) frames)
 
--- what the tokens behind a bound name lead to: to one more name, or to the end of the binder
-pub record BindsMore (b : List ℕ) (several : Bool) (tokens rest : List Lexeme) : Type 0 where
-  pub run : (n : ℕ) (names : List Name) → LeadsBound b tokens (λ at all. bound_more at all several n names) rest (λ at all. a_bound at all several n names)
+-- what the tokens behind a bound name of a type lead to: to one more name, of the new type, or to the end of the binder
+pub record BindsMore (b : List ℕ) (several : Bool) (old new : TypeName) (tokens rest : List Lexeme) : Type 0 where
+  pub run : (n : ℕ) (names : List Declared) → LeadsBound b tokens (λ at all. bound_more at all several old n names) rest (λ at all. a_bound at all several new n names)
 
-pub record BindsEnd (b : List ℕ) (several : Bool) (tokens rest : List Lexeme) : Type 0 where
-  pub run : (n : ℕ) (names : List Name) → Binds b (λ at all. bound_more at all several n names) names n tokens rest
+pub record BindsEnd (b : List ℕ) (several : Bool) (sort : TypeName) (tokens rest : List Lexeme) : Type 0 where
+  pub run : (n : ℕ) (names : List Declared) → Binds b (λ at all. bound_more at all several sort n names) names n tokens rest
 
-abbrev pub BindsNext : List ℕ → Bool → NextBound → List Lexeme → List Lexeme → Type 0
-BindsNext b several next.Name tokens rest = BindsMore b several tokens rest
-BindsNext b several next.Body tokens rest = BindsEnd b several tokens rest
+abbrev pub BindsNext : List ℕ → Bool → TypeName → NextBound → List Lexeme → List Lexeme → Type 0
+BindsNext b several old (next.Name new) tokens rest = BindsMore b several old new tokens rest
+BindsNext b several sort next.Body tokens rest = BindsEnd b several sort tokens rest
 
-pub record BindsNoMore (b : List ℕ) (several : Bool) (tokens : List Lexeme) (e : ReadRefusal) : Type 0 where
-  pub run : (n : ℕ) (names : List Name) → BindsNone b (λ at all. bound_more at all several n names) tokens e
+pub record BindsNoMore (b : List ℕ) (several : Bool) (sort : TypeName) (tokens : List Lexeme) (e : ReadRefusal) : Type 0 where
+  pub run : (n : ℕ) (names : List Declared) → BindsNone b (λ at all. bound_more at all several sort n names) tokens e
 
 -- the answer is this refusal, or want of memory
 abbrev pub AnswersRefusal : ReadRefusal → Result File ReadRefusal → Type 0

@@ -1,11 +1,12 @@
 // The names that a quantifier binds, each of which opens a level.
 
-ghost use Rattle.pri_reader.specs.MachineStates.{a_binder, a_bound};
+ghost use Rattle.pri_reader.specs.MachineStates.{a_binder, a_type, for_binder};
 ghost use Rattle.pri_reader.specs.Reading.{Binds, BindsNext, BindsNoMore, BindsNone};
 ghost use Rattle.std.specs.Prelude.{◌≤◌, ◌<◌, [], IfErr, IfOk, length};
 
 use crate::cursor::{after, deeper, name, sign};
-use crate::tree::{Name, ReadRefusal};
+use crate::tree::{Declared, ReadRefusal, TypeName};
+use crate::types::type_name;
 use pri_tokens::{Lexeme, Terminal};
 use sqlite_items::Items;
 use std::alloc::Global;
@@ -13,13 +14,13 @@ use std::alloc::Global;
 /// What follows a bound name.
 #[derive(Clone, Copy, Debug, PartialEq, Eq)]
 pub enum NextBound {
-    /// One more name.
-    Name,
+    /// One more name, of this type.
+    Name(TypeName),
     /// The body of the quantifier.
     Body,
 }
 
-/// binder = int identifier { `,` identifier } `;`, or in parentheses several such lists, parted by `;`. Gives the names,
+/// binder = type identifier { `,` identifier } `;`, or in parentheses several such lists, parted by `;`. Gives the names,
 /// the levels that are then open, and the tokens of the body.
 #[tactic(auto, using(crate::proofs::BoundNames::binder_lines))]
 pub fn binder<'a>(
@@ -27,7 +28,7 @@ pub fn binder<'a>(
     bytes: &[u8],
     tokens: &'a [Lexeme],
     depth: u32,
-) -> Result<(Items<Name>, u32, &'a [Lexeme]), ReadRefusal>
+) -> Result<(Items<Declared>, u32, &'a [Lexeme]), ReadRefusal>
     requires { depth ≤ 200 }
     ensures read { IfOk result (λ x. Binds bytes.now (λ at all. a_binder at all depth) x.0 x.1 tokens.now x.2.now) }
     ensures refused { IfErr result (BindsNone bytes.now (λ at all. a_binder at all depth) tokens.now) }
@@ -35,15 +36,13 @@ pub fn binder<'a>(
     ensures levels { IfOk result (λ x. x.1 ≤ 200) }
     ensures shorter { IfOk result (λ x. length x.2.now < length tokens.now) }
 {
-    if let Some((_, inner)) = after(tokens, Terminal::Int) {
-        return bound_names(alloc, bytes, inner, depth, false);
-    }
-    let (_, int) = sign(bytes, tokens, Terminal::OpenParenthesis)?;
-    let (_, inner) = sign(bytes, int, Terminal::Int)?;
+    let Some((_, inner)) = after(tokens, Terminal::OpenParenthesis) else {
+        return bound_names(alloc, bytes, tokens, depth, false);
+    };
     bound_names(alloc, bytes, inner, depth, true)
 }
 
-/// A binder from its first name on, with several lists or one.
+/// A binder from its first type on, with several lists or one.
 #[tactic(auto, using(crate::proofs::BoundNames::bound_lines))]
 fn bound_names<'a>(
     alloc: Global,
@@ -51,51 +50,56 @@ fn bound_names<'a>(
     tokens: &'a [Lexeme],
     depth: u32,
     several: bool,
-) -> Result<(Items<Name>, u32, &'a [Lexeme]), ReadRefusal>
+) -> Result<(Items<Declared>, u32, &'a [Lexeme]), ReadRefusal>
     requires { depth ≤ 200 }
-    ensures read { IfOk result (λ x. Binds bytes.now (λ at all. a_bound at all several depth []) x.0 x.1 tokens.now x.2.now) }
-    ensures refused { IfErr result (BindsNone bytes.now (λ at all. a_bound at all several depth []) tokens.now) }
+    ensures read { IfOk result (λ x. Binds bytes.now (λ at all. a_type (for_binder at all several depth [])) x.0 x.1 tokens.now x.2.now) }
+    ensures refused { IfErr result (BindsNone bytes.now (λ at all. a_type (for_binder at all several depth [])) tokens.now) }
     ensures deeper { IfOk result (λ x. depth < x.1) }
     ensures levels { IfOk result (λ x. x.1 ≤ 200) }
     ensures shorter { IfOk result (λ x. length x.2.now < length tokens.now) }
 {
+    let (mut sort, mut inner) = type_name(bytes, tokens)?;
     let mut names = Items::new(alloc);
     let mut levels = depth;
-    let mut inner = tokens;
     'names: loop {
         let (identifier, rest) = sign(bytes, inner, Terminal::Identifier)?;
         levels = deeper(levels, identifier.at)?;
-        names.push(name(alloc, bytes, &identifier)?)?;
-        let (next, behind) = next_bound(bytes, rest, several)?;
+        let name = name(alloc, bytes, &identifier)?;
+        names.push(Declared { sort, name })?;
+        let (next, behind) = next_bound(bytes, rest, several, sort)?;
         match next {
             NextBound::Body => return Ok((names, levels, behind)),
-            NextBound::Name => inner = behind,
+            NextBound::Name(new) => {
+                sort = new;
+                inner = behind;
+            }
         }
     }
 }
 
-/// What follows a bound name, and the tokens behind its sign.
+/// What follows a bound name of this type, and the tokens behind its sign, or behind the new type.
 #[tactic(auto, using(crate::proofs::BoundNames::next_lines))]
 fn next_bound<'a>(
     bytes: &[u8],
     tokens: &'a [Lexeme],
     several: bool,
+    sort: TypeName,
 ) -> Result<(NextBound, &'a [Lexeme]), ReadRefusal>
-    ensures read { IfOk result (λ x. BindsNext bytes.now several x.0 tokens.now x.1.now) }
-    ensures refused { IfErr result (BindsNoMore bytes.now several tokens.now) }
+    ensures read { IfOk result (λ x. BindsNext bytes.now several sort x.0 tokens.now x.1.now) }
+    ensures refused { IfErr result (BindsNoMore bytes.now several sort tokens.now) }
     ensures shorter { IfOk result (λ x. length x.1.now < length tokens.now) }
 {
     if let Some((_, rest)) = after(tokens, Terminal::Comma) {
-        return Ok((NextBound::Name, rest));
+        return Ok((NextBound::Name(sort), rest));
     }
     if !several {
         let (_, rest) = sign(bytes, tokens, Terminal::Semicolon)?;
         return Ok((NextBound::Body, rest));
     }
-    let Some((_, int)) = after(tokens, Terminal::Semicolon) else {
+    let Some((_, line)) = after(tokens, Terminal::Semicolon) else {
         let (_, rest) = sign(bytes, tokens, Terminal::CloseParenthesis)?;
         return Ok((NextBound::Body, rest));
     };
-    let (_, rest) = sign(bytes, int, Terminal::Int)?;
-    Ok((NextBound::Name, rest))
+    let (new, rest) = type_name(bytes, line)?;
+    Ok((NextBound::Name(new), rest))
 }

@@ -1,13 +1,16 @@
-// The blocks of constants: `{` { int identifier { `,` identifier } `;` } `}`
+// The blocks of constants: `{` { type identifier { `,` identifier } `;` } `}`
 
-ghost use Rattle.pri_reader.specs.BlockReading.{IsBlock, IsNoBlock};
+ghost use Rattle.pri_reader.specs.BlockReading.{IsBlock, IsNoBlock, PassesNames, Stops};
 ghost use Rattle.pri_reader.specs.Grammar.{constants_block};
-ghost use Rattle.std.specs.Prelude.{◌≡◌, ◌<◌, IfErr, IfOk, length};
+ghost use Rattle.pri_reader.specs.MachineStates.{NamesFor, a_name};
+ghost use Rattle.pri_reader.specs.Reading.{NotNext};
+ghost use Rattle.pri_tokens.specs.declared.terminals.Terminal.TheVariants as t;
+ghost use Rattle.std.specs.Prelude.{◌≡◌, ◌<◌, [], IfErr, IfOk, length};
 
 use crate::classes::Heading;
-use crate::cursor::{after, sign};
-use crate::names::names;
-use crate::tree::{Block, Name, ReadRefusal};
+use crate::cursor::{after, name, sign};
+use crate::tree::{Block, Declared, ReadRefusal, TypeName};
+use crate::types::type_name;
 use pri_tokens::{Lexeme, Terminal};
 use sqlite_items::Items;
 use std::alloc::Global;
@@ -31,16 +34,42 @@ pub fn constants<'a>(
         if let Some((_, rest)) = after(inner, Terminal::CloseBrace) {
             return Ok((block_of(universal, at, all), rest));
         }
-        let (_, int) = sign(bytes, inner, Terminal::Int)?;
-        let (more, rest) = names(alloc, bytes, int)?;
+        let (sort, first) = type_name(bytes, inner)?;
+        let (more, rest) = names_of_type(alloc, bytes, first, sort)?;
         let (_, behind) = sign(bytes, rest, Terminal::Semicolon)?;
         all.append(more)?;
         inner = behind;
     }
 }
 
+/// The names of a line of this type, up to the first token that is no `,`, and the tokens from there on.
+#[tactic(auto, using(crate::proofs::BlockExits::memory, crate::proofs::Exits::shorter))]
+fn names_of_type<'a>(
+    alloc: Global,
+    bytes: &[u8],
+    tokens: &'a [Lexeme],
+    sort: TypeName,
+) -> Result<(Items<Declared>, &'a [Lexeme]), ReadRefusal>
+    ensures read { IfOk result (λ x. PassesNames bytes.now sort x.0 tokens.now x.1.now) }
+    ensures refused { IfErr result (Stops bytes.now {A = NamesFor} (λ for. a_name for []) tokens.now) }
+    ensures ended { IfOk result (λ x. NotNext t.Comma x.1.now) }
+    ensures shorter { IfOk result (λ x. length x.1.now < length tokens.now) }
+{
+    let mut names = Items::new(alloc);
+    let mut inner = tokens;
+    'names: loop {
+        let (identifier, rest) = sign(bytes, inner, Terminal::Identifier)?;
+        let name = name(alloc, bytes, &identifier)?;
+        names.push(Declared { sort, name })?;
+        let Some((_, more)) = after(rest, Terminal::Comma) else {
+            return Ok((names, rest));
+        };
+        inner = more;
+    }
+}
+
 /// The block of these constants.
-fn block_of(universal: bool, at: u64, names: Items<Name>) -> Block
+fn block_of(universal: bool, at: u64, names: Items<Declared>) -> Block
     ensures { result ≡ constants_block universal at names }
 {
     if universal {

@@ -1,14 +1,14 @@
 // The next tokens: which one comes, and what it is refused as.
 
 ghost use Rattle.pri_reader.specs.Grammar.{Takes, name_of};
-ghost use Rattle.pri_reader.specs.Reading.{Adds, AddsNone, Begins, BeginsNone, Compares, ComparesNone, Heads, HeadsNone, NoRoom, NotNext, Opened, Prefixes, PrefixesNone, Unwanted, file_setting, place};
-ghost use Rattle.std.specs.Prelude.{◌≡◌, ◌≤◌, ◌<◌, ◌+◌, IfErr, IfOk, MatchOption, length};
+ghost use Rattle.pri_reader.specs.Reading.{Adds, AddsNone, Begins, BeginsNone, Compares, ComparesNone, Heads, HeadsNone, NoRoom, NotNext, Opened, Prefixes, PrefixesNone, RefusesNumber, TakesValue, Unwanted, file_setting, place};
+ghost use Rattle.std.specs.Prelude.{◌≡◌, ◌≤◌, ◌<◌, ◌≤ℤ◌, ◌+◌, pos, IfErr, IfOk, MatchOption, length};
 
 use crate::classes::{
     Heading, Opening, Prefix, adding, comparison, headed_by, opened_by, prefixed_by,
 };
 use crate::tree::{Comparison, Name, ReadRefusal};
-use pri_tokens::{Lexeme, Terminal, spelling};
+use pri_tokens::{Lexeme, Terminal, numeral, spelling};
 use sqlite_items::Items;
 use std::alloc::Global;
 
@@ -50,6 +50,20 @@ pub fn sign<'a>(
         Some(found) => Ok(found),
         None => Err(refused(bytes, tokens)),
     }
+}
+
+/// The value of the next token, which has to be a number, and the tokens behind it.
+#[tactic(auto, using(crate::proofs::Numbers::number_lines))]
+pub fn number<'a>(bytes: &[u8], tokens: &'a [Lexeme]) -> Result<(i128, &'a [Lexeme]), ReadRefusal>
+    ensures found { IfOk result (λ x. TakesValue bytes.now x.0 tokens.now x.1.now) }
+    ensures natural { IfOk result (λ x. pos 0 ≤ℤ x.0) }
+    ensures failed { IfErr result (RefusesNumber bytes.now tokens.now) }
+{
+    let (first, rest) = sign(bytes, tokens, Terminal::Number)?;
+    let Some(value) = numeral(spelling(bytes, &first)) else {
+        return Err(ReadRefusal::Literal(first.at));
+    };
+    Ok((value, rest))
 }
 
 /// The sign before one more term, true for a minus, and the tokens behind it.

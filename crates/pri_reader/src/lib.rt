@@ -16,7 +16,9 @@ mod laws;
 mod names;
 mod terms;
 mod tree;
+mod types;
 
+pub use blocks::file;
 pub use files::read;
 pub use first::{completion_law, first_refusal_law};
 pub use laws::{machine_law, one_file_law};
@@ -24,4 +26,7 @@ pub use pri_tokens::{
     Lexeme, Terminal, Token, TokenKind, kind_of, lexemes, numeral, spelling, spelling_law, tokens,
     tokens_law,
 };
-pub use tree::{Added, Block, Comparison, Expr, File, Form, Item, Name, NameSet, ReadRefusal};
+pub use tree::{
+    Added, Block, Comparison, Declared, Expr, File, Form, Item, Name, NameSet, ReadRefusal,
+    TypeName,
+};

@@ -16,9 +16,9 @@ pub struct File {
 #[derive(Drop)]
 pub enum Block {
     /// `\universalConstants`
-    Universals(u64, Items<Name>),
+    Universals(u64, Items<Declared>),
     /// `\existentialConstants`
-    Existentials(u64, Items<Name>),
+    Existentials(u64, Items<Declared>),
     /// `\functions`
     Functions(u64, Items<Item>),
     /// `\predicates`
@@ -34,6 +34,24 @@ pub enum Block {
 pub struct Name {
     pub at: u64,
     pub text: Items<u8>,
+}
+
+/// A type of constants and of bound names.
+#[derive(Clone, Copy, Debug, PartialEq, Eq)]
+pub enum TypeName {
+    /// `int`
+    Int,
+    /// `nat`
+    Nat,
+    /// `int[a, b]`, with its lower bound and its upper one.
+    Range(i128, i128),
+}
+
+/// A declared constant or a bound name, with its type.
+#[derive(Drop)]
+pub struct Declared {
+    pub sort: TypeName,
+    pub name: Name,
 }
 
 /// A declared function or predicate, with the number of its arguments.
@@ -81,7 +99,7 @@ pub enum Form {
     Compare(Comparison, Boxed<Expr>, Boxed<Expr>),
     Not(Boxed<Expr>),
     /// A quantifier, true for `\forall`, with its bound names and its body.
-    Quantified(bool, Items<Name>, Boxed<Expr>),
+    Quantified(bool, Items<Declared>, Boxed<Expr>),
     /// `\part [name]`
     Part(Name, Boxed<Expr>),
     And(Items<Expr>),

@@ -29,7 +29,9 @@ chosen_first kind other text s table x y e o = if_begins (Chosen kind other text
     ])
 
 word_chosen : (text : List ℕ) → Chosen k.Word k.Identifier text words (word_of text)
-word_chosen text = chosen_first _ _ text _ _ _ _ refl (chosen_first _ _ text _ _ _ _ refl (chosen_first _ _ text _ _ _ _ refl (is_not_in refl refl)))
+word_chosen text =
+    chosen_first _ _ text _ _ _ _ refl (chosen_first _ _ text _ _ _ _ refl (chosen_first _ _ text _ _ _ _ refl
+    (chosen_first _ _ text _ _ _ _ refl (is_not_in refl refl))))
 
 command_chosen : (text : List ℕ) → Chosen k.Command k.Bad text commands (command_of text)
 command_chosen text =

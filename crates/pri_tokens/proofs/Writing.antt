@@ -33,13 +33,13 @@ word_by text s x y p q = if_begins (λ z. IsWritten z text) (bytes_eq text s) x 
 same_text : (text s : List ℕ) → text ≡ s → Some s ≡ Some text
 same_text text s e = ap (λ z. Some z) (sym e)
 
-no_word : (n a b c : Bool) → n ≡ true → a ≡ false → b ≡ false → c ≡ false → (n && not (a || (b || (c || false)))) ≡ true
-no_word n a b c e f g h = ap (λ v. v && not (a || (b || (c || false)))) e ∙ ap (λ v. not (v || (b || (c || false)))) f ∙ ap (λ v. not (v || (c || false))) g ∙ ap (λ v. not (v || false)) h
+no_word : (n a b c d : Bool) → n ≡ true → a ≡ false → b ≡ false → c ≡ false → d ≡ false → (n && not (a || (b || (c || (d || false))))) ≡ true
+no_word n a b c d e f g h i = rw (e, f, g, h, i) refl
 
 word_written : (text : List ℕ) → is_name text ≡ true → IsWritten (word_of text) text
 word_written text n =
     word_by text _ _ _ (same_text text _) (λ a. word_by text _ _ _ (same_text text _) (λ b. word_by text _ _ _ (same_text text _)
-    (λ c. no_word (is_name text) _ _ _ n a b c)))
+    (λ c. word_by text _ _ _ (same_text text _) (λ d. no_word (is_name text) _ _ _ _ n a b c d))))
 
 command_written : (text : List ℕ) → IsWritten (command_of text) text
 command_written text =
@@ -169,6 +169,7 @@ alone t.Identifier text e = cc
 alone t.Number text e = cc
 alone t.Bad text e = cc
 alone t.Int text e = alone_as t.Int (codes "int") text e refl
+alone t.Nat text e = alone_as t.Nat (codes "nat") text e refl
 alone t.True text e = alone_as t.True (codes "true") text e refl
 alone t.False text e = alone_as t.False (codes "false") text e refl
 alone t.UniversalConstants text e = alone_as t.UniversalConstants (codes "\\universalConstants") text e refl

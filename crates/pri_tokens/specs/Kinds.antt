@@ -23,7 +23,7 @@ has_command_form [] = false
 has_command_form (b ∷ bs) = b == 92 && list_all is_ascii_alphabetic bs
 
 abbrev pub words : List (List ℕ)
-words = codes "int" ∷ codes "true" ∷ codes "false" ∷ []
+words = codes "int" ∷ codes "nat" ∷ codes "true" ∷ codes "false" ∷ []
 
 abbrev pub commands : List (List ℕ)
 commands = codes "\\universalConstants" ∷ codes "\\existentialConstants" ∷ codes "\\functions" ∷ codes "\\predicates"

@@ -9,9 +9,10 @@ use Rattle.pri_tokens.specs.declared.spellings.Sign.{Sign}
 abbrev pub word_of : List ℕ → Terminal
 word_of text =
     if bytes_eq text (codes "int") then t.Int else
+    (if bytes_eq text (codes "nat") then t.Nat else
     (if bytes_eq text (codes "true") then t.True else
     (if bytes_eq text (codes "false") then t.False else
-    t.Identifier))
+    t.Identifier)))
 
 -- the commands; a `\` with other letters is bad
 abbrev pub command_of : List ℕ → Terminal

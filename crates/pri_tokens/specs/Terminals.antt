@@ -4,11 +4,12 @@ use Rattle.pri_tokens.specs.declared.terminals.Terminal.TheVariants as t
 use Rattle.pri_tokens.specs.declared.terminals.TokenKind.{TokenKind}
 use Rattle.pri_tokens.specs.declared.terminals.TokenKind.TheVariants as k
 
--- the kind of a terminal: identifier, number, one of three words, one of fifteen commands, bad, or a sign
+-- the kind of a terminal: identifier, number, one of four words, one of fifteen commands, bad, or a sign
 abbrev pub kind_of : Terminal → TokenKind
 kind_of t.Identifier = k.Identifier
 kind_of t.Number = k.Number
 kind_of t.Int = k.Word
+kind_of t.Nat = k.Word
 kind_of t.True = k.Word
 kind_of t.False = k.Word
 kind_of t.UniversalConstants = k.Command

@@ -10,6 +10,7 @@ abbrev pub spelling_of : Terminal → Option (List ℕ)
 spelling_of t.Identifier = None
 spelling_of t.Number = None
 spelling_of t.Int = Some (codes "int")
+spelling_of t.Nat = Some (codes "nat")
 spelling_of t.True = Some (codes "true")
 spelling_of t.False = Some (codes "false")
 spelling_of t.UniversalConstants = Some (codes "\\universalConstants")

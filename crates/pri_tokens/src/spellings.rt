@@ -19,6 +19,9 @@ pub fn word(text: &[u8]) -> Terminal
     if text == b"int".as_slice() {
         return Terminal::Int;
     }
+    if text == b"nat".as_slice() {
+        return Terminal::Nat;
+    }
     if text == b"true".as_slice() {
         return Terminal::True;
     }

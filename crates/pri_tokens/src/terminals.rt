@@ -18,7 +18,7 @@ pub enum TokenKind {
     Identifier,
     /// One or more decimal digits.
     Number,
-    /// `int`, `true` or `false`.
+    /// `int`, `nat`, `true` or `false`.
     Word,
     /// A `\` and the name of a command.
     Command,
@@ -43,6 +43,8 @@ pub enum Terminal {
     Number,
     /// `int`
     Int,
+    /// `nat`
+    Nat,
     /// `true`
     True,
     /// `false`
@@ -132,7 +134,7 @@ pub fn kind_of(terminal: Terminal) -> TokenKind
     match terminal {
         Terminal::Identifier => TokenKind::Identifier,
         Terminal::Number => TokenKind::Number,
-        Terminal::Int | Terminal::True | Terminal::False => TokenKind::Word,
+        Terminal::Int | Terminal::Nat | Terminal::True | Terminal::False => TokenKind::Word,
         Terminal::UniversalConstants
         | Terminal::ExistentialConstants
         | Terminal::Functions

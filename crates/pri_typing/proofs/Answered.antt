@@ -13,6 +13,7 @@ use Rattle.pri_typing.specs.declared.problem.TypeRefusal.{TypeRefusal}
 use Rattle.pri_typing.specs.Faults.{least}
 use Rattle.pri_typing.specs.Files.{IsTyped, file_faults}
 use Rattle.pri_typing.specs.Limits.{HasSets, IsResolvable}
+use Rattle.typed_formula.specs.Sorts.{IsSortRanged}
 use Rattle.pri_typing.specs.WellFormed.{IsWellFormed, HasDistinctNames, HasIdentifiers}
 use Rattle.pri_typing.proofs.Counted.{file_counted}
 use Rattle.pri_typing.proofs.Least.{least-none}
@@ -21,6 +22,7 @@ use Rattle.pri_typing.proofs.Formed.{well_formed, names_differ}
 use Rattle.pri_typing.proofs.Identified.{file_identified, names_identified}
 use Rattle.pri_typing.proofs.Ranged.{IsSmall, file_ranged}
 use Rattle.pri_typing.proofs.Shallow.{file_shallow}
+use Rattle.pri_typing.proofs.Sorting.{file_sorted}
 
 -- numerals of a file are below 2^127
 file_small : (bytes : List ℕ) → IsSmall (file_setting bytes)
@@ -36,6 +38,8 @@ file_resolvable bytes f few read = record {
       let tokens = tokens_length 0 0 bytes in
       omega (arith, parts, tokens, few);
   numerals = file_ranged (file_small bytes) read;
+  existential_sorts = All-from_recursion IsSortRanged _ (file_sorted (file_small bytes) read).existential;
+  universal_sorts = All-from_recursion IsSortRanged _ (file_sorted (file_small bytes) read).universal;
   identifiers = file_identified (file_setting bytes) f read;
   sets = All-from_recursion HasSets f.blocks (cuts_proper read.blocks_are);
 }
@@ -48,7 +52,7 @@ pub record IsProper (p : Problem) : Type 0 where
 
 pub file_proper : (f : File) (p : Problem) → IsResolvable f.blocks → least (file_faults f) ≡ None → IsTyped f p → IsProper p
 file_proper f p h none typed = record {
-  formed = well_formed f p (least-none _ none) typed h.numerals (recursion_from_All HasSets f.blocks h.sets);
+  formed = well_formed f p (least-none _ none) typed h.numerals h.existential_sorts h.universal_sorts (recursion_from_All HasSets f.blocks h.sets);
   distinct = names_differ f p (least-none _ none) typed;
   identifiers = names_identified f p typed h.identifiers;
 }

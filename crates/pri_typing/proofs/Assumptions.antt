@@ -61,10 +61,10 @@ mutual
   stands w false (implies f g) e = alone w false (implies f g) e
   stands w true (iff f g) e = alone w true (iff f g) e
   stands w false (iff f g) e = alone w false (iff f g) e
-  stands w true (for_all f) e = alone w true (for_all f) e
-  stands w false (for_all f) e = alone w false (for_all f) e
-  stands w true (for_some f) e = alone w true (for_some f) e
-  stands w false (for_some f) e = alone w false (for_some f) e
+  stands w true (for_all s f) e = alone w true (for_all s f) e
+  stands w false (for_all s f) e = alone w false (for_all s f) e
+  stands w true (for_some s f) e = alone w true (for_some s f) e
+  stands w false (for_some s f) e = alone w false (for_some s f) e
   stands w true (part k f) e = alone w true (part k f) e
   stands w false (part k f) e = alone w false (part k f) e
 

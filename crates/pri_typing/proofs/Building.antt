@@ -1,9 +1,11 @@
 -- The formulas and terms of lists of expressions.
-use Rattle.std.proofs.Common.{◌≡◌, ℕ, zero, suc, ◌+◌, Bool, true, false, List, [], ◌∷◌, map, length, refl, sym, ap, ◌∙◌, arith, take, take_all, get_or, subst, ◌<◌, ◌≤◌, ◌^◌}
-use Rattle.typed_formula.specs.Formula.{Formula, and_formula, and_expression, formula, formulas, formulas_of, expression, expressions, expressions_of}
+use Rattle.std.proofs.Common.{◌≡◌, ℕ, zero, suc, Bool, true, false, List, [], ◌∷◌, ◌++◌, map, length, refl, sym, ap, ◌∙◌, arith, take, take_all, get_or, subst, ◌<◌, ◌≤◌, ◌^◌}
+use Rattle.std.proofs.lemmas.List.{map-append}
+use Rattle.typed_formula.specs.Formula.{Formula, for_all, for_some, and_formula, and_expression, formula, formulas, formulas_of, expression, expressions, expressions_of}
 use Rattle.pri_reader.specs.declared.tree.Expr.{Expr}
 use Rattle.pri_reader.specs.declared.tree.Added.{Added}
-use Rattle.pri_reader.specs.declared.tree.Name.{Name}
+use Rattle.pri_reader.specs.declared.tree.Declared.{Declared}
+use Rattle.typed_formula.specs.declared.typed.Sort.{Sort}
 use Rattle.typed_formula.specs.declared.typed.Typed.{Typed}
 use Rattle.typed_formula.specs.declared.typed.TypedTerm.{TypedTerm}
 use Rattle.pri_typing.specs.declared.scope.Site.{Site}
@@ -13,15 +15,20 @@ use Rattle.pri_typing.specs.Limits.{IsShallow, AreShallow, AddendsAreShallow, Is
 use Rattle.pri_typing.proofs.Scopes.{length-bind}
 use Rattle.pri_typing.specs.Phrase.{Phrase, phrase, phrases_of, addend, addends_of}
 use Rattle.pri_typing.specs.Scope.{Scope, bind}
+use Rattle.pri_typing.specs.Sorts.{sort_of, sorts_of}
 use Rattle.pri_typing.specs.Typing.{says, value, members, terms, signed, signed_terms, quantifiers}
 use Rattle.pri_typing.proofs.Folds.{addend-term}
 
-pub quantifiers-more : (all : Bool) (n : ℕ) (f : Formula) → quantifiers all (n + 1) f ≡ quantifiers all 1 (quantifiers all n f)
-quantifiers-more all n f = ap (λ k. quantifiers all k f) {y = suc n} (omega arith) ∙ by all
-  where
-    by : (b : Bool) → quantifiers b (suc n) f ≡ quantifiers b 1 (quantifiers b n f)
-    by true = refl
-    by false = refl
+quantifiers-append : (all : Bool) (outer inner : List Sort) (f : Formula) → quantifiers all (outer ++ inner) f ≡ quantifiers all outer (quantifiers all inner f)
+quantifiers-append all [] inner f = refl
+quantifiers-append true (sort ∷ outer) inner f = ap (for_all sort) (quantifiers-append true outer inner f)
+quantifiers-append false (sort ∷ outer) inner f = ap (for_some sort) (quantifiers-append false outer inner f)
+
+-- the innermost name first
+pub quantifiers-last : (all : Bool) (names outer : List Declared) (last : Declared) (f : Formula) → names ≡ outer ++ last ∷ []
+    → quantifiers all (sorts_of outer) (quantifiers all (sort_of last.sort ∷ []) f) ≡ quantifiers all (sorts_of names) f
+quantifiers-last all names outer last f e =
+    sym (quantifiers-append all (sorts_of outer) (sort_of last.sort ∷ []) f) ∙ ap (λ z. quantifiers all z f) (sym (map-append (λ d. sort_of d.sort) outer (last ∷ [])) ∙ ap sorts_of (sym e))
 
 -- what lists of expressions say, one after another
 pub members_are : (s : Scope) (es : List Expr) → members s (phrases_of es) ≡ formulas (map (λ e. says s (phrase e)) es)
@@ -70,7 +77,7 @@ pub ready_addend : (here : Site) (more : List Added) (i : ℕ) (d : Added) → A
 ready_addend here more i d h k = record { fit = h.fit; shallow = shallow_addend (length (bound_texts here.bound.now)) more i d h.shallow k }
 
 -- a body is ready under its quantifier
-pub ready_body : (here inner : Site) (names : List Name) (p : Phrase) → IsReadyUnder here names p
+pub ready_body : (here inner : Site) (names : List Declared) (p : Phrase) → IsReadyUnder here names p
     → inner.symbols.now ≡ here.symbols.now → inner.parts.now ≡ here.parts.now → bound_texts inner.bound.now ≡ bind names (bound_texts here.bound.now) → IsReady inner p
 ready_body here inner names p h e f g =
     let deeper = ap length g ∙ length-bind names (bound_texts here.bound.now) in

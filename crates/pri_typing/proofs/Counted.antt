@@ -1,9 +1,11 @@
 -- A formula has no more parts than tokens.
-use Rattle.std.proofs.Common.{◌≡◌, ℕ, suc, pos, ◌+◌, ◌≤◌, Bool, true, false, List, [], ◌∷◌, ◌++◌, length, refl, ◌∙◌, ap, arith, if◌then◌else◌}
+use Rattle.std.proofs.Common.{◌≡◌, ℕ, ℤ, suc, pos, ◌+◌, ◌≤◌, Bool, true, false, List, [], ◌∷◌, ◌++◌, length, refl, ◌∙◌, ap, arith, if◌then◌else◌}
 use Rattle.std.proofs.lemmas.List.{length-append}
 use Rattle.pri_tokens.specs.declared.terminals.Terminal.{Terminal}
 use Rattle.pri_tokens.specs.declared.terminals.Lexeme.{Lexeme}
 use Rattle.pri_reader.specs.declared.tree.Name.{Name}
+use Rattle.pri_reader.specs.declared.tree.TypeName.{TypeName}
+use Rattle.pri_reader.specs.declared.tree.Declared.{Declared}
 use Rattle.pri_reader.specs.declared.tree.Expr.{Expr}
 use Rattle.pri_reader.specs.declared.tree.Form.{Form}
 use Rattle.pri_reader.specs.declared.tree.Form.TheVariants as form
@@ -14,7 +16,7 @@ use Rattle.pri_reader.specs.declared.tree.Block.{Block}
 use Rattle.pri_reader.specs.declared.tree.Block.TheVariants as block
 use Rattle.pri_reader.specs.declared.tree.File.{File}
 use Rattle.pri_reader.specs.Grammar as grammar
-use Rattle.pri_reader.specs.Grammar.{Setting, Right, Chain, Part, expr, join, chained, added, summed, paired, name_of, value_of, Takes, Binding, Derives, Members, Terms, Arguments, Names, Constants, Parameter, Parameters, Declares, Items, ItemLines, Sets, Declaration, Blocks, IsFile}
+use Rattle.pri_reader.specs.Grammar.{Setting, Right, Chain, Part, expr, join, chained, added, summed, paired, name_of, value_of, Takes, Endpoint, IsType, Binding, Derives, Members, Terms, Arguments, Names, Constants, Parameter, Parameters, Declares, Items, ItemLines, Sets, Declaration, Blocks, IsFile}
 use Rattle.pri_typing.specs.Phrase.{Phrase, phrase, phrase_of, phrases_of, addends_of, and_addend}
 use Rattle.pri_typing.specs.Typing.{parts_in, all_parts, addend_parts, distinct_from, part_names}
 use Rattle.texts.specs.Texts.{is_among, with_text}
@@ -90,10 +92,20 @@ none at g x is h = at_form at g x 0 is (ap length h)
 taken : {t : Terminal} {x : Lexeme} {tokens rest : List Lexeme} → Takes t x tokens rest → length tokens ≡ suc (length rest)
 taken h = ap length h.parts
 
-bound_tokens : {s : Setting} {several : Bool} {d e : ℕ} {names : List Name} {tokens rest : List Lexeme} → Binding s several d e names tokens rest → length rest ≤ length tokens
-bound_tokens (grammar.bound_first i x o) = let a = taken i in let b = taken x in omega (arith, a, b)
+endpoint_tokens : {s : Setting} {value : ℤ} {tokens rest : List Lexeme} → Endpoint s value tokens rest → length rest ≤ length tokens
+endpoint_tokens (grammar.endpoint_plain n) = let a = taken n.takes in omega (arith, a)
+endpoint_tokens (grammar.endpoint_minus m n) = let a = taken m in let b = taken n.takes in omega (arith, a, b)
+
+type_tokens : {s : Setting} {sort : TypeName} {tokens rest : List Lexeme} → IsType s sort tokens rest → length rest ≤ length tokens
+type_tokens (grammar.type_nat x) = let a = taken x in omega (arith, a)
+type_tokens (grammar.type_int x) = let a = taken x in omega (arith, a)
+type_tokens (grammar.type_range x o l c u r) =
+    let a = taken x in let b = taken o in let k = endpoint_tokens l in let h = taken c in let m = endpoint_tokens u in let i = taken r in omega (arith, a, b, k, h, m, i)
+
+bound_tokens : {s : Setting} {several : Bool} {sort : TypeName} {d e : ℕ} {names : List Declared} {tokens rest : List Lexeme} → Binding s several sort d e names tokens rest → length rest ≤ length tokens
+bound_tokens (grammar.bound_first i x o) = let a = type_tokens i in let b = taken x in omega (arith, a, b)
 bound_tokens (grammar.bound_next m c x o) = let h = bound_tokens m in let a = taken c in let b = taken x in omega (arith, h, a, b)
-bound_tokens (grammar.bound_line m c i x o) = let h = bound_tokens m in let a = taken c in let b = taken i in let k = taken x in omega (arith, h, a, b, k)
+bound_tokens (grammar.bound_line m c i x o) = let h = bound_tokens m in let a = taken c in let b = type_tokens i in let k = taken x in omega (arith, h, a, b, k)
 
 mutual
   derived : {s : Setting} {d : ℕ} {part : Part} {e : Expr} {tokens rest : List Lexeme} → Derives s d part e tokens rest → count e + length rest ≤ length tokens
@@ -149,9 +161,9 @@ names_tokens : {s : Setting} {names : List Name} {tokens rest : List Lexeme} →
 names_tokens (grammar.names_first t) = let a = taken t in omega (arith, a)
 names_tokens (grammar.names_next m c t) = let h = names_tokens m in let a = taken c in let b = taken t in omega (arith, h, a, b)
 
-constants_tokens : {s : Setting} {names : List Name} {tokens rest : List Lexeme} → Constants s names tokens rest → length rest ≤ length tokens
+constants_tokens : {s : Setting} {names : List Declared} {tokens rest : List Lexeme} → Constants s names tokens rest → length rest ≤ length tokens
 constants_tokens grammar.constants_none = omega arith
-constants_tokens (grammar.constants_line m i n c) = let h = constants_tokens m in let a = taken i in let b = names_tokens n in let k = taken c in omega (arith, h, a, b, k)
+constants_tokens (grammar.constants_line m i n c) = let h = constants_tokens m in let a = type_tokens i in let b = names_tokens n in let k = taken c in omega (arith, h, a, b, k)
 
 parameter_tokens : {tokens rest : List Lexeme} → Parameter tokens rest → length rest ≤ length tokens
 parameter_tokens (grammar.parameter_bare i) = let a = taken i in omega (arith, a)

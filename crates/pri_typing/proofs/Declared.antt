@@ -1,6 +1,6 @@
 -- What a file without faults in its declarations declares.
 use Rattle.std.proofs.Common.{◌≡◌, ℕ, zero, suc, ◌+◌, ◌≤◌, Bool, true, false, List, [], ◌∷◌, ◌++◌, map, length, nat_eq, refl, arith, if◌then◌else◌, length-append}
-use Rattle.pri_reader.specs.declared.tree.Name.{Name}
+use Rattle.pri_reader.specs.declared.tree.Declared.{Declared}
 use Rattle.pri_reader.specs.declared.tree.Item.{Item}
 use Rattle.pri_reader.specs.declared.tree.Block.{Block}
 use Rattle.pri_reader.specs.declared.tree.Block.TheVariants as block
@@ -56,7 +56,7 @@ proper_append : (ds es : List Declaration) → AreProper ds → AreProper es →
 proper_append [] es h k = k
 proper_append (d ∷ ds) es h k = (h.0, proper_append ds es h.1 k)
 
-proper_names : (k : Kind) → IsProperKind k → (names : List Name) → AreProper (map (declaration k) names)
+proper_names : (k : Kind) → IsProperKind k → (names : List Declared) → AreProper (map (λ n. declaration k n.name) names)
 proper_names k h [] = tt {0}
 proper_names k h (n ∷ names) = (h, proper_names k h names)
 

@@ -10,11 +10,12 @@ use Rattle.pri_typing.specs.declared.scope.Referent.TheVariants as referent
 use Rattle.pri_typing.specs.Phrase.{Phrase, number, truth, used, group, choice, absolute, lesser, greater, minus, product, sum, compared, negation, quantified, part, conjunction, disjunction, implication, equivalence, Phrases, no_phrase, and_phrase, Addends, no_addend, and_addend}
 use Rattle.texts.specs.Texts.{place}
 use Rattle.pri_typing.specs.Scope.{Scope, inside, refers}
+use Rattle.pri_typing.specs.Sorts.{sorts_of}
 use Rattle.pri_typing.specs.Typing.{says, value, members, terms, signed_terms, use_says, use_value, parts_in, all_parts, addend_parts}
 use Rattle.pri_typing.specs.Parts.{components, all_components, component_faults, formula_faults, parts_at}
 use Rattle.pri_typing.specs.Everywhere.{Property, Everywhere, AllEverywhere, TermEverywhere, TermsEverywhere}
 use Rattle.pri_typing.specs.WellFormed.{of_formulas, IsNoPart, IsPartOrTruth, SignedFormula, formula_components, all_formula_components, part_numbers}
-use Rattle.pri_typing.proofs.Everywhere.{IsLax, under, with_sign}
+use Rattle.pri_typing.proofs.Everywhere.{IsLax, AnySort, any_sorts, under, with_sign}
 use Rattle.pri_typing.proofs.WellFormed.{nil_cons, nil_split}
 use Rattle.pri_typing.proofs.Distinct.{places}
 
@@ -35,8 +36,8 @@ use_term n (Some (referent.Name x)) ts h = tt {0}
 use_term n (Some (referent.Function f m)) ts h = (tt {0}, h)
 use_term n (Some (referent.Predicate p m)) ts h = tt {0}
 
-lax : IsLax no_part
-lax = record { at_for_all = λ n f. tt {0}; at_for_some = λ n f. tt {0}; at_minus = λ n t. tt {0} }
+lax : IsLax AnySort no_part
+lax = record { at_for_all = λ n sort f s. tt {0}; at_for_some = λ n sort f s. tt {0}; at_minus = λ n t. tt {0} }
 
 mutual
   pub partless : (s : Scope) (n : ℕ) (p : Phrase) → parts_in p ≡ [] → Everywhere no_part n (says s p)
@@ -55,7 +56,7 @@ mutual
       let none = nil_split (parts_in p) (parts_in q) e in
       (tt {0}, term_partless s n p none.0, term_partless s n q none.1)
   partless s n (negation _ p) e = (tt {0}, partless s n p e)
-  partless s n (quantified _ all names p) e = under no_part lax all (length names) n (says (inside names s) p) (partless (inside names s) (n + length names) p e)
+  partless s n (quantified _ all names p) e = under AnySort no_part lax all (sorts_of names) n (says (inside names s) p) (any_sorts (sorts_of names)) (partless (inside names s) (n + length (sorts_of names)) p e)
   partless s n (part _ x p) e = absurd (nil_cons _ _ e)
   partless s n (conjunction _ ps) e = (tt {0}, members_partless s n ps e)
   partless s n (disjunction _ ps) e = (tt {0}, members_partless s n ps e)
@@ -110,7 +111,7 @@ mutual
   addends_partless s n no_addend e = tt {0}
   addends_partless s n (and_addend sign p more) e =
       let none = nil_split (parts_in p) (addend_parts more) e in
-      (with_sign no_part lax n sign (value s p) (term_partless s n p none.0), addends_partless s n more none.1)
+      (with_sign AnySort no_part lax n sign (value s p) (term_partless s n p none.0), addends_partless s n more none.1)
 
 -- Components.
 

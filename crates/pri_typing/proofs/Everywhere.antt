@@ -1,5 +1,7 @@
 -- What is so everywhere in a formula: of a property that follows from another, and under quantifiers.
-use Rattle.std.proofs.Common.{◌≡◌, ℕ, zero, suc, ◌+◌, Bool, true, false, refl, ap, subst, arith}
+use Rattle.std.proofs.Common.{◌≡◌, ℕ, suc, ◌+◌, Bool, true, false, List, [], ◌∷◌, length, refl, ap, subst, arith}
+use Rattle.std.specs.List.{AllByRecursion}
+use Rattle.typed_formula.specs.declared.typed.Sort.{Sort}
 use Rattle.typed_formula.specs.Formula.{Formula, Formulas, Expression, Expressions, constant, compares, applies, negation, every, some, implies, iff, for_all, for_some, part, no_formula, and_formula, number, name, call, minus, total, product, choice, absolute, lesser, greater, no_expression, and_expression}
 use Rattle.pri_typing.specs.Everywhere.{Property, Everywhere, AllEverywhere, TermEverywhere, TermsEverywhere}
 use Rattle.pri_typing.specs.Typing.{quantifiers, signed}
@@ -20,8 +22,8 @@ mutual
   moved R P Q w m n r (some fs) h = (w.of_formula m n r (some fs) h.0, all_moved R P Q w m n r fs h.1)
   moved R P Q w m n r (implies f g) h = (w.of_formula m n r (implies f g) h.0, moved R P Q w m n r f h.1, moved R P Q w m n r g h.2)
   moved R P Q w m n r (iff f g) h = (w.of_formula m n r (iff f g) h.0, moved R P Q w m n r f h.1, moved R P Q w m n r g h.2)
-  moved R P Q w m n r (for_all f) h = (w.of_formula m n r (for_all f) h.0, moved R P Q w (suc m) (suc n) (w.under_binder m n r) f h.1)
-  moved R P Q w m n r (for_some f) h = (w.of_formula m n r (for_some f) h.0, moved R P Q w (suc m) (suc n) (w.under_binder m n r) f h.1)
+  moved R P Q w m n r (for_all sort f) h = (w.of_formula m n r (for_all sort f) h.0, moved R P Q w (suc m) (suc n) (w.under_binder m n r) f h.1)
+  moved R P Q w m n r (for_some sort f) h = (w.of_formula m n r (for_some sort f) h.0, moved R P Q w (suc m) (suc n) (w.under_binder m n r) f h.1)
   moved R P Q w m n r (part k f) h = (w.of_formula m n r (part k f) h.0, moved R P Q w m n r f h.1)
 
   pub all_moved : (R : ℕ → ℕ → Type 0) (P Q : Property) → Moves R P Q → (m n : ℕ) → R m n → (fs : Formulas) → AllEverywhere P m fs → AllEverywhere Q n fs
@@ -57,26 +59,37 @@ everywhere_more P Q w n = moved (λ m n. m ≡ n) P Q (record {
   of_term = λ m n e t h. subst (λ z. Q.of_term z t) e (w.of_term m t h);
 }) n n refl
 
--- a property that asks nothing of a quantifier and of a minus themselves
-pub record IsLax (P : Property) : Type 0 where
-  pub at_for_all : (n : ℕ) (f : Formula) → P.of_formula n (for_all f)
-  pub at_for_some : (n : ℕ) (f : Formula) → P.of_formula n (for_some f)
+-- a property that asks nothing of a minus itself, and of a quantifier nothing but that its type is so
+pub record IsLax (S : Sort → Type 0) (P : Property) : Type 0 where
+  pub at_for_all : (n : ℕ) (sort : Sort) (f : Formula) → S sort → P.of_formula n (for_all sort f)
+  pub at_for_some : (n : ℕ) (sort : Sort) (f : Formula) → S sort → P.of_formula n (for_some sort f)
   pub at_minus : (n : ℕ) (t : Expression) → P.of_term n (minus t)
 
-pub under : (P : Property) → IsLax P → (all : Bool) (m n : ℕ) (f : Formula) → Everywhere P (n + m) f → Everywhere P n (quantifiers all m f)
-under P w all zero n f h = subst (λ z. Everywhere P z f) (omega arith) h
-under P w true (suc m) n f h = (w.at_for_all n (quantifiers true m f), under P w true m (suc n) f (subst (λ z. Everywhere P z f) (omega arith) h))
-under P w false (suc m) n f h = (w.at_for_some n (quantifiers false m f), under P w false m (suc n) f (subst (λ z. Everywhere P z f) (omega arith) h))
+-- nothing is asked of a type
+abbrev pub AnySort : Sort → Type 0
+AnySort sort = Unit {0}
 
-pub with_sign : (P : Property) → IsLax P → (n : ℕ) (sign : Bool) (t : Expression) → TermEverywhere P n t → TermEverywhere P n (signed sign t)
-with_sign P w n true t h = (w.at_minus n t, h)
-with_sign P w n false t h = h
+pub any_sorts : (sorts : List Sort) → AllByRecursion AnySort sorts
+any_sorts [] = tt {0}
+any_sorts (sort ∷ sorts) = (tt {0}, any_sorts sorts)
+
+pub under : (S : Sort → Type 0) (P : Property) → IsLax S P → (all : Bool) (sorts : List Sort) (n : ℕ) (f : Formula) → AllByRecursion S sorts → Everywhere P (n + length sorts) f
+    → Everywhere P n (quantifiers all sorts f)
+under S P w all [] n f s h = subst (λ z. Everywhere P z f) (omega arith) h
+under S P w true (sort ∷ sorts) n f s h =
+    (w.at_for_all n sort (quantifiers true sorts f) s.0, under S P w true sorts (suc n) f s.1 (subst (λ z. Everywhere P z f) (omega arith) h))
+under S P w false (sort ∷ sorts) n f s h =
+    (w.at_for_some n sort (quantifiers false sorts f) s.0, under S P w false sorts (suc n) f s.1 (subst (λ z. Everywhere P z f) (omega arith) h))
+
+pub with_sign : (S : Sort → Type 0) (P : Property) → IsLax S P → (n : ℕ) (sign : Bool) (t : Expression) → TermEverywhere P n t → TermEverywhere P n (signed sign t)
+with_sign S P w n true t h = (w.at_minus n t, h)
+with_sign S P w n false t h = h
 
 -- what is so everywhere under quantifiers
-pub beneath : (P : Property) (all : Bool) (m n : ℕ) (f : Formula) → Everywhere P n (quantifiers all m f) → Everywhere P (n + m) f
-beneath P all zero n f h = subst (λ z. Everywhere P z f) (omega arith) h
-beneath P true (suc m) n f h = subst (λ z. Everywhere P z f) (omega arith) (beneath P true m (suc n) f h.1)
-beneath P false (suc m) n f h = subst (λ z. Everywhere P z f) (omega arith) (beneath P false m (suc n) f h.1)
+pub beneath : (P : Property) (all : Bool) (sorts : List Sort) (n : ℕ) (f : Formula) → Everywhere P n (quantifiers all sorts f) → Everywhere P (n + length sorts) f
+beneath P all [] n f h = subst (λ z. Everywhere P z f) (omega arith) h
+beneath P true (sort ∷ sorts) n f h = subst (λ z. Everywhere P z f) (omega arith) (beneath P true sorts (suc n) f h.1)
+beneath P false (sort ∷ sorts) n f h = subst (λ z. Everywhere P z f) (omega arith) (beneath P false sorts (suc n) f h.1)
 
 pub without_sign : (P : Property) (n : ℕ) (sign : Bool) (t : Expression) → TermEverywhere P n (signed sign t) → TermEverywhere P n t
 without_sign P n true t h = h.1

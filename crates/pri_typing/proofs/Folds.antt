@@ -1,6 +1,7 @@
 -- The tree of each form: one equation a form, since a fold does not compute by itself.
 use Rattle.std.proofs.Common.{◌≡◌, ℕ, ℤ, Bool, List, ap, ◌∙◌, sym}
 use Rattle.pri_reader.specs.declared.tree.Name.{Name}
+use Rattle.pri_reader.specs.declared.tree.Declared.{Declared}
 use Rattle.pri_reader.specs.declared.tree.Comparison.{Comparison}
 use Rattle.pri_reader.specs.declared.tree.Expr.{Expr}
 use Rattle.pri_reader.specs.declared.tree.Added.{Added}
@@ -55,7 +56,7 @@ phrase-Compare c e g at = ap (λ g. phrase_of g at) (sym (rolls-Compare c e g)) 
 pub phrase-Not : (e : Expr) (at : ℕ) → phrase_of (f.Not e) at ≡ negation at (phrase e)
 phrase-Not e at = ap (λ g. phrase_of g at) (sym (rolls-Not e)) ∙ ap (λ g. g at) (fold-roll-Form (ℕ → Phrase) Addend Phrase form_step addend_step phrase_step (o.Not e))
 
-pub phrase-Quantified : (all : Bool) (names : List Name) (e : Expr) (at : ℕ) → phrase_of (f.Quantified all names e) at ≡ quantified at all names (phrase e)
+pub phrase-Quantified : (all : Bool) (names : List Declared) (e : Expr) (at : ℕ) → phrase_of (f.Quantified all names e) at ≡ quantified at all names (phrase e)
 phrase-Quantified all names e at = ap (λ g. phrase_of g at) (sym (rolls-Quantified all names e)) ∙ ap (λ g. g at) (fold-roll-Form (ℕ → Phrase) Addend Phrase form_step addend_step phrase_step (o.Quantified all names e))
 
 pub phrase-Part : (x : Name) (e : Expr) (at : ℕ) → phrase_of (f.Part x e) at ≡ part at x (phrase e)

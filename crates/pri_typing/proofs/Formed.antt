@@ -16,9 +16,12 @@ use Rattle.pri_typing.specs.Typing.{says, parts_in, part_names}
 use Rattle.pri_typing.specs.Parts.{formula_faults, block_faults, is_cut, cuts_in}
 use Rattle.pri_typing.specs.Files.{declaration_faults, problem_of, scope_of, parts_faults, file_faults, has_existential, IsTyped}
 use Rattle.pri_typing.specs.Ranges.{IsRanged}
+use Rattle.typed_formula.specs.Sorts.{IsSortRanged}
+use Rattle.pri_typing.specs.Sorts.{existential_sorts, universal_sorts}
+use Rattle.pri_typing.proofs.Sorting.{existential_count, universal_count}
 use Rattle.pri_typing.specs.Everywhere.{Property, Everywhere}
 use Rattle.pri_typing.specs.Limits.{HasSets}
-use Rattle.pri_typing.specs.WellFormed.{of_formulas, of_terms, IsNumberRanged, IsNameBelow, IsPredicateDeclared, IsFunctionDeclared, HasMember, IsLinear, IsPartBelow, IsPartOrTruth, SignedFormula, components_of, part_numbers, formula_components, IsDivision, IsWellFormed, HasDistinctNames}
+use Rattle.pri_typing.specs.WellFormed.{of_formulas, of_terms, IsNumberRanged, IsNameBelow, IsPredicateDeclared, IsFunctionDeclared, HasMember, IsLinear, IsPartBelow, IsBinderRanged, IsPartOrTruth, SignedFormula, components_of, part_numbers, formula_components, IsDivision, IsWellFormed, HasDistinctNames}
 use Rattle.pri_typing.proofs.WellFormed.{nil_split, placed, formula_placed}
 use Rattle.pri_typing.proofs.Everywhere.{Follows, everywhere_more}
 use Rattle.pri_typing.proofs.Declared.{few_symbols, proper}
@@ -49,6 +52,9 @@ of_predicates ds parts = record { of_formula = λ n f h. h.0; of_term = λ n t h
 
 of_parts : (ds : List Declaration) (parts : List (List ℕ)) → Follows (placed ds parts) (of_formulas (IsPartBelow (length parts)))
 of_parts ds parts = record { of_formula = λ n f h. h.1; of_term = λ n t h. tt {0} }
+
+of_binders : (ds : List Declaration) (parts : List (List ℕ)) → Follows (placed ds parts) (of_formulas IsBinderRanged)
+of_binders ds parts = record { of_formula = λ n f h. h.2; of_term = λ n t h. tt {0} }
 
 -- Cuts.
 
@@ -95,8 +101,9 @@ divisible blocks cs is e =
 
 -- All together.
 
-pub well_formed : (f : File) (p : Problem) → file_faults f ≡ [] → IsTyped f p → IsRanged (problem_of f.blocks) → AllByRecursion HasSets f.blocks → IsWellFormed p
-well_formed f p e t ranged proper_cuts =
+pub well_formed : (f : File) (p : Problem) → file_faults f ≡ [] → IsTyped f p → IsRanged (problem_of f.blocks) → All IsSortRanged (flat_map existential_sorts f.blocks)
+    → All IsSortRanged (flat_map universal_sorts f.blocks) → AllByRecursion HasSets f.blocks → IsWellFormed p
+well_formed f p e t ranged existential universal proper_cuts =
     let ds = declarations f.blocks in
     let q = problem_of f.blocks in
     let parts = part_names q in
@@ -115,6 +122,15 @@ well_formed f p e t ranged proper_cuts =
     let cuts_are = t.cuts ∙ ap (λ z. flat_map (cuts_in z) f.blocks) t.parts in
     record {
       few = omega (arith, m, k, i, j, few);
+      existential_types = record {
+        many = ap length t.existential_types ∙ existential_count f.blocks ∙ sym m;
+        ranged = subst (All IsSortRanged) (sym t.existential_types) existential;
+      };
+      universal_types = record {
+        many = ap length t.universal_types ∙ universal_count f.blocks ∙ sym k;
+        ranged = subst (All IsSortRanged) (sym t.universal_types) universal;
+      };
+      binders = at (of_formulas IsBinderRanged) (of_binders ds parts);
       numbers = at (of_terms IsNumberRanged) (of_numbers ds parts);
       names = subst (λ z. Everywhere (of_terms (IsNameBelow z)) 0 (formula p.formula)) (omega (arith, m, k)) (at (of_terms (IsNameBelow (constants ds))) (of_names ds parts));
       predicates = subst (λ z. Everywhere (of_formulas (IsPredicateDeclared z)) 0 (formula p.formula)) (sym t.predicates) (at (of_formulas (IsPredicateDeclared (predicates ds))) (of_predicates ds parts));

@@ -1,5 +1,5 @@
 -- The names that a file declares are identifiers.
-use Rattle.std.proofs.Common.{◌≡◌, ℕ, true, false, List, [], ◌∷◌, ◌++◌, map, subst, sym, All, append-nil, ap, ◌∙◌}
+use Rattle.std.proofs.Common.{◌≡◌, ℕ, ℤ, true, false, List, [], ◌∷◌, ◌++◌, map, subst, sym, All, append-nil, ap, ◌∙◌}
 use Rattle.std.specs.List.{AllByRecursion}
 use Rattle.std.proofs.lemmas.Grind.{flat_map-append}
 use Rattle.std.proofs.lemmas.List.Elements.{All-from_recursion, recursion_from_All}
@@ -13,15 +13,17 @@ use Rattle.pri_tokens.proofs.Writing.{written}
 use Rattle.pri_reader.specs.declared.tree.Expr.{Expr}
 use Rattle.pri_reader.specs.declared.tree.Added.{Added}
 use Rattle.pri_reader.specs.declared.tree.Name.{Name}
+use Rattle.pri_reader.specs.declared.tree.TypeName.{TypeName}
+use Rattle.pri_reader.specs.declared.tree.Declared.{Declared}
 use Rattle.pri_reader.specs.declared.tree.NameSet.{NameSet}
 use Rattle.pri_reader.specs.declared.tree.Item.{Item}
 use Rattle.pri_reader.specs.declared.tree.Block.{Block}
 use Rattle.pri_reader.specs.declared.tree.File.{File}
 use Rattle.pri_reader.specs.Grammar as grammar
-use Rattle.pri_reader.specs.Grammar.{Setting, Chain, Part, Takes, Binding, Derives, Members, Terms, Arguments, Names, Constants, Parameter, Parameters, Declares, Items, ItemLines, Sets, Declaration, Blocks, IsFile}
+use Rattle.pri_reader.specs.Grammar.{Setting, Chain, Part, Takes, all_of_type, Endpoint, IsType, Binding, Derives, Members, Terms, Arguments, Names, Constants, Parameter, Parameters, Declares, Items, ItemLines, Sets, Declaration, Blocks, IsFile}
 use Rattle.pri_typing.specs.declared.declaration.Kind.{Kind}
 use Rattle.pri_typing.specs.declared.declaration.Kind.TheVariants as kind
-use Rattle.pri_typing.specs.declared.declaration.Declaration.{Declaration as Declared}
+use Rattle.pri_typing.specs.declared.declaration.Declaration.{Declaration as OneDeclared}
 use Rattle.pri_typing.specs.Scope.{declaration, declared_by, declarations, function_kind}
 use Rattle.pri_typing.specs.declared.problem.Problem.{Problem}
 use Rattle.pri_typing.specs.Files.{IsTyped}
@@ -38,10 +40,20 @@ IsHanded P = (x : Lexeme) (xs : List Lexeme) → P (x ∷ xs) → P xs
 left : {P : List Lexeme → Type 0} {terminal : Terminal} {x : Lexeme} {tokens rest : List Lexeme} → IsHanded P → Takes terminal x tokens rest → P tokens → P rest
 left {P} {x = x} {rest = rest} h t p = h x rest (subst P t.parts p)
 
-bound_left : {P : List Lexeme → Type 0} {s : Setting} {several : _} {d e : ℕ} {names : List Name} {tokens rest : List Lexeme} → IsHanded P → Binding s several d e names tokens rest → P tokens → P rest
-bound_left h (grammar.bound_first i x o) p = left h x (left h i p)
+endpoint_left : {P : List Lexeme → Type 0} {s : Setting} {value : ℤ} {tokens rest : List Lexeme} → IsHanded P → Endpoint s value tokens rest → P tokens → P rest
+endpoint_left h (grammar.endpoint_plain n) p = left h n.takes p
+endpoint_left h (grammar.endpoint_minus m n) p = left h n.takes (left h m p)
+
+type_left : {P : List Lexeme → Type 0} {s : Setting} {sort : TypeName} {tokens rest : List Lexeme} → IsHanded P → IsType s sort tokens rest → P tokens → P rest
+type_left h (grammar.type_nat x) p = left h x p
+type_left h (grammar.type_int x) p = left h x p
+type_left h (grammar.type_range x o l c u r) p = left h r (endpoint_left h u (left h c (endpoint_left h l (left h o (left h x p)))))
+
+bound_left : {P : List Lexeme → Type 0} {s : Setting} {several : _} {sort : TypeName} {d e : ℕ} {names : List Declared} {tokens rest : List Lexeme} → IsHanded P
+    → Binding s several sort d e names tokens rest → P tokens → P rest
+bound_left h (grammar.bound_first i x o) p = left h x (type_left h i p)
 bound_left h (grammar.bound_next m c x o) p = left h x (left h c (bound_left h m p))
-bound_left h (grammar.bound_line m c i x o) p = left h x (left h i (left h c (bound_left h m p)))
+bound_left h (grammar.bound_line m c i x o) p = left h x (type_left h i (left h c (bound_left h m p)))
 
 mutual
   derived_left : {P : List Lexeme → Type 0} {s : Setting} {d : ℕ} {part : Part} {e : Expr} {tokens rest : List Lexeme} → IsHanded P → Derives s d part e tokens rest → P tokens → P rest
@@ -107,7 +119,7 @@ AreNamed = AllByRecursion (λ n. IsIdentifier n.text)
 abbrev AreItemsNamed : List Item → Type 0
 AreItemsNamed = AllByRecursion (λ i. IsIdentifier i.name.text)
 
-join : {A : Type 0} (P : A → Type 0) (xs ys : List A) → AllByRecursion P xs → AllByRecursion P ys → AllByRecursion P (xs ++ ys)
+pub join : {A : Type 0} (P : A → Type 0) (xs ys : List A) → AllByRecursion P xs → AllByRecursion P ys → AllByRecursion P (xs ++ ys)
 join P [] ys h k = k
 join P (x ∷ xs) ys h k = (h.0, join P xs ys h.1 k)
 
@@ -118,12 +130,19 @@ names_told {s} (grammar.names_next {names = names} m c t) k =
     let comma = left (handed s) c before.1 in
     (behind (λ n. IsIdentifier n.text) names _ before.0 (told_name s t comma), left (handed s) t comma)
 
-constants_told : {s : Setting} {names : List Name} {tokens rest : List Lexeme} → Constants s names tokens rest → AreTold s tokens → AreNamed names × AreTold s rest
+abbrev AreConstantsNamed : List Declared → Type 0
+AreConstantsNamed = AllByRecursion (λ n. IsIdentifier n.name.text)
+
+typed_named : (sort : TypeName) (names : List Name) → AreNamed names → AreConstantsNamed (all_of_type sort names)
+typed_named sort [] h = tt
+typed_named sort (n ∷ names) h = (h.0, typed_named sort names h.1)
+
+constants_told : {s : Setting} {names : List Declared} {tokens rest : List Lexeme} → Constants s names tokens rest → AreTold s tokens → AreConstantsNamed names × AreTold s rest
 constants_told grammar.constants_none k = (tt, k)
-constants_told {s} (grammar.constants_line {names = names} {more = more} m i n c) k =
+constants_told {s} (grammar.constants_line {sort = sort} {names = names} {more = more} m i n c) k =
     let before = constants_told m k in
-    let new = names_told n (left (handed s) i before.1) in
-    (join (λ n. IsIdentifier n.text) names more before.0 new.0, left (handed s) c new.1)
+    let new = names_told n (type_left (handed s) i before.1) in
+    (join (λ n. IsIdentifier n.name.text) names (all_of_type sort more) before.0 (typed_named sort more new.0), left (handed s) c new.1)
 
 item_told : {s : Setting} {i : Item} {tokens rest : List Lexeme} → Declares s i tokens rest → AreTold s tokens → IsIdentifier i.name.text × AreTold s rest
 item_told {s} (grammar.item_bare x) k = (told_name s x k, left (handed s) x k)
@@ -154,10 +173,10 @@ sets_told {s} (grammar.sets_next m c n) k = (names_told n (left (handed s) c (se
 
 -- Declarations.
 
-abbrev AreDeclared : List Declared → Type 0
+abbrev AreDeclared : List OneDeclared → Type 0
 AreDeclared = AllByRecursion (λ d. IsIdentifier d.text)
 
-declared_names : (k : Kind) (names : List Name) → AreNamed names → AreDeclared (map (declaration k) names)
+declared_names : (k : Kind) (names : List Declared) → AreConstantsNamed names → AreDeclared (map (λ n. declaration k n.name) names)
 declared_names k [] h = tt
 declared_names k (n ∷ names) h = (h.0, declared_names k names h.1)
 
@@ -215,7 +234,7 @@ inserted P t old new i p h =
     let both = split P i.front i.back (subst (AllByRecursion P) i.old_is h) in
     subst (AllByRecursion P) (sym i.new_is) (join P i.front (t ∷ i.back) both.0 (p, both.1))
 
-kinds_identified : (ds : List Declared) → AreDeclared ds → AllByRecursion IsIdentifier (by_kinds ds)
+kinds_identified : (ds : List OneDeclared) → AreDeclared ds → AllByRecursion IsIdentifier (by_kinds ds)
 kinds_identified [] h = tt
 kinds_identified (d ∷ ds) h = inserted IsIdentifier d.text (by_kinds ds) (by_kinds (d ∷ ds)) (one_more d ds) h.0 (kinds_identified ds h.1)
 

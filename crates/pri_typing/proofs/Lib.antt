@@ -21,6 +21,7 @@ pub mod Assumptions
 pub mod Cutting
 pub mod Resolving
 pub mod Shallow
+pub mod Sorting
 pub mod Counted
 pub mod Answered
 pub mod Purity
@@ -30,3 +31,4 @@ pub mod CutConstants
 pub mod Saying
 pub mod Identified
 pub mod Carried
+pub mod ConstantTerms

@@ -6,6 +6,10 @@ use Rattle.typed_formula.specs.Truth.{Meaning, Truth, AreAllTrue, AreAllFalse, H
 use Rattle.typed_formula.specs.Lists.{sum_of}
 use Rattle.integers.specs.Entry.{entry}
 use Rattle.pri_typing.specs.declared.problem.Problem.{Problem}
+use Rattle.typed_formula.specs.declared.typed.Sort.{Sort}
+use Rattle.typed_formula.specs.Sorts.{AreValuesOf}
+use Rattle.pri_typing.specs.Files.{all_int}
+use Rattle.pri_typing.specs.WellFormed.{IsWellFormed}
 use Rattle.pri_typing.specs.Everywhere.{Property, Everywhere, AllEverywhere, TermEverywhere, TermsEverywhere}
 use Rattle.pri_typing.specs.Problems.{Holds, IsTrueAt, IsRefuted, meaning_of, IsPure, IsNoPredicate, IsNoCall, IsNameIn, SpeaksOfExistentials}
 use Rattle.pri_typing.proofs.Everywhere.{Follows, everywhere_more}
@@ -14,17 +18,23 @@ no_values : (u : List ℤ) → length u ≡ 0 → u ≡ []
 no_values [] e = refl
 no_values (v ∷ u) e = absurd (omega (arith, e))
 
--- Without universal constants the problem holds where its formula is true.
-pub holds_alone : (w : Meaning) (p : Problem) (e : List ℤ) → p.universals ≡ [] → length e ≡ length p.existentials → Holds w p e ↔ Truth w (formula p.formula) e
-holds_alone w p e none many =
+-- no types have no values
+none_typed : (ss : List Sort) → length ss ≡ 0 → AreValuesOf ss []
+none_typed [] l = tt {0}
+none_typed (s ∷ ss) l = absurd (omega (arith, l))
+
+-- Without universal constants a well-formed problem holds where its formula is true, at values of the types.
+pub holds_alone : (w : Meaning) (p : Problem) (e : List ℤ) → IsWellFormed p → p.universals ≡ [] → length e ≡ length p.existentials → AreValuesOf p.existential_types e
+    → Holds w p e ↔ Truth w (formula p.formula) e
+holds_alone w p e formed none many typed =
     let len = ap length none in (
-      λ h. subst (Truth w (formula p.formula)) (append-nil e) (h.is [] (sym len)),
-      λ h. record { many = many; is = λ u k. subst (Truth w (formula p.formula)) (sym (ap (λ z. e ++ z) (no_values u (k ∙ len)) ∙ append-nil e)) h },
+      λ h. subst (Truth w (formula p.formula)) (append-nil e) (h.is [] (sym len) (none_typed p.universal_types (formed.universal_types.many ∙ len))),
+      λ h. record { many = many; typed = typed; is = λ u k _. subst (Truth w (formula p.formula)) (sym (ap (λ z. e ++ z) (no_values u (k ∙ len)) ∙ append-nil e)) h },
     )
 
 -- A problem that is refuted does not hold in every interpretation, whatever the existential constants are.
-pub refuted_fails : (p : Problem) (e : List ℤ) → IsRefuted p → length e ≡ length p.existentials → ((w : Meaning) → Holds w p e) → ⊥
-refuted_fails p e r l h = let at = r e l in at.fails ((h (meaning_of at.table)).is at.universals at.fit)
+pub refuted_fails : (p : Problem) (e : List ℤ) → IsRefuted p → length e ≡ length p.existentials → AreValuesOf p.existential_types e → ((w : Meaning) → Holds w p e) → ⊥
+refuted_fails p e r l typed h = let at = r e l typed in at.fails ((h (meaning_of at.table)).is at.universals at.fit at.typed)
 
 -- A formula without applications is true alike wherever its names have the same values.
 
@@ -67,8 +77,8 @@ mutual
   spoken_truth u i j v w n (implies f g) e d a h k = λ t. spoken_truth u i j v w n g e d a h.2 (k (spoken_truth u i j w v n f d e (agree_back a) h.1 t))
   spoken_truth u i j v w n (iff f g) e d a h k =
       (λ t. spoken_truth u i j v w n g e d a h.2 (k.0 (spoken_truth u i j w v n f d e (agree_back a) h.1 t)), λ t. spoken_truth u i j v w n f e d a h.1 (k.1 (spoken_truth u i j w v n g d e (agree_back a) h.2 t)))
-  spoken_truth u i j v w n (for_all f) e d a h k = λ x. spoken_truth u i j v w (suc n) f (e ++ x ∷ []) (d ++ x ∷ []) (agree_more i j e d a x) h.1 (k x)
-  spoken_truth u i j v w n (for_some f) e d a h k = λ t. k (λ x y. t x (spoken_truth u i j v w (suc n) f (e ++ x ∷ []) (d ++ x ∷ []) (agree_more i j e d a x) h.1 y))
+  spoken_truth u i j v w n (for_all s f) e d a h k = λ x t. spoken_truth u i j v w (suc n) f (e ++ x ∷ []) (d ++ x ∷ []) (agree_more i j e d a x) h.1 (k x t)
+  spoken_truth u i j v w n (for_some s f) e d a h k = λ t. k (λ x b y. t x b (spoken_truth u i j v w (suc n) f (e ++ x ∷ []) (d ++ x ∷ []) (agree_more i j e d a x) h.1 y))
   spoken_truth u i j v w n (part k f) e d a h t = spoken_truth u i j v w n f e d a h.1 t
 
   spoken_all : Unit {1} → (i j : ℕ) (v w : Meaning) (n : ℕ) (fs : Formulas) (e d : List ℤ) → Agree i j e d → AllEverywhere (spoken i j) n fs → AreAllTrue v fs e → AreAllTrue w fs d
@@ -127,13 +137,25 @@ without_names = record { of_formula = λ n f h. h; of_term = at }
 pub pure_holds : (v w : Meaning) (p : Problem) (e : List ℤ) → IsPure p → Holds v p e → Holds w p e
 pure_holds v w p e h k = record {
   many = k.many;
-  is = λ u l. spoken_truth (tt {1}) 0 0 v w 0 (formula p.formula) (e ++ u) (e ++ u) (record { long = refl; same = λ x i. refl })
-      (everywhere_more _ (spoken 0 0) without_names 0 (formula p.formula) h) (k.is u l);
+  typed = k.typed;
+  is = λ u l t. spoken_truth (tt {1}) 0 0 v w 0 (formula p.formula) (e ++ u) (e ++ u) (record { long = refl; same = λ x i. refl })
+      (everywhere_more _ (spoken 0 0) without_names 0 (formula p.formula) h) (k.is u l t);
 }
 
--- a problem holds where its formula is true at the values of the existential constants
-pub holds_true : (w : Meaning) (p : Problem) (e : List ℤ) → Holds w p e ↔ IsTrueAt w p (formula p.formula) e
-holds_true w p e = (λ h. record { many = h.many; is = h.is }, λ h. record { many = h.many; is = h.is })
+-- each integer is a value of the type `int`
+pub all_typed : (names : List (List ℕ)) (e : List ℤ) → length e ≡ length names → AreValuesOf (all_int names) e
+all_typed [] [] l = tt {0}
+all_typed [] (v ∷ e) l = absurd (omega (arith, l))
+all_typed (x ∷ names) [] l = absurd (omega (arith, l))
+all_typed (x ∷ names) (v ∷ e) l = (tt {0}, all_typed names e (omega (arith, l)))
+
+-- a problem all of whose constants are of the type `int` holds where its formula is true at the values of the existential constants
+pub holds_true : (w : Meaning) (p : Problem) (e : List ℤ) → p.existential_types ≡ all_int p.existentials → p.universal_types ≡ all_int p.universals
+    → Holds w p e ↔ IsTrueAt w p (formula p.formula) e
+holds_true w p e k l = (
+  λ h. record { many = h.many; is = λ u m. h.is u m (subst (λ ss. AreValuesOf ss u) (sym l) (all_typed p.universals u m)) },
+  λ h. record { many = h.many; typed = subst (λ ss. AreValuesOf ss e) (sym k) (all_typed p.existentials e h.many); is = λ u m _. h.is u m },
+)
 
 entries_apart : (e u d : List ℤ) (x : ℕ) → length u ≡ length d → (x < length e) ⊎ (length e + length u ≤ x) → entry (e ++ u) x ≡ entry (e ++ d) x
 entries_apart [] u d x l (inl h) = absurd (omega arith)

@@ -10,19 +10,20 @@ use Rattle.pri_typing.specs.declared.scope.Referent.{Referent}
 use Rattle.pri_typing.specs.declared.scope.Referent.TheVariants as referent
 use Rattle.pri_typing.specs.Phrase.{Phrase, number, truth, used, group, choice, absolute, lesser, greater, minus, product, sum, compared, negation, quantified, part, conjunction, disjunction, implication, equivalence, Phrases, no_phrase, and_phrase, Addends, no_addend, and_addend, first_token, count}
 use Rattle.pri_typing.specs.Scope.{Scope, inside, refers, declarations}
+use Rattle.pri_typing.specs.Sorts.{sorts_of}
 use Rattle.pri_typing.specs.Faults.{faults, all_faults, addend_faults, use_faults, product_faults}
 use Rattle.pri_typing.specs.Files.{declaration_faults, problem_of, scope_of, parts_faults, file_faults, has_existential, IsTyped}
 use Rattle.pri_typing.specs.Typing.{says, value, members, terms, signed_terms, use_says, use_value, applications, all_applications, addend_applications, use_applies, first_of, part_names}
 use Rattle.pri_typing.specs.Everywhere.{Property, Everywhere, AllEverywhere, TermEverywhere, TermsEverywhere}
 use Rattle.pri_typing.specs.Problems.{IsNoPredicate, IsNoCall, IsPure}
-use Rattle.pri_typing.proofs.Everywhere.{IsLax, under, with_sign, beneath, without_sign}
+use Rattle.pri_typing.proofs.Everywhere.{IsLax, AnySort, any_sorts, under, with_sign, beneath, without_sign}
 use Rattle.pri_typing.proofs.WellFormed.{nil_cons, nil_split, same_count}
 
 abbrev pub unapplied : Property
 unapplied = record { of_formula = IsNoPredicate; of_term = IsNoCall }
 
-lax : IsLax unapplied
-lax = record { at_for_all = λ n f. tt {0}; at_for_some = λ n f. tt {0}; at_minus = λ n t. tt {0} }
+lax : IsLax AnySort unapplied
+lax = record { at_for_all = λ n sort f s. tt {0}; at_for_some = λ n sort f s. tt {0}; at_minus = λ n t. tt {0} }
 
 nil_join : {A : Type 0} (xs ys : List A) → xs ≡ [] → ys ≡ [] → xs ++ ys ≡ []
 nil_join xs ys e f = ap (λ z. z ++ ys) e ∙ f
@@ -58,7 +59,7 @@ mutual
   pure s n (sum _ p more) e = tt {0}
   pure s n (compared _ c p q) e = let none = nil_split (applications s p) (applications s q) e in (tt {0}, term_pure s n p none.0, term_pure s n q none.1)
   pure s n (negation _ p) e = (tt {0}, pure s n p e)
-  pure s n (quantified _ all names p) e = under unapplied lax all (length names) n (says (inside names s) p) (pure (inside names s) (n + length names) p e)
+  pure s n (quantified _ all names p) e = under AnySort unapplied lax all (sorts_of names) n (says (inside names s) p) (any_sorts (sorts_of names)) (pure (inside names s) (n + length (sorts_of names)) p e)
   pure s n (part _ x p) e = (tt {0}, pure s n p e)
   pure s n (conjunction _ ps) e = (tt {0}, members_pure s n ps e)
   pure s n (disjunction _ ps) e = (tt {0}, members_pure s n ps e)
@@ -105,7 +106,7 @@ mutual
   addends_pure s n no_addend e = tt {0}
   addends_pure s n (and_addend sign p more) e =
       let none = nil_split (applications s p) (addend_applications s more) e in
-      (with_sign unapplied lax n sign (value s p) (term_pure s n p none.0), addends_pure s n more none.1)
+      (with_sign AnySort unapplied lax n sign (value s p) (term_pure s n p none.0), addends_pure s n more none.1)
 
 -- What says a formula without an application has none, where it has no faults.
 
@@ -147,7 +148,7 @@ mutual
       nil_join (applications s p) (applications s q) (term_applied s (first_token p) n p free.0 h.1) (term_applied s (first_token q) n q free.1 h.2)
   applied s at n (negation _ p) e h = applied s (first_token p) n p e h.1
   applied s at n (quantified _ all names p) e h =
-      applied (inside names s) (first_token p) (n + length names) p e (beneath unapplied all (length names) n (says (inside names s) p) h)
+      applied (inside names s) (first_token p) (n + length (sorts_of names)) p e (beneath unapplied all (sorts_of names) n (says (inside names s) p) h)
   applied s at n (part _ x p) e h = applied s (first_token p) n p e h.1
   applied s at n (conjunction _ ps) e h = members_applied s n ps e h.1
   applied s at n (disjunction _ ps) e h = members_applied s n ps e h.1

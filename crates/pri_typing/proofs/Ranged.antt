@@ -1,18 +1,25 @@
 -- What is derived within the limit on numerals has its numerals in the range of coefficients.
-use Rattle.std.proofs.Common.{◌≡◌, ℕ, pos, ◌<◌, ◌^◌, Bool, true, false, List, [], ◌∷◌, ◌++◌, sym, ◌∙◌, subst}
+use Rattle.std.proofs.Common.{◌≡◌, ℕ, ℤ, zero, suc, pos, neg_ℤ, unsigned_abs, ◌<◌, ◌^◌, Bool, true, false, List, [], ◌∷◌, ◌++◌, refl, sym, ◌∙◌, subst}
+use Rattle.std.specs.List.{AllByRecursion}
+use Rattle.std.proofs.lemmas.List.Elements.{All-from_recursion}
+use Rattle.linear_term.specs.Range.{InRange}
 use Rattle.pri_tokens.specs.declared.terminals.Lexeme.{Lexeme}
 use Rattle.pri_reader.specs.declared.tree.Expr.{Expr}
 use Rattle.pri_reader.specs.declared.tree.Form.{Form}
 use Rattle.pri_reader.specs.declared.tree.Form.TheVariants as form
 use Rattle.pri_reader.specs.declared.tree.Added.{Added}
+use Rattle.pri_reader.specs.declared.tree.TypeName.{TypeName}
+use Rattle.pri_reader.specs.declared.tree.Declared.{Declared}
 use Rattle.pri_reader.specs.declared.tree.Block.{Block}
 use Rattle.pri_reader.specs.declared.tree.Block.TheVariants as block
 use Rattle.pri_reader.specs.declared.tree.File.{File}
 use Rattle.pri_reader.specs.Grammar as grammar
-use Rattle.pri_reader.specs.Grammar.{Setting, Right, Chain, Part, expr, join, chained, added, summed, paired, value_of, Derives, Members, Terms, Arguments, Declaration, Blocks, IsFile}
+use Rattle.pri_reader.specs.Grammar.{Setting, Right, Chain, Part, expr, join, chained, added, summed, paired, value_of, Endpoint, IsType, Binding, Derives, Members, Terms, Arguments, Declaration, Blocks, IsFile}
 use Rattle.pri_typing.specs.Phrase.{Phrase, phrase, phrase_of, phrases_of, addends_of, and_addend}
 use Rattle.pri_typing.specs.Ranges.{IsRanged, AreRanged, AreAddedRanged}
 use Rattle.pri_typing.specs.Files.{problem_of}
+use Rattle.typed_formula.specs.Sorts.{IsSortRanged}
+use Rattle.pri_typing.specs.Sorts.{sort_of, sorts_of}
 use Rattle.pri_typing.proofs.Folds.{phrase-form, addend-term, phrase-Number, phrase-Truth, phrase-Use, phrase-Group, phrase-If, phrase-Abs, phrase-Min, phrase-Max, phrase-Minus, phrase-Product, phrase-Sum, phrase-Compare, phrase-Not, phrase-Quantified, phrase-Part, phrase-And, phrase-Or, phrase-Implies, phrase-Iff}
 
 at_form : (at : ℕ) (g : Form) (x : Phrase) → phrase_of g at ≡ x → IsRanged x → IsRanged (phrase (expr at g))
@@ -56,14 +63,51 @@ paired-ranged false at f g h k = at_form at (form.Min f g) _ (phrase-Min f g at)
 abbrev pub IsSmall : Setting → Type 0
 IsSmall s = (rest : List Lexeme) (n : ℕ) → s.small rest n ≡ true → n < 2 ^ 127
 
+-- The endpoints of types.
+
+negated : (n : ℕ) → unsigned_abs (neg_ℤ (pos n)) ≡ n
+negated zero = refl
+negated (suc n) = refl
+
+endpoint_ranged : {s : Setting} {value : ℤ} {tokens rest : List Lexeme} → IsSmall s → Endpoint s value tokens rest → InRange value
+endpoint_ranged {s} {rest = rest} b (grammar.endpoint_plain {x = x} n) = b rest (value_of s x) n.small
+endpoint_ranged {s} {rest = rest} b (grammar.endpoint_minus {x = x} m n) = subst (λ z. z < 2 ^ 127) (sym (negated (value_of s x))) (b rest (value_of s x) n.small)
+
+pub type_ranged : {s : Setting} {sort : TypeName} {tokens rest : List Lexeme} → IsSmall s → IsType s sort tokens rest → IsSortRanged (sort_of sort)
+type_ranged b (grammar.type_nat x) = tt {0}
+type_ranged b (grammar.type_int x) = tt {0}
+type_ranged b (grammar.type_range x o l c u r) = (endpoint_ranged b l, endpoint_ranged b u)
+
+abbrev pub AreNamesRanged : List Declared → Type 0
+AreNamesRanged names = AllByRecursion IsSortRanged (sorts_of names)
+
+pub behind_name : (names : List Declared) (n : Declared) → AreNamesRanged names → IsSortRanged (sort_of n.sort) → AreNamesRanged (names ++ n ∷ [])
+behind_name [] n h k = (k, tt {0})
+behind_name (m ∷ names) n h k = (h.0, behind_name names n h.1 k)
+
+-- the last bound name, with its type, which the next one may have
+pub record AreBoundRanged (sort : TypeName) (names : List Declared) : Type 0 where
+  pub all : AreNamesRanged names
+  pub last : IsSortRanged (sort_of sort)
+
+bound_ranged : {s : Setting} {several : Bool} {sort : TypeName} {d e : ℕ} {names : List Declared} {tokens rest : List Lexeme} → IsSmall s → Binding s several sort d e names tokens rest
+    → AreBoundRanged sort names
+bound_ranged b (grammar.bound_first i n o) = let k = type_ranged b i in record { all = (k, tt {0}); last = k }
+bound_ranged b (grammar.bound_next {names = names} m c n o) = let h = bound_ranged b m in record { all = behind_name names _ h.all h.last; last = h.last }
+bound_ranged b (grammar.bound_line {names = names} m c i n o) = let h = bound_ranged b m in let k = type_ranged b i in record { all = behind_name names _ h.all k; last = k }
+
+quantified-ranged : (at : ℕ) (all : Bool) (sort : TypeName) (names : List Declared) (f : Expr) → AreBoundRanged sort names → IsRanged (phrase f) → IsRanged (phrase (expr at (form.Quantified all names f)))
+quantified-ranged at all sort names f h k =
+    at_form at (form.Quantified all names f) _ (phrase-Quantified all names f at) (All-from_recursion IsSortRanged (sorts_of names) h.all, k)
+
 mutual
   pub derived_ranged : {s : Setting} {d : ℕ} {part : Part} {e : Expr} {tokens rest : List Lexeme} → IsSmall s → Derives s d part e tokens rest → IsRanged (phrase e)
   derived_ranged b (grammar.right_one u) = derived_ranged b u
   derived_ranged b (grammar.right_two {r = r} {f = f} {g = g} {x = x} u t o v) = joined r f x.at g (derived_ranged b u) (derived_ranged b v)
   derived_ranged b (grammar.chain_all {c = c} {fs = fs} {f = f} m) = let both = members_ranged b m in chained-ranged c fs f both.0 both.1
   derived_ranged b (grammar.unary_not {f = f} {x = x} t o u) = at_form x.at (form.Not f) _ (phrase-Not f x.at) (derived_ranged b u)
-  derived_ranged b (grammar.unary_bound {all = all} {names = names} {f = f} {x = x} t n s u) = at_form x.at (form.Quantified all names f) _ (phrase-Quantified all names f x.at) (derived_ranged b u)
-  derived_ranged b (grammar.unary_grouped {all = all} {names = names} {f = f} {x = x} t o n c u) = at_form x.at (form.Quantified all names f) _ (phrase-Quantified all names f x.at) (derived_ranged b u)
+  derived_ranged b (grammar.unary_bound {all = all} {sort = sort} {names = names} {f = f} {x = x} t n s u) = quantified-ranged x.at all sort names f (bound_ranged b n) (derived_ranged b u)
+  derived_ranged b (grammar.unary_grouped {all = all} {sort = sort} {names = names} {f = f} {x = x} t o n c u) = quantified-ranged x.at all sort names f (bound_ranged b n) (derived_ranged b u)
   derived_ranged b (grammar.unary_part {f = f} {x = x} {n = n} t o p m c u) = at_form x.at (form.Part _ f) _ (phrase-Part _ f x.at) (derived_ranged b u)
   derived_ranged b (grammar.unary_rel u) = derived_ranged b u
   derived_ranged b (grammar.rel_one u) = derived_ranged b u

@@ -1,7 +1,7 @@
 -- A phrase has the same faults, and says the same, wherever its names stand for the same.
-use Rattle.std.proofs.Common.{◌≡◌, ℕ, ◌+◌, List, [], ◌++◌, length, Option, Some, None, refl, sym, ap, ◌∙◌}
+use Rattle.std.proofs.Common.{◌≡◌, ℕ, ◌+◌, List, [], ◌++◌, Option, Some, None, refl, sym, ap, ◌∙◌}
 use Rattle.pri_tokens.specs.Lexemes.{lexemes_of}
-use Rattle.pri_reader.specs.declared.tree.Name.{Name}
+use Rattle.pri_reader.specs.declared.tree.Declared.{Declared}
 use Rattle.pri_reader.specs.declared.tree.Expr.{Expr}
 use Rattle.pri_reader.specs.declared.tree.File.{File}
 use Rattle.pri_reader.specs.Grammar.{Derives, whole}
@@ -13,6 +13,7 @@ use Rattle.pri_typing.specs.declared.scope.Referent.TheVariants as referent
 use Rattle.pri_typing.specs.Phrase.{Phrase, phrase, number, truth, used, group, choice, absolute, lesser, greater, minus, product, sum, compared, negation, quantified, part, conjunction, disjunction, implication, equivalence, Phrases, no_phrase, and_phrase, Addends, no_addend, and_addend, first_token, count}
 use Rattle.texts.specs.Texts.{place}
 use Rattle.pri_typing.specs.Scope.{Scope, inside, bind, refers, constants, declarations, depth_of, declared_from, bound_or_declared}
+use Rattle.pri_typing.specs.Sorts.{sorts_of}
 use Rattle.pri_typing.specs.Faults.{faults, all_faults, addend_faults, use_faults, needs, product_faults}
 use Rattle.pri_typing.specs.Typing.{says, value, members, terms, signed_terms, use_says, use_value, signed, relation_of, quantifiers, part_names}
 use Rattle.pri_typing.specs.Files.{declaration_faults, problem_of, scope_of, parts_faults, file_faults, has_existential, IsTyped}
@@ -34,7 +35,7 @@ refers_alike s t a text = by (depth_of text s.bound) ∙ ap (λ z. bound_or_decl
     by (Some depth) = ap (λ n. Some (referent.Name (n + depth))) a.constants_are
     by None = a.free text
 
-inside_alike : (names : List Name) (s t : Scope) → AreAlike s t → AreAlike (inside names s) (inside names t)
+inside_alike : (names : List Declared) (s t : Scope) → AreAlike s t → AreAlike (inside names s) (inside names t)
 inside_alike names s t a = record { bound_is = ap (bind names) a.bound_is; parts_are = a.parts_are; constants_are = a.constants_are; free = a.free }
 
 both : {A : Type 0} {a b c d : List A} → a ≡ b → c ≡ d → a ++ c ≡ b ++ d
@@ -97,7 +98,7 @@ mutual
   same_says s t a (sum _ p more) = refl
   same_says s t a (compared _ c p q) = two (logic.compares (relation_of c)) (same_value s t a p) (same_value s t a q)
   same_says s t a (negation _ p) = ap logic.negation (same_says s t a p)
-  same_says s t a (quantified _ all names p) = ap (quantifiers all (length names)) (same_says (inside names s) (inside names t) (inside_alike names s t a) p)
+  same_says s t a (quantified _ all names p) = ap (quantifiers all (sorts_of names)) (same_says (inside names s) (inside names t) (inside_alike names s t a) p)
   same_says s t a (part _ x p) = two logic.part (ap (place x.text) a.parts_are) (same_says s t a p)
   same_says s t a (conjunction _ ps) = ap logic.every (same_members s t a ps)
   same_says s t a (disjunction _ ps) = ap logic.some (same_members s t a ps)

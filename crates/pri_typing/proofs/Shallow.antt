@@ -12,7 +12,8 @@ use Rattle.pri_reader.specs.Grammar as grammar
 use Rattle.pri_reader.specs.Grammar.{Setting, Right, Chain, Part, expr, join, chained, added, summed, paired, value_of, Derives, Members, Terms, Arguments, Declaration, Blocks, IsFile}
 use Rattle.pri_typing.specs.Phrase.{Phrase, phrase, phrase_of, phrases_of, addends_of, and_addend}
 use Rattle.std.proofs.lemmas.Bool.{ltb-true}
-use Rattle.pri_reader.specs.declared.tree.Name.{Name}
+use Rattle.pri_reader.specs.declared.tree.TypeName.{TypeName}
+use Rattle.pri_reader.specs.declared.tree.Declared.{Declared}
 use Rattle.pri_reader.specs.Grammar.{Binding, bound_first, bound_next, bound_line}
 use Rattle.pri_reader.specs.Reading.{file_setting}
 use Rattle.pri_typing.specs.Sites.{most_bound}
@@ -69,7 +70,7 @@ next_level : (d e k l : ℕ) → e ≡ k + d → l ≡ suc k → suc e ≡ l + d
 next_level d e k l is more = omega (arith, is, more)
 
 -- each bound name opens a level
-bound_levels : {s : Setting} {several : Bool} {d e : ℕ} {names : List Name} {tokens rest : List Lexeme} → IsLimited s → Binding s several d e names tokens rest → (e ≡ length names + d) × (e ≤ most_bound)
+bound_levels : {s : Setting} {several : Bool} {sort : TypeName} {d e : ℕ} {names : List Declared} {tokens rest : List Lexeme} → IsLimited s → Binding s several sort d e names tokens rest → (e ≡ length names + d) × (e ≤ most_bound)
 bound_levels {d = d} b (bound_first {rest = rest} i x o) = (omega arith, let lt : d < most_bound = b rest d o in omega (arith, lt))
 bound_levels {d = d} b (bound_next {e = e} {names = names} {rest = rest} m c x o) =
     let before = bound_levels b m in let lt : e < most_bound = b rest e o in
@@ -88,7 +89,7 @@ under n d e k le is = omega (arith, le, is)
 within : (n d e k : ℕ) → n ≤ d → e ≡ k + d → e ≤ most_bound → k + n ≤ most_bound
 within n d e k le is most = omega (arith, le, is, most)
 
-quantified-shallow : (n d e at : ℕ) (all : Bool) (names : List Name) (f : Expr) → n ≤ d → (e ≡ length names + d) × (e ≤ most_bound) → IsShallow (length names + n) (phrase f)
+quantified-shallow : (n d e at : ℕ) (all : Bool) (names : List Declared) (f : Expr) → n ≤ d → (e ≡ length names + d) × (e ≤ most_bound) → IsShallow (length names + n) (phrase f)
     → IsShallow n (phrase (expr at (form.Quantified all names f)))
 quantified-shallow n d e at all names f le levels h = at_form n at (form.Quantified all names f) _ (phrase-Quantified all names f at) (within n d e (length names) le levels.0 levels.1, h)
 

@@ -5,6 +5,7 @@ use Rattle.std.specs.Bool.{beq}
 use Rattle.std.proofs.lemmas.Bool.{eq-eqb}
 use Rattle.std.proofs.lemmas.List.Elements.{All-from_recursion, recursion_from_All, All-contains, Contains-append_cases}
 use Rattle.typed_formula.specs.Formula.{Formula, Formulas, formula, constant, compares, applies, negation, every, some, implies, iff, for_all, for_some, part, no_formula, and_formula}
+use Rattle.typed_formula.specs.Sorts.{AreValuesOf}
 use Rattle.typed_formula.specs.Truth.{Meaning, Truth}
 use Rattle.pri_typing.specs.declared.problem.Problem.{Problem}
 use Rattle.pri_typing.specs.declared.problem.Cut.{Cut}
@@ -44,10 +45,10 @@ mutual
   parts_below parts n false (implies f g) h = (tt {0}, tt)
   parts_below parts n true (iff f g) h = (tt {0}, tt)
   parts_below parts n false (iff f g) h = (tt {0}, tt)
-  parts_below parts n true (for_all f) h = (tt {0}, tt)
-  parts_below parts n false (for_all f) h = (tt {0}, tt)
-  parts_below parts n true (for_some f) h = (tt {0}, tt)
-  parts_below parts n false (for_some f) h = (tt {0}, tt)
+  parts_below parts n true (for_all s f) h = (tt {0}, tt)
+  parts_below parts n false (for_all s f) h = (tt {0}, tt)
+  parts_below parts n true (for_some s f) h = (tt {0}, tt)
+  parts_below parts n false (for_some s f) h = (tt {0}, tt)
   parts_below parts n true (part k f) h = (h.0, tt)
   parts_below parts n false (part k f) h = (h.0, tt)
 
@@ -128,8 +129,8 @@ component_assumed w e parts sets whole plus (every fs) i l v h = absurd i
 component_assumed w e parts sets whole plus (some fs) i l v h = absurd i
 component_assumed w e parts sets whole plus (implies f g) i l v h = absurd i
 component_assumed w e parts sets whole plus (iff f g) i l v h = absurd i
-component_assumed w e parts sets whole plus (for_all f) i l v h = absurd i
-component_assumed w e parts sets whole plus (for_some f) i l v h = absurd i
+component_assumed w e parts sets whole plus (for_all s f) i l v h = absurd i
+component_assumed w e parts sets whole plus (for_some s f) i l v h = absurd i
 
 none_true : (a b : Bool) → ¬ ((a || b) ≡ true) → (a ≡ false) × (¬ (b ≡ true))
 none_true true b h = absurd (h refl)
@@ -166,8 +167,8 @@ sides_are w p cut e well c plain =
 
 -- where the problem holds, the two sides of a cut contradict each other
 pub sides_contradict : (w : Meaning) (p : Problem) (cut : Cut) (first second : List ℕ) (e : List ℤ) → IsWellFormed p → Contains p.cuts cut → ¬ (IsPlainlyValid p)
-    → cut.sets ≡ first ∷ second ∷ [] → Holds w p [] → length e ≡ length p.universals → Truth w (assumed_by p first) e → ¬ (Truth w (assumed_by p second) e)
-sides_contradict w p cut first second e well c plain two holds many a b =
+    → cut.sets ≡ first ∷ second ∷ [] → Holds w p [] → length e ≡ length p.universals → AreValuesOf p.universal_types e → Truth w (assumed_by p first) e → ¬ (Truth w (assumed_by p second) e)
+sides_contradict w p cut first second e well c plain two holds many typed a b =
     let P : List ℕ → Type 0 = λ set. Truth w (assumed_by p set) e in
     let both : All P cut.sets = subst (All P) (sym two) (All-from_recursion P (first ∷ second ∷ []) (a, (b, tt))) in
-    (sides_are w p cut e well c plain).0 both (holds.is e many)
+    (sides_are w p cut e well c plain).0 both (holds.is e many typed)

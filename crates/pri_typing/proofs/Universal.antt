@@ -20,8 +20,8 @@ anywhere m n = moved (λ i j. Unit {0}) unapplied unapplied (record { under_bind
     at i j (some fs) h = tt {0}
     at i j (implies f g) h = tt {0}
     at i j (iff f g) h = tt {0}
-    at i j (for_all f) h = tt {0}
-    at i j (for_some f) h = tt {0}
+    at i j (for_all s f) h = tt {0}
+    at i j (for_some s f) h = tt {0}
     at i j (part k f) h = tt {0}
 
     at_term : (i j : ℕ) (t : Expression) → IsNoCall i t → IsNoCall j t
@@ -46,8 +46,8 @@ mutual
   universal sign n (some fs) h = all_universal sign n fs h.1
   universal sign n (implies f g) h = (universal (turned sign) n f h.1, universal sign n g h.2)
   universal sign n (iff f g) h = (universal both n f h.1, universal both n g h.2)
-  universal sign n (for_all f) h = (inr (anywhere (suc n) 0 f h.1), universal sign (suc n) f h.1)
-  universal sign n (for_some f) h = (inr (anywhere (suc n) 0 f h.1), universal sign (suc n) f h.1)
+  universal sign n (for_all s f) h = (inr (anywhere (suc n) 0 f h.1), universal sign (suc n) f h.1)
+  universal sign n (for_some s f) h = (inr (anywhere (suc n) 0 f h.1), universal sign (suc n) f h.1)
   universal sign n (part k f) h = universal sign n f h.1
 
   all_universal : (sign : Sign) (n : ℕ) (fs : Formulas) → AllEverywhere unapplied n fs → AreUniversalAt sign fs

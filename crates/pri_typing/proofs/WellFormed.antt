@@ -1,7 +1,10 @@
 -- At each place of a formula that is typed without faults, what makes a problem well formed is so.
 use Rattle.std.proofs.Common.{◌≡◌, ℕ, suc, ◌+◌, ◌<◌, ◌≤◌, Bool, true, false, ◌&&◌, ◌||◌, List, [], ◌∷◌, ◌++◌, length, Option, Some, None, refl, sym, ap, subst, ◌∙◌, arith, nat_eq, not, if◌then◌else◌}
 use Rattle.std.specs.Cmp.Derive.{both_true}
+use Rattle.std.proofs.lemmas.List.{length-map}
+use Rattle.std.proofs.lemmas.List.Elements.{recursion_from_All}
 use Rattle.pri_reader.specs.declared.tree.Name.{Name}
+use Rattle.pri_reader.specs.declared.tree.Declared.{Declared}
 use Rattle.typed_formula.specs.Formula.{Formula, Expression}
 use Rattle.pri_typing.specs.declared.problem.TypeRefusal.TheVariants.{Arity, NonLinear}
 use Rattle.pri_typing.specs.declared.scope.Category.{Category}
@@ -15,8 +18,10 @@ use Rattle.pri_typing.specs.Scope.{Scope, inside, refers, functions, predicates,
 use Rattle.pri_typing.specs.Faults.{faults, all_faults, addend_faults, use_faults, is_numeral, are_numerals, product_faults}
 use Rattle.pri_typing.specs.Typing.{says, value, members, terms, signed_terms, use_says, use_value, signed, parts_in, all_parts, addend_parts}
 use Rattle.pri_typing.specs.Ranges.{IsRanged, AreRanged, AreAddedRanged}
+use Rattle.typed_formula.specs.Sorts.{IsSortRanged}
+use Rattle.pri_typing.specs.Sorts.{sort_of, sorts_of}
 use Rattle.pri_typing.specs.Everywhere.{Property, Everywhere, AllEverywhere, TermEverywhere, TermsEverywhere}
-use Rattle.pri_typing.specs.WellFormed.{size, HasArity, is_numeric, are_numeric, IsNumberRanged, IsNameBelow, IsPredicateDeclared, IsFunctionDeclared, HasMember, IsLinear, IsPartBelow}
+use Rattle.pri_typing.specs.WellFormed.{size, HasArity, is_numeric, are_numeric, IsNumberRanged, IsNameBelow, IsPredicateDeclared, IsFunctionDeclared, HasMember, IsLinear, IsPartBelow, IsBinderRanged}
 use Rattle.pri_typing.proofs.Scopes.{length-bind}
 use Rattle.pri_typing.proofs.Everywhere.{IsLax, under, with_sign}
 use Rattle.pri_typing.proofs.Referents.{AreProper, IsReferent, referent_is}
@@ -117,7 +122,7 @@ product_linear s p sign q e = by (is_numeral p) (is_numeral q) refl refl e
 -- where the file declares so much, and the problem has these parts
 abbrev pub placed : List Declaration → List (List ℕ) → Property
 placed ds parts = record {
-  of_formula = λ n f. IsPredicateDeclared (predicates ds) n f × IsPartBelow (length parts) n f;
+  of_formula = λ n f. IsPredicateDeclared (predicates ds) n f × IsPartBelow (length parts) n f × IsBinderRanged n f;
   of_term = λ n t. IsNumberRanged n t × IsNameBelow (constants ds) n t × IsFunctionDeclared (functions ds) n t × HasMember n t × IsLinear n t;
 }
 
@@ -133,8 +138,8 @@ Five = Unit {0} × Unit {0} × Unit {0} × Unit {0} × Unit {0}
 any_term : Five
 any_term = (tt {0}, tt {0}, tt {0}, tt {0}, tt {0})
 
-any_formula : Unit {0} × Unit {0}
-any_formula = (tt {0}, tt {0})
+any_formula : Unit {0} × Unit {0} × Unit {0}
+any_formula = (tt {0}, tt {0}, tt {0})
 
 pub same_count : (n m : ℕ) (at : ℕ) → (if nat_eq n m then [] else Arity at ∷ []) ≡ [] → n ≡ m
 same_count n m at e = by (nat_eq n m) refl e
@@ -150,7 +155,7 @@ use_formula s at x ps (Some (referent.Name n)) h e k = any_formula
 use_formula s at x ps (Some (referent.Function f m)) h e k = any_formula
 use_formula s at x ps (Some (referent.Predicate p m)) h e k =
     let same = same_count (count ps) m x.at (nil_split (if nat_eq (count ps) m then [] else Arity x.at ∷ []) [] e).0 in
-    ((subst (λ z. HasArity (predicates s.declared) p z) (sym (size-terms s ps ∙ same)) h, tt {0}), k)
+    ((subst (λ z. HasArity (predicates s.declared) p z) (sym (size-terms s ps ∙ same)) h, tt {0}, tt {0}), k)
 
 use_term : (s : Scope) (at : ℕ) (x : Name) (ps : Phrases) (r : Option Referent) → IsReferent s.declared (length s.bound) r
     → use_faults category.Term at x.at (count ps) r ≡ [] → TermsEverywhere (placed s.declared s.parts) (length s.bound) (terms s ps) → TermPlaced s (use_value r (terms s ps))
@@ -163,8 +168,8 @@ use_term s at x ps (Some (referent.Function f m)) h e k =
 use_term s at x ps (Some (referent.Predicate p m)) h e k =
     absurd (nil_cons _ _ (nil_split (if nat_eq (count ps) m then [] else Arity x.at ∷ []) _ e).1)
 
-lax : (ds : List Declaration) (parts : List (List ℕ)) → IsLax (placed ds parts)
-lax ds parts = record { at_for_all = λ n f. any_formula; at_for_some = λ n f. any_formula; at_minus = λ n t. any_term }
+lax : (ds : List Declaration) (parts : List (List ℕ)) → IsLax IsSortRanged (placed ds parts)
+lax ds parts = record { at_for_all = λ n sort f s. (tt {0}, tt {0}, s); at_for_some = λ n sort f s. (tt {0}, tt {0}, s); at_minus = λ n t. any_term }
 
 -- a formula or term that stands where this category is needed, without faults, of which the numerals are in the range and the
 -- parts are those of the problem
@@ -187,6 +192,9 @@ three_sound s u v w c p q e r m =
     let front = two_sound s u v c p free.0 (r.0, r.1) among.0 in
     (front.0, front.1, (free.1, r.2, among.1))
 
+bound_sorts : (names : List Declared) (n : ℕ) → length names + n ≡ n + length (sorts_of names)
+bound_sorts names n = let same = length-map names (λ d. sort_of d.sort) in omega (arith, same)
+
 mutual
   pub formula_placed : (s : Scope) (at : ℕ) (p : Phrase) → AreProper s.declared → faults s category.Formula at p ≡ [] → IsRanged p → AreAmong s.parts (parts_in p) → Placed s (says s p)
   formula_placed s at (number _ n) d e r m = any_formula
@@ -207,10 +215,11 @@ mutual
       (any_formula, term_placed s (first_token p) p d h.0.0 h.0.1 h.0.2, term_placed s (first_token q) q d h.1.0 h.1.1 h.1.2)
   formula_placed s at (negation _ p) d e r m = (any_formula, formula_placed s (first_token p) p d e r m)
   formula_placed s at (quantified _ all names p) d e r m =
-      under (placed s.declared s.parts) (lax s.declared s.parts) all (length names) (length s.bound) (says (inside names s) p)
-      (subst (λ z. Everywhere (placed s.declared s.parts) z (says (inside names s) p)) (length-bind names s.bound ∙ omega arith)
-      (formula_placed (inside names s) (first_token p) p d e r m))
-  formula_placed s at (part _ x p) d e r m = ((tt {0}, place_below x.text s.parts m.0), formula_placed s (first_token p) p d e r m.1)
+      under IsSortRanged (placed s.declared s.parts) (lax s.declared s.parts) all (sorts_of names) (length s.bound) (says (inside names s) p)
+      (recursion_from_All IsSortRanged (sorts_of names) r.0)
+      (subst (λ z. Everywhere (placed s.declared s.parts) z (says (inside names s) p)) (length-bind names s.bound ∙ bound_sorts names (length s.bound))
+      (formula_placed (inside names s) (first_token p) p d e r.1 m))
+  formula_placed s at (part _ x p) d e r m = ((tt {0}, place_below x.text s.parts m.0, tt {0}), formula_placed s (first_token p) p d e r m.1)
   formula_placed s at (conjunction _ ps) d e r m = (any_formula, members_placed s ps d e r m)
   formula_placed s at (disjunction _ ps) d e r m = (any_formula, members_placed s ps d e r m)
   formula_placed s at (implication _ p q) d e r m =
@@ -278,4 +287,4 @@ mutual
   addends_placed s (and_addend sign p more) d e r m =
       let free = nil_split (faults s category.Term (first_token p) p) (addend_faults s more) e in
       let among = among_split s.parts (parts_in p) (addend_parts more) m in
-      (with_sign (placed s.declared s.parts) (lax s.declared s.parts) (length s.bound) sign (value s p) (term_placed s (first_token p) p d free.0 r.0 among.0), addends_placed s more d free.1 r.1 among.1)
+      (with_sign IsSortRanged (placed s.declared s.parts) (lax s.declared s.parts) (length s.bound) sign (value s p) (term_placed s (first_token p) p d free.0 r.0 among.0), addends_placed s more d free.1 r.1 among.1)

@@ -5,6 +5,8 @@ use Rattle.pri_reader.specs.declared.tree.Block.{Block}
 use Rattle.pri_reader.specs.declared.tree.Block.TheVariants as block
 use Rattle.pri_reader.specs.declared.tree.File.{File}
 use Rattle.typed_formula.specs.Formula as logic
+use Rattle.typed_formula.specs.declared.typed.Sort.{Sort}
+use Rattle.typed_formula.specs.declared.typed.Sort.TheVariants as sort
 use Rattle.pri_typing.specs.declared.problem.Problem.{Problem}
 use Rattle.pri_typing.specs.declared.problem.TypeRefusal.{TypeRefusal}
 use Rattle.pri_typing.specs.declared.problem.TypeRefusal.TheVariants.{Redeclared, Many}
@@ -15,6 +17,7 @@ use Rattle.pri_typing.specs.Scope.{declarations, existentials, universals, funct
 use Rattle.pri_typing.specs.declared.scope.Category.TheVariants.{Formula}
 use Rattle.pri_typing.specs.Faults.{faults}
 use Rattle.pri_typing.specs.Parts.{formula_faults, block_faults, is_cut, cuts_in}
+use Rattle.pri_typing.specs.Sorts.{existential_sorts, universal_sorts}
 use Rattle.pri_typing.specs.Typing.{says, applications, first_of, part_names}
 
 -- the most symbols that a file may declare
@@ -57,10 +60,16 @@ file_faults f =
     ++ faults (scope_of f.blocks) Formula (first_token (problem_of f.blocks)) (problem_of f.blocks)
     ++ parts_faults (part_names (problem_of f.blocks)) (has_existential (declarations f.blocks)) f.blocks (problem_of f.blocks)
 
+-- the type `int` for each of these names
+abbrev pub all_int : List (List ℕ) → List Sort
+all_int names = map (λ name. sort.Int) names
+
 -- the problem that a file without faults poses
 pub record IsTyped (f : File) (p : Problem) : Type 0 where
   pub existentials : p.existentials ≡ existentials (declarations f.blocks)
   pub universals : p.universals ≡ universals (declarations f.blocks)
+  pub existential_types : p.existential_types ≡ flat_map existential_sorts f.blocks
+  pub universal_types : p.universal_types ≡ flat_map universal_sorts f.blocks
   pub functions : p.functions ≡ functions (declarations f.blocks)
   pub predicates : p.predicates ≡ predicates (declarations f.blocks)
   pub parts : p.parts ≡ part_names (problem_of f.blocks)

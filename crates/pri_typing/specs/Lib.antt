@@ -10,6 +10,8 @@ pub mod Problems
 pub mod Ranges
 pub mod Scope
 pub mod Sites
+pub mod Sorts
 pub mod Symbols
+pub mod Terms
 pub mod Typing
 pub mod WellFormed

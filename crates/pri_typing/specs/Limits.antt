@@ -1,9 +1,10 @@
 -- What typing asks of the blocks of a file: it is so in every file that is read from fewer than 2^32 bytes.
+use Rattle.std.specs.List.{flat_map}
 use Rattle.std.specs.Prelude.{ℕ, ◌≡◌, true, ◌+◌, ◌<◌, ◌≤◌, ◌^◌, List, length, All}
 use Rattle.pri_tokens.specs.Written.{IsIdentifier}
 use Rattle.pri_reader.specs.declared.tree.Block.{Block}
 use Rattle.pri_reader.specs.declared.tree.Block.TheVariants as block
-use Rattle.pri_reader.specs.declared.tree.Name.{Name}
+use Rattle.pri_reader.specs.declared.tree.Declared.{Declared}
 use Rattle.pri_reader.specs.declared.tree.NameSet.{NameSet}
 use Rattle.pri_typing.specs.declared.scope.Site.{Site}
 use Rattle.pri_typing.specs.Phrase.{Phrase, number, truth, used, group, choice, absolute, lesser, greater, minus, product, sum, compared, negation, quantified, part, conjunction, disjunction, implication, equivalence, Phrases, no_phrase, and_phrase, Addends, no_addend, and_addend}
@@ -11,6 +12,8 @@ use Rattle.pri_reader.specs.Grammar.{has_problem}
 use Rattle.pri_typing.specs.Files.{problem_of}
 use Rattle.pri_typing.specs.Ranges.{IsRanged}
 use Rattle.pri_typing.specs.Scope.{declarations}
+use Rattle.typed_formula.specs.Sorts.{IsSortRanged}
+use Rattle.pri_typing.specs.Sorts.{existential_sorts, universal_sorts}
 use Rattle.pri_typing.specs.Typing.{part_names}
 use Rattle.pri_typing.specs.Sites.{bound_texts, most_bound, IsFit}
 
@@ -59,7 +62,7 @@ pub record AddendsAreReady (here : Site) (more : Addends) : Type 0 where
   pub shallow : AddendsAreShallow (length (bound_texts here.bound.now)) more
 
 -- a phrase that stands under a quantifier for these names
-pub record IsReadyUnder (here : Site) (names : List Name) (p : Phrase) : Type 0 where
+pub record IsReadyUnder (here : Site) (names : List Declared) (p : Phrase) : Type 0 where
   pub fit : IsFit here
   pub bindable : length names + length (bound_texts here.bound.now) ≤ most_bound
   pub shallow : IsShallow (length names + length (bound_texts here.bound.now)) p
@@ -75,11 +78,13 @@ HasSets (block.Interpolant at sets) = AreSets sets
 HasSets _ = Unit {0}
 
 -- The blocks have a `\problem` block, with at most 200 bound names at each place of its formula, fewer than 2^32 parts and
--- numerals in the range. They declare identifiers, and those that ask for a cut have sets.
+-- numerals and endpoints of types in the range. They declare identifiers, and those that ask for a cut have sets.
 pub record IsResolvable (blocks : List Block) : Type 0 where
   pub problem : has_problem blocks ≡ true
   pub shallow : IsShallow 0 (problem_of blocks)
   pub countable : length (part_names (problem_of blocks)) < 2 ^ 32
   pub numerals : IsRanged (problem_of blocks)
+  pub existential_sorts : All IsSortRanged (flat_map existential_sorts blocks)
+  pub universal_sorts : All IsSortRanged (flat_map universal_sorts blocks)
   pub identifiers : All (λ d. IsIdentifier d.text) (declarations blocks)
   pub sets : All HasSets blocks

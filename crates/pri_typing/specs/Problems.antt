@@ -8,6 +8,7 @@ use Rattle.pri_reader.specs.declared.tree.Expr.{Expr}
 use Rattle.pri_reader.specs.Grammar.{Setting, Derives, whole}
 use Rattle.typed_formula.specs.Formula.{Formula, Formulas, Expression, Expressions, formula, formulas, constant, compares, applies, negation, every, some, implies, iff, for_all, for_some, part, no_formula, and_formula, number, name, call, minus, total, product, choice, absolute, lesser, greater, no_expression, and_expression}
 use Rattle.typed_formula.specs.Truth.{Meaning, Truth}
+use Rattle.typed_formula.specs.Sorts.{AreValuesOf}
 use Rattle.typed_formula.specs.Table.{is_true_at_row, value_at_row}
 use Rattle.typed_formula.specs.declared.world.Table.{Table}
 use Rattle.pri_typing.specs.declared.problem.Problem.{Problem}
@@ -29,26 +30,28 @@ pub record IsTrueAt (w : Meaning) (p : Problem) (f : Formula) (e : List ℤ) : T
   pub many : length e ≡ length p.existentials
   pub is : (u : List ℤ) → length u ≡ length p.universals → Truth w f (e ++ u)
 
--- The problem holds in an interpretation at the values of its existential constants: its formula is true there whatever
--- the universal constants are.
+-- The problem holds in an interpretation at values of its existential constants: each is a value of its constant's type, and
+-- the formula is true there whatever values of their types the universal constants have.
 pub record Holds (w : Meaning) (p : Problem) (e : List ℤ) : Type 0 where
   pub many : length e ≡ length p.existentials
-  pub is : (u : List ℤ) → length u ≡ length p.universals → Truth w (formula p.formula) (e ++ u)
+  pub typed : AreValuesOf p.existential_types e
+  pub is : (u : List ℤ) → length u ≡ length p.universals → AreValuesOf p.universal_types u → Truth w (formula p.formula) (e ++ u)
 
 -- the interpretation that a finite table gives
 abbrev pub meaning_of : Table → Meaning
 meaning_of t = record { truth = is_true_at_row t.truths; value = value_at_row t.values }
 
--- a finite interpretation and values of the universal constants at which the formula is not true
+-- a finite interpretation, and values of the universal constants, each of its constant's type, at which the formula is not true
 pub record IsRefutedAt (p : Problem) (e : List ℤ) : Type 0 where
   pub table : Table
   pub universals : List ℤ
   pub fit : length universals ≡ length p.universals
+  pub typed : AreValuesOf p.universal_types universals
   pub fails : ¬ (Truth (meaning_of table) (formula p.formula) (e ++ universals))
 
--- the problem fails whatever the existential constants are
+-- the problem fails whatever values of their types the existential constants have
 abbrev pub IsRefuted : Problem → Type 0
-IsRefuted p = (e : List ℤ) → length e ≡ length p.existentials → IsRefutedAt p e
+IsRefuted p = (e : List ℤ) → length e ≡ length p.existentials → AreValuesOf p.existential_types e → IsRefutedAt p e
 
 -- What a part assumes: the two sides between which an interpolant stands (Craig, Three uses of the Herbrand-Gentzen theorem
 -- in relating model theory and proof theory, 1957).
@@ -116,8 +119,8 @@ abbrev mutual
   IsUniversalAt sign (some fs) = AreUniversalAt sign fs
   IsUniversalAt sign (implies f g) = IsUniversalAt (turned sign) f × IsUniversalAt sign g
   IsUniversalAt sign (iff f g) = IsUniversalAt both f × IsUniversalAt both g
-  IsUniversalAt sign (for_all f) = ((sign ≡ plus) ⊎ IsWithoutApplication f) × IsUniversalAt sign f
-  IsUniversalAt sign (for_some f) = ((sign ≡ minus_sign) ⊎ IsWithoutApplication f) × IsUniversalAt sign f
+  IsUniversalAt sign (for_all s f) = ((sign ≡ plus) ⊎ IsWithoutApplication f) × IsUniversalAt sign f
+  IsUniversalAt sign (for_some s f) = ((sign ≡ minus_sign) ⊎ IsWithoutApplication f) × IsUniversalAt sign f
   IsUniversalAt sign (part k f) = IsUniversalAt sign f
 
   pub AreUniversalAt : Sign → Formulas → Type 0

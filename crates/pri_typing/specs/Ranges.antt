@@ -1,9 +1,12 @@
--- Numerals in the range of coefficients.
+-- Numerals and endpoints of types in the range of coefficients.
+use Rattle.std.specs.List.{All}
 use Rattle.linear_term.specs.Range.{InRange}
+use Rattle.typed_formula.specs.Sorts.{IsSortRanged}
+use Rattle.pri_typing.specs.Sorts.{sorts_of}
 use Rattle.pri_typing.specs.Phrase.{Phrase, number, truth, used, group, choice, absolute, lesser, greater, minus, product, sum, compared, negation, quantified, part, conjunction, disjunction, implication, equivalence, Phrases, no_phrase, and_phrase, Addends, no_addend, and_addend}
 
 abbrev mutual
-  -- each numeral of the phrase is in the range
+  -- each numeral of the phrase, and each endpoint of its types, is in the range
   pub IsRanged : Phrase → Type 0
   IsRanged (number at n) = InRange n
   IsRanged (truth at b) = Unit {0}
@@ -18,7 +21,7 @@ abbrev mutual
   IsRanged (sum at p more) = IsRanged p × AreAddedRanged more
   IsRanged (compared at c p q) = IsRanged p × IsRanged q
   IsRanged (negation at p) = IsRanged p
-  IsRanged (quantified at all names p) = IsRanged p
+  IsRanged (quantified at all names p) = All IsSortRanged (sorts_of names) × IsRanged p
   IsRanged (part at x p) = IsRanged p
   IsRanged (conjunction at ps) = AreRanged ps
   IsRanged (disjunction at ps) = AreRanged ps

@@ -1,8 +1,9 @@
 -- What a file declares, and what a name of a formula stands for.
-use Rattle.std.specs.Prelude.{ℕ, zero, suc, ◌+◌, Bool, List, [], ◌∷◌, ◌++◌, length, map, Option, Some, None, if◌then◌else◌}
+use Rattle.std.specs.Prelude.{ℕ, zero, suc, ◌+◌, List, [], ◌∷◌, ◌++◌, length, map, Option, Some, None, if◌then◌else◌}
 use Rattle.std.specs.List.{flat_map, filter_map}
 use Rattle.texts.specs.Texts.{is_text}
 use Rattle.pri_reader.specs.declared.tree.Name.{Name}
+use Rattle.pri_reader.specs.declared.tree.Declared.{Declared}
 use Rattle.pri_reader.specs.declared.tree.Block.{Block}
 use Rattle.pri_reader.specs.declared.tree.Block.TheVariants as block
 use Rattle.pri_typing.specs.declared.problem.Symbol.{Symbol}
@@ -23,8 +24,8 @@ function_kind (suc n) = Function (suc n)
 
 -- the declarations of a block, in order
 abbrev pub declared_by : Block → List Declaration
-declared_by (block.Existentials at names) = map (declaration Existential) names
-declared_by (block.Universals at names) = map (declaration Universal) names
+declared_by (block.Existentials at names) = map (λ n. declaration Existential n.name) names
+declared_by (block.Universals at names) = map (λ n. declaration Universal n.name) names
 declared_by (block.Functions at items) = map (λ i. declaration (function_kind i.arity) i.name) items
 declared_by (block.Predicates at items) = map (λ i. declaration (Predicate i.arity) i.name) items
 declared_by _ = []
@@ -84,12 +85,12 @@ pub record Scope : Type 0 where
   pub bound : List (List ℕ)
 
 -- bound names put before those around them
-abbrev pub bind : List Name → List (List ℕ) → List (List ℕ)
+abbrev pub bind : List Declared → List (List ℕ) → List (List ℕ)
 bind [] outer = outer
-bind (n ∷ names) outer = bind names (n.text ∷ outer)
+bind (n ∷ names) outer = bind names (n.name.text ∷ outer)
 
 -- the place inside a quantifier
-abbrev pub inside : List Name → Scope → Scope
+abbrev pub inside : List Declared → Scope → Scope
 inside names s = record { declared = s.declared; parts = s.parts; bound = bind names s.bound }
 
 -- the number of the bound variables around the innermost one of this text

@@ -1,6 +1,6 @@
 -- The bound names at a site of a formula, and the scope there.
 use Rattle.std.specs.Prelude.{ℕ, suc, List, [], ◌∷◌, Option, Some, None, if◌then◌else◌, length, ◌<◌, ◌≤◌, ◌^◌}
-use Rattle.pri_reader.specs.declared.tree.Name.{Name}
+use Rattle.pri_reader.specs.declared.tree.Declared.{Declared}
 use Rattle.pri_typing.specs.declared.scope.BoundNames.{BoundNames, Nothing, More'}
 use Rattle.pri_typing.specs.declared.scope.Site.{Site}
 use Rattle.pri_typing.specs.Files.{most_symbols}
@@ -21,9 +21,9 @@ abbrev pub last_or : Option ℕ → Option ℕ → Option ℕ
 last_or (Some i) other = Some (suc i)
 last_or None other = other
 
-abbrev pub last_place : List ℕ → List Name → Option ℕ
+abbrev pub last_place : List ℕ → List Declared → Option ℕ
 last_place text [] = None
-last_place text (n ∷ names) = last_or (last_place text names) (if is_text text n.text then Some 0 else None)
+last_place text (n ∷ names) = last_or (last_place text names) (if is_text text n.name.text then Some 0 else None)
 
 -- the scope at a site
 abbrev pub scope_at : Site → Scope

@@ -1,5 +1,5 @@
 -- The formula that a phrase says, and what else of a problem's formula is noted.
-use Rattle.std.specs.Prelude.{ℕ, zero, suc, pos, length, Bool, true, false, List, [], ◌∷◌, ◌++◌, Option, Some, None, if◌then◌else◌}
+use Rattle.std.specs.Prelude.{ℕ, pos, Bool, true, false, List, [], ◌∷◌, ◌++◌, Option, Some, None, if◌then◌else◌}
 use Rattle.pri_reader.specs.declared.tree.Name.{Name}
 use Rattle.pri_reader.specs.declared.tree.Comparison.{Comparison}
 use Rattle.pri_reader.specs.declared.tree.Comparison.TheVariants as comparison
@@ -7,11 +7,13 @@ use Rattle.typed_formula.specs.Formula.{Formula, Formulas, Expression, Expressio
 use Rattle.typed_formula.specs.Formula as logic
 use Rattle.typed_formula.specs.declared.typed.Relation.{Relation}
 use Rattle.typed_formula.specs.declared.typed.Relation.TheVariants as relation
+use Rattle.typed_formula.specs.declared.typed.Sort.{Sort}
 use Rattle.pri_typing.specs.declared.scope.Referent.{Referent}
 use Rattle.pri_typing.specs.declared.scope.Referent.TheVariants as referent
 use Rattle.pri_typing.specs.Phrase.{Phrase, number, truth, used, group, choice, absolute, lesser, greater, minus, product, sum, compared, negation, quantified, part, conjunction, disjunction, implication, equivalence, Phrases, no_phrase, and_phrase, Addends, no_addend, and_addend}
 use Rattle.texts.specs.Texts.{with_text, place}
 use Rattle.pri_typing.specs.Scope.{Scope, inside, refers}
+use Rattle.pri_typing.specs.Sorts.{sorts_of}
 
 abbrev pub relation_of : Comparison → Relation
 relation_of comparison.Equal = relation.Eq
@@ -21,11 +23,11 @@ relation_of comparison.AtMost = relation.Leq
 relation_of comparison.Greater = relation.Gt
 relation_of comparison.AtLeast = relation.Geq
 
--- so many quantifiers
-abbrev pub quantifiers : Bool → ℕ → Formula → Formula
-quantifiers all zero f = f
-quantifiers true (suc n) f = logic.for_all (quantifiers true n f)
-quantifiers false (suc n) f = logic.for_some (quantifiers false n f)
+-- a quantifier for each of these types, the first outermost
+abbrev pub quantifiers : Bool → List Sort → Formula → Formula
+quantifiers all [] f = f
+quantifiers true (sort ∷ sorts) f = logic.for_all sort (quantifiers true sorts f)
+quantifiers false (sort ∷ sorts) f = logic.for_some sort (quantifiers false sorts f)
 
 -- what has a fault says `false`, or 0
 abbrev pub no_sense : Formula
@@ -58,7 +60,7 @@ abbrev mutual
   says s (group _ p) = says s p
   says s (compared _ c p q) = logic.compares (relation_of c) (value s p) (value s q)
   says s (negation _ p) = logic.negation (says s p)
-  says s (quantified _ all names p) = quantifiers all (length names) (says (inside names s) p)
+  says s (quantified _ all names p) = quantifiers all (sorts_of names) (says (inside names s) p)
   says s (part _ x p) = logic.part (place x.text s.parts) (says s p)
   says s (conjunction _ ps) = logic.every (members s ps)
   says s (disjunction _ ps) = logic.some (members s ps)

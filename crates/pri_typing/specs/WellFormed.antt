@@ -3,7 +3,9 @@ use Rattle.std.specs.Prelude.{ℕ, suc, ◌+◌, ◌<◌, ◌≤◌, ◌≡◌, 
 use Rattle.std.specs.List.{All, Contains, IsDistinct, flat_map, concat}
 use Rattle.linear_term.specs.Range.{InRange}
 use Rattle.pri_tokens.specs.Written.{IsIdentifier}
-use Rattle.typed_formula.specs.Formula.{Formula, Formulas, Expression, Expressions, formula, constant, applies, negation, every, some, implies, part, no_formula, and_formula, number, name, call, minus, total, product, no_expression, and_expression}
+use Rattle.typed_formula.specs.Formula.{Formula, Formulas, Expression, Expressions, formula, constant, applies, negation, every, some, implies, for_all, for_some, part, no_formula, and_formula, number, name, call, minus, total, product, no_expression, and_expression}
+use Rattle.typed_formula.specs.Sorts.{IsSortRanged}
+use Rattle.typed_formula.specs.declared.typed.Sort.{Sort}
 use Rattle.pri_typing.specs.declared.problem.Problem.{Problem}
 use Rattle.pri_typing.specs.declared.problem.Symbol.{Symbol}
 use Rattle.pri_typing.specs.declared.problem.Cut.{Cut}
@@ -76,6 +78,17 @@ abbrev pub IsPartBelow : ℕ → ℕ → Formula → Type 0
 IsPartBelow parts n (part k f) = k < parts
 IsPartBelow parts n _ = Unit {0}
 
+-- the bounds of a bound variable's type are coefficients
+abbrev pub IsBinderRanged : ℕ → Formula → Type 0
+IsBinderRanged n (for_all s f) = IsSortRanged s
+IsBinderRanged n (for_some s f) = IsSortRanged s
+IsBinderRanged n _ = Unit {0}
+
+-- as many types as names, and their bounds are coefficients
+pub record AreTypesOf (names : List (List ℕ)) (types : List Sort) : Type 0 where
+  pub many : length types ≡ length names
+  pub ranged : All IsSortRanged types
+
 -- Components.
 
 -- a formula with its sign, true for plus
@@ -135,7 +148,8 @@ pub record IsDivisible (p : Problem) : Type 0 where
 
 -- The problem declares at most 1,000 symbols; its numbers are in the range; its names are constants and bound variables; its
 -- predicates and functions are declared, with so many arguments; its sums have members, and its products are linear; its
--- parts have names; and where it has cuts, they divide the parts of which its formula is put together.
+-- constants and bound variables have types with bounds in the range; its parts have names; and where it has cuts, they divide
+-- the parts of which its formula is put together.
 pub record IsWellFormed (p : Problem) : Type 0 where
   pub few : length p.existentials + length p.universals + length p.functions + length p.predicates ≤ most_symbols
   pub numbers : Everywhere (of_terms IsNumberRanged) 0 (formula p.formula)
@@ -144,6 +158,9 @@ pub record IsWellFormed (p : Problem) : Type 0 where
   pub functions : Everywhere (of_terms (IsFunctionDeclared p.functions)) 0 (formula p.formula)
   pub sums : Everywhere (of_terms HasMember) 0 (formula p.formula)
   pub products : Everywhere (of_terms IsLinear) 0 (formula p.formula)
+  pub binders : Everywhere (of_formulas IsBinderRanged) 0 (formula p.formula)
+  pub existential_types : AreTypesOf p.existentials p.existential_types
+  pub universal_types : AreTypesOf p.universals p.universal_types
   pub parts : Everywhere (of_formulas (IsPartBelow (length p.parts))) 0 (formula p.formula)
   pub divisible : 1 ≤ length p.cuts → IsDivisible p
   pub divided : All (IsDivision (length p.parts)) p.cuts

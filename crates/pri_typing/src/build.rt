@@ -1,20 +1,22 @@
 // The formula or the term that an expression says, with every name resolved to its number.
 
-ghost use Rattle.std.specs.Prelude.{◌≡◌, List, ℕ, IfOk, length};
+ghost use Rattle.std.specs.Prelude.{◌≡◌, List, ℕ, IfOk, ◌∷◌, []};
 ghost use Rattle.typed_formula.specs.Formula.{and_expression, expression, expressions_of, formula, formulas_of};
 ghost use Rattle.pri_typing.specs.Sites.{IsFit, scope_at};
 ghost use Rattle.pri_typing.specs.Limits.{AddendsAreReady, AreReady, IsReady, IsReadyUnder};
 ghost use Rattle.pri_typing.specs.Phrase.{addends_of, phrase, phrases_of};
 ghost use Rattle.texts.specs.Texts.{place};
 ghost use Rattle.pri_typing.specs.Scope.{inside, refers};
+ghost use Rattle.pri_typing.specs.Sorts.{sorts_of};
 ghost use Rattle.pri_typing.specs.Typing.{members, quantifiers, relation_of, says, signed, signed_terms, terms, use_says, use_value, value};
 
 use crate::scope::{BoundNames, Referent, Site, refer};
+use crate::sorts::sort_of;
 use linear_term::Memory;
-use pri_reader::{Added, Comparison, Expr, Form, Name};
+use pri_reader::{Added, Comparison, Declared, Expr, Form, Name};
 use sqlite_items::{Boxed, Items};
 use std::alloc::Global;
-use typed_formula::{Relation, Typed, TypedTerm};
+use typed_formula::{Relation, Sort, Typed, TypedTerm};
 
 fn relation(comparison: Comparison) -> Relation
     ensures { result ≡ relation_of comparison }
@@ -61,23 +63,25 @@ fn part_number(here: &Site, name: &Name) -> u32
     here.parts.number(name.text.as_slice())
 }
 
-fn quantifier(all: bool, body: Boxed<Typed>) -> Typed
-    ensures { formula result ≡ quantifiers all 1 (formula body) }
+fn quantifier(all: bool, sort: Sort, body: Boxed<Typed>) -> Typed
+    ensures { formula result ≡ quantifiers all (sort ∷ []) (formula body) }
 {
     if all {
-        Typed::Forall(body)
+        Typed::Forall(sort, body)
     } else {
-        Typed::Exists(body)
+        Typed::Exists(sort, body)
     }
 }
 
-/// The formula under so many quantifiers.
-fn quantify(alloc: Global, all: bool, count: usize, body: Typed) -> Result<Typed, Memory>
-    ensures { IfOk result (λ f. formula f ≡ quantifiers all count (formula body)) }
+/// The formula under a quantifier for each of these names, the first outermost.
+fn quantify(alloc: Global, all: bool, names: &[Declared], body: Typed) -> Result<Typed, Memory>
+    ensures { IfOk result (λ f. formula f ≡ quantifiers all (sorts_of names.now) (formula body)) }
 {
     let mut quantified = body;
-    for _name in 0..count {
-        quantified = quantifier(all, Boxed::new(alloc, quantified)?);
+    let mut outer = names;
+    while let Some((last, rest)) = outer.split_last() {
+        quantified = quantifier(all, sort_of(last.sort), Boxed::new(alloc, quantified)?);
+        outer = rest;
     }
     Ok(quantified)
 }
@@ -215,11 +219,11 @@ fn build_quantified(
     alloc: Global,
     here: &Site,
     all: bool,
-    names: &[Name],
+    names: &[Declared],
     body: &Expr,
 ) -> Result<Typed, Memory>
     requires { IsReadyUnder here.now names.now (phrase body.now) }
-    ensures { IfOk result (λ f. formula f ≡ quantifiers all (length names.now) (says (inside names.now (scope_at here.now)) (phrase body.now))) }
+    ensures { IfOk result (λ f. formula f ≡ quantifiers all (sorts_of names.now) (says (inside names.now (scope_at here.now)) (phrase body.now))) }
 {
     let bound = BoundNames::More(names, here.bound);
     let inner = Site {
@@ -228,7 +232,7 @@ fn build_quantified(
         bound: &bound,
     };
     let formula = build_formula(alloc, &inner, body)?;
-    quantify(alloc, all, names.len(), formula)
+    quantify(alloc, all, names, formula)
 }
 
 #[cycle(build)]

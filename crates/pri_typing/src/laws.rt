@@ -3,6 +3,7 @@
 
 ghost use Rattle.std.specs.Prelude.{◌≡◌, ◌↔◌, ◌<◌, ◌≤◌, ◌^◌, ℕ, ℤ, Bool, true, false, nat_lt, length, map, List, [], ◌∷◌, ◌++◌, Some, None, All, Contains};
 ghost use Rattle.typed_formula.specs.Formula.{Formula, every, formula, formulas};
+ghost use Rattle.typed_formula.specs.Sorts.{AreValuesOf};
 ghost use Rattle.typed_formula.specs.Truth.{Meaning, Truth};
 ghost use Rattle.pri_reader.specs.declared.tree.File.{File};
 ghost use Rattle.pri_reader.specs.declared.tree.Expr.{Expr};
@@ -11,7 +12,7 @@ ghost use Rattle.pri_reader.specs.Reading.{file_setting};
 ghost use Rattle.pri_typing.specs.Limits.{IsResolvable};
 ghost use Rattle.pri_typing.specs.Faults.{is_before, least};
 ghost use Rattle.pri_typing.specs.Least.{IsStrictWeakOrder, least_by};
-ghost use Rattle.pri_typing.specs.Files.{IsTyped, file_faults, problem_of, scope_of};
+ghost use Rattle.pri_typing.specs.Files.{IsTyped, all_int, file_faults, problem_of, scope_of};
 ghost use Rattle.pri_tokens.specs.declared.terminals.Lexeme.{Lexeme};
 ghost use Rattle.pri_tokens.specs.Lexemes.{lexemes_of};
 ghost use Rattle.pri_tokens.specs.Numerals.{text_of};
@@ -45,14 +46,17 @@ pub fn well_formed_law()
     ensures identifiers { (f : File) (p : Problem) → IsResolvable f.blocks → IsTyped f p → HasIdentifiers p }
 {}
 
-/// A problem holds where its formula is true at the values of its existential constants: without universal constants,
-/// where it is true. A problem without applications holds in one interpretation where it holds in another. What is
-/// refuted does not hold everywhere.
+/// A problem whose constants are all of the type `int` holds where its formula is true at the values of its existential
+/// constants. Without universal constants, a problem holds at values of the types where its formula is true. A problem
+/// without applications holds in one interpretation where it holds in another. What is refuted does not hold everywhere.
 pub fn holds_law()
-    ensures formula { (w : Meaning) (p : Problem) (e : List ℤ) → Holds w p e ↔ IsTrueAt w p (formula p.formula) e }
-    ensures alone { (w : Meaning) (p : Problem) (e : List ℤ) → p.universals ≡ [] → length e ≡ length p.existentials → Holds w p e ↔ Truth w (formula p.formula) e }
+    ensures formula { (w : Meaning) (p : Problem) (e : List ℤ) → p.existential_types ≡ all_int p.existentials → p.universal_types ≡ all_int p.universals
+        → Holds w p e ↔ IsTrueAt w p (formula p.formula) e }
+    ensures alone { (w : Meaning) (p : Problem) (e : List ℤ) → IsWellFormed p → p.universals ≡ [] → length e ≡ length p.existentials
+        → AreValuesOf p.existential_types e → Holds w p e ↔ Truth w (formula p.formula) e }
     ensures pure { (v w : Meaning) (p : Problem) (e : List ℤ) → IsPure p → Holds v p e → Holds w p e }
-    ensures refuted { (p : Problem) (e : List ℤ) → IsRefuted p → length e ≡ length p.existentials → ¬ ((w : Meaning) → Holds w p e) }
+    ensures refuted { (p : Problem) (e : List ℤ) → IsRefuted p → length e ≡ length p.existentials
+        → AreValuesOf p.existential_types e → ¬ ((w : Meaning) → Holds w p e) }
 {}
 
 /// A formula that speaks of the existential constants alone has one truth at their values, whatever the universal constants
@@ -104,5 +108,5 @@ pub fn cuts_law()
         → All (λ set. Truth w (assumed_by p set) e) cut.sets ↔ (¬ (Truth w (formula p.formula) e)) }
     ensures contradict { (w : Meaning) (p : Problem) (cut : Cut) (first second : List ℕ) (e : List ℤ) → IsWellFormed p → Contains p.cuts cut
         → ¬ (IsPlainlyValid p) → cut.sets ≡ first ∷ second ∷ [] → Holds w p [] → length e ≡ length p.universals
-        → Truth w (assumed_by p first) e → ¬ (Truth w (assumed_by p second) e) }
+        → AreValuesOf p.universal_types e → Truth w (assumed_by p first) e → ¬ (Truth w (assumed_by p second) e) }
 {}

@@ -5,6 +5,7 @@
 mod applications;
 mod build;
 mod collect;
+mod constant_terms;
 mod cuts;
 mod declaration;
 mod faults;
@@ -14,8 +15,10 @@ mod problem;
 mod refusals;
 mod resolution;
 mod scope;
+mod sorts;
 mod symbols;
 
+pub use constant_terms::resolve_term;
 pub use laws::{
     components_law, cuts_law, existentials_law, holds_law, least_law, limits_law, names_law,
     place_order_law, purity_law, says_law, well_formed_law,

@@ -4,16 +4,20 @@ ghost use Rattle.std.specs.Prelude.{◌≡◌};
 
 use linear_term::Memory;
 use sqlite_items::Items;
-use typed_formula::Typed;
+use typed_formula::{Sort, Typed};
 
 /// A problem. In `formula` the name of a constant is its place among the existential constants and, behind them, the
 /// universal ones; a bound variable is the name after those of the formula around it.
 #[derive(Debug, Drop)]
 pub struct Problem {
-    /// In the order of their declarations, as all four lists are.
+    /// In the order of their declarations, as all four lists of names are.
     pub existentials: Items<Items<u8>>,
+    /// The type of each of them, in their order.
+    pub existential_types: Items<Sort>,
     /// With the functions without arguments.
     pub universals: Items<Items<u8>>,
+    /// The type of each of them, in their order; that of a function without arguments is `int`.
+    pub universal_types: Items<Sort>,
     /// Each with at least one argument.
     pub functions: Items<Symbol>,
     pub predicates: Items<Symbol>,

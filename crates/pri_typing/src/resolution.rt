@@ -21,6 +21,7 @@ use crate::parts::{asks_cuts, blocks_fault, formula_fault};
 use crate::problem::{Problem, TypeRefusal};
 use crate::refusals::earlier_of;
 use crate::scope::{BoundNames, Category, Site};
+use crate::sorts::{existential_types, universal_types};
 use crate::symbols::Symbols;
 use linear_term::Memory;
 use pri_reader::{Block, Expr, File};
@@ -114,6 +115,8 @@ fn pose(alloc: Global, blocks: &[Block], here: &Site, expr: &Expr) -> Result<Pro
     Ok(Problem {
         existentials: lists.existentials,
         universals: lists.universals,
+        existential_types: existential_types(alloc, blocks)?,
+        universal_types: universal_types(alloc, blocks)?,
         functions: lists.functions,
         predicates: lists.predicates,
         parts,

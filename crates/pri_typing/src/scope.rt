@@ -10,7 +10,7 @@ ghost use Rattle.pri_typing.specs.declared.declaration.Declaration.{Declaration}
 
 use crate::declaration::Kind;
 use crate::symbols::Symbols;
-use pri_reader::Name;
+use pri_reader::Declared;
 use texts::Texts;
 
 /// What an expression is: a formula, or a term.
@@ -40,7 +40,7 @@ pub enum Referent {
 #[derive(Clone, Copy)]
 pub enum BoundNames<'a> {
     Nothing,
-    More(&'a [Name], &'a BoundNames<'a>),
+    More(&'a [Declared], &'a BoundNames<'a>),
 }
 
 /// A site of a formula: the symbols of the file, the names of its parts, and the bound names there.
@@ -58,13 +58,13 @@ fn last_found(found: Option<usize>, i: usize, is_same: bool) -> Option<usize>
 }
 
 /// The last of the names that has this text.
-fn last_place_of(names: &[Name], text: &[u8]) -> Option<usize>
+fn last_place_of(names: &[Declared], text: &[u8]) -> Option<usize>
     ensures found { result ≡ last_place text.now names.now }
     ensures within { IfSome result (λ i. i < length names.now) }
 {
     let mut found = None;
     for i in 0..names.len() {
-        found = last_found(found, i, text == names[i].text.as_slice());
+        found = last_found(found, i, text == names[i].name.text.as_slice());
     }
     found
 }

@@ -17,7 +17,7 @@ use crate::refusals::earlier_of;
 use crate::scope::Referent;
 use indexmap::IndexMap;
 use linear_term::Memory;
-use pri_reader::{Block, Item, Name};
+use pri_reader::{Block, Declared, Item, Name};
 use sqlite_items::Items;
 use std::alloc::{AllocError, Global};
 use std::marker::Model;
@@ -153,12 +153,12 @@ impl Builder {
         Ok(())
     }
 
-    fn declare_names(&mut self, alloc: Global, names: &[Name], kind: Kind) -> Result<(), Memory>
+    fn declare_names(&mut self, alloc: Global, names: &[Declared], kind: Kind) -> Result<(), Memory>
         requires { IsKept self.old }
-        ensures { OnOk result (Extends self.old self.new (map (declaration kind) names.now)) }
+        ensures { OnOk result (Extends self.old self.new (map (λ n. declaration kind n.name) names.now)) }
     {
-        for name in names {
-            self.declare(alloc, name, kind)?;
+        for constant in names {
+            self.declare(alloc, &constant.name, kind)?;
         }
         Ok(())
     }

@@ -1,6 +1,7 @@
 -- Bytes pose at most one problem, or have one first refusal.
 use Rattle.std.proofs.Common.{◌≡◌, ◌↔◌, ℕ, ◌^◌, List, length, Some, None, sym, ◌∙◌, ap, subst}
 use Rattle.std.proofs.lemmas.Bool.{ltb-true}
+use Rattle.std.proofs.lemmas.List.Elements.{All-from_recursion}
 use Rattle.pri_tokens.specs.Lexemes.{lexemes_of}
 use Rattle.pri_reader.specs.declared.tree.File.{File}
 use Rattle.pri_reader.specs.declared.tree.ReadRefusal.{ReadRefusal}
@@ -20,6 +21,8 @@ use Rattle.pri_typing.proofs.Formed.{well_formed, names_differ}
 use Rattle.pri_typing.proofs.Identified.{file_identified, names_identified}
 use Rattle.pri_typing.proofs.Purity.{first_pure}
 use Rattle.pri_typing.proofs.Ranged.{file_ranged}
+use Rattle.pri_typing.proofs.Sorting.{file_sorted}
+use Rattle.typed_formula.specs.Sorts.{IsSortRanged}
 use Rattle.problem_file.specs.Reads.{IsFileOf, Reads, Refusal, unread, untyped, FirstRefusal, AreSame}
 
 pub some_same : {X : Type 0} (x y : X) → Some x ≡ Some y → x ≡ y
@@ -31,7 +34,9 @@ same_file bytes f g h k = one_file (file_setting bytes) (lexemes_of bytes) f g h
 typed_same : (f : File) (p q : Problem) → IsTyped f p → IsTyped f q → AreSame p q
 typed_same f p q h k = record {
   existentials = h.existentials ∙ sym k.existentials;
+  existential_types = h.existential_types ∙ sym k.existential_types;
   universals = h.universals ∙ sym k.universals;
+  universal_types = h.universal_types ∙ sym k.universal_types;
   functions = h.functions ∙ sym k.functions;
   predicates = h.predicates ∙ sym k.predicates;
   parts = h.parts ∙ sym k.parts;
@@ -60,7 +65,9 @@ read_or_refused bytes p (untyped e) h k = let same = ap (λ f. least (file_fault
 
 pub reads_formed : (bytes : List ℕ) (p : Problem) → Reads bytes p → IsWellFormed p
 reads_formed bytes p h =
-    well_formed h.file p (least-none _ h.sound) h.typed (file_ranged (λ rest n small. ltb-true n (2 ^ 127) small) h.read) (cuts_proper (h.read).blocks_are)
+    let sorts = file_sorted (λ rest n small. ltb-true n (2 ^ 127) small) h.read in
+    well_formed h.file p (least-none _ h.sound) h.typed (file_ranged (λ rest n small. ltb-true n (2 ^ 127) small) h.read) (All-from_recursion IsSortRanged _ sorts.existential) (All-from_recursion IsSortRanged _ sorts.universal)
+    (cuts_proper (h.read).blocks_are)
 
 pub reads_distinct : (bytes : List ℕ) (p : Problem) → Reads bytes p → HasDistinctNames p
 reads_distinct bytes p h = names_differ h.file p (least-none _ h.sound) h.typed

@@ -1,12 +1,12 @@
 -- What holds of the answers to problems by their encoding, whatever is answered where it fits; and what the code of the encoding
 -- answers.
-use Rattle.std.proofs.Common.{Some, None, ℕ, ◌≡◌, ◌↔◌, ℤ, Bool, true, false, ◌&&◌, List, [], ◌∷◌, ◌++◌, length, None, Result, Ok, Err, IfOk, IfErr, refl, sym, ◌∙◌, ap, subst, codes, arith}
+use Rattle.std.proofs.Common.{Some, None, ℕ, ◌≡◌, ◌↔◌, ℤ, Bool, true, false, ◌&&◌, List, [], ◌∷◌, ◌++◌, ◌+◌, length, None, Result, Ok, Err, IfOk, IfErr, refl, sym, ◌∙◌, ap, subst, codes, arith}
 use Rattle.linear_term.specs.declared.range.Memory.{Memory}
 use Rattle.linear_term.specs.declared.range.Place.{Place}
 use Rattle.linear_term.specs.declared.range.TermFault.TheVariants as term_fault
 use Rattle.linear_term.specs.Range.{all_stay}
 use Rattle.typed_formula.specs.Truth.{Meaning}
-use Rattle.typed_formula.specs.Formula.{formula}
+use Rattle.typed_formula.specs.Formula.{Formula}
 use Rattle.purse.specs.Trace.{Traced, Event, charge, raw, mark, At, at}
 use Rattle.purse.specs.Runs.{raw_stay}
 use Rattle.purse.proofs.Meaning.{passes_where_runs, left_where_leaves}
@@ -17,7 +17,8 @@ use Rattle.formula.specs.Tree.{form}
 use Rattle.pri_typing.specs.declared.problem.Problem.{Problem}
 use Rattle.pri_typing.specs.Problems.{Holds, IsPure}
 use Rattle.encoding.specs.Problems.{is_large, problem_root}
-use Rattle.encoding.specs.Root.{root}
+use Rattle.encoding.specs.Encoding.{encoded}
+use Rattle.encoding.specs.Root.{names_from, root}
 use Rattle.function_encoding.specs.declared.answer.Encoded.{Encoded}
 use Rattle.function_encoding.specs.declared.answer.EncodeRefusal.{EncodeRefusal}
 use Rattle.function_encoding.specs.declared.answer.EncodeRefusal.TheVariants as encode_refusal
@@ -34,10 +35,10 @@ use Rattle.problem_file.proofs.Bytes.{some_same}
 
 -- the same problems have the same encoding
 pub root_same : (p q : Problem) → AreSame p q → problem_root p ≡ problem_root q
-root_same p q same =
-    ap (λ xs. root (length xs) (length p.universals) (formula p.formula)) same.existentials
-    ∙ ap (λ xs. root (length q.existentials) (length xs) (formula p.formula)) same.universals
-    ∙ ap (root (length q.existentials) (length q.universals)) same.formula
+root_same p q same = λ i. root (same.existential_types i) (same.universal_types i) (body_of (same.existentials i) (same.universals i) (same.formula i))
+  where
+    body_of : (es us : List (List ℕ)) → Formula → Traced Form
+    body_of es us f = encoded (names_from 0 (length es + length us)) (length es + length us) true f
 
 pub fits_same : (p q : Problem) → AreSame p q → Fits p → Fits q
 fits_same p q same h = subst (λ w. (is_large w.value ≡ false) × (raw_stay w.events ≡ true)) (root_same p q same) h

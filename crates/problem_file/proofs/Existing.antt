@@ -20,6 +20,7 @@ use Rattle.pri_typing.specs.declared.problem.Problem.{Problem}
 use Rattle.pri_typing.specs.declared.problem.TypeRefusal.{TypeRefusal}
 use Rattle.pri_typing.specs.Scope.{declarations, existentials, universals, functions, predicates}
 use Rattle.pri_typing.specs.Faults.{least}
+use Rattle.pri_typing.specs.Sorts.{existential_sorts, universal_sorts}
 use Rattle.pri_typing.specs.Files.{file_faults, IsTyped, scope_of, problem_of}
 use Rattle.pri_typing.specs.Parts.{cuts_in}
 use Rattle.pri_typing.specs.Typing.{says, applications, first_of, part_names}
@@ -36,8 +37,8 @@ mutual
   typed (some gs) = f.Or (all_typed gs)
   typed (implies g h) = f.Implies (typed g) (typed h)
   typed (iff g h) = f.Iff (typed g) (typed h)
-  typed (for_all g) = f.Forall (typed g)
-  typed (for_some g) = f.Exists (typed g)
+  typed (for_all s g) = f.Forall s (typed g)
+  typed (for_some s g) = f.Exists s (typed g)
   typed (part k g) = f.Part k (typed g)
 
   all_typed : Formulas → List Typed
@@ -73,8 +74,8 @@ mutual
   formula-typed (some gs) = fold.formula-Or (all_typed gs) ∙ ap (λ z. some z) (formulas-typed gs)
   formula-typed (implies g h) = fold.formula-Implies (typed g) (typed h) ∙ ap (λ z. implies z (formula (typed h))) (formula-typed g) ∙ ap (λ z. implies g z) (formula-typed h)
   formula-typed (iff g h) = fold.formula-Iff (typed g) (typed h) ∙ ap (λ z. iff z (formula (typed h))) (formula-typed g) ∙ ap (λ z. iff g z) (formula-typed h)
-  formula-typed (for_all g) = fold.formula-Forall (typed g) ∙ ap (λ z. for_all z) (formula-typed g)
-  formula-typed (for_some g) = fold.formula-Exists (typed g) ∙ ap (λ z. for_some z) (formula-typed g)
+  formula-typed (for_all s g) = fold.formula-Forall s (typed g) ∙ ap (λ z. for_all s z) (formula-typed g)
+  formula-typed (for_some s g) = fold.formula-Exists s (typed g) ∙ ap (λ z. for_some s z) (formula-typed g)
   formula-typed (part k g) = fold.formula-Part k (typed g) ∙ ap (λ z. part k z) (formula-typed g)
 
   formulas-typed : (gs : Formulas) → formulas_of (all_typed gs) ≡ gs
@@ -101,7 +102,9 @@ mutual
 abbrev posed : File → Problem
 posed g = record {
   existentials = existentials (declarations g.blocks);
+  existential_types = flat_map existential_sorts g.blocks;
   universals = universals (declarations g.blocks);
+  universal_types = flat_map universal_sorts g.blocks;
   functions = functions (declarations g.blocks);
   predicates = predicates (declarations g.blocks);
   parts = part_names (problem_of g.blocks);
@@ -113,7 +116,9 @@ posed g = record {
 posed_typed : (g : File) → IsTyped g (posed g)
 posed_typed g = record {
   existentials = refl;
+  existential_types = refl;
   universals = refl;
+  universal_types = refl;
   functions = refl;
   predicates = refl;
   parts = refl;

@@ -1,5 +1,5 @@
 -- The terms of an encoding are reduced: they are numbers, names and what is combined of them.
-use Rattle.std.proofs.Common.{length, ℕ, zero, suc, ◌+◌, ◌<◌, arith, ◌≢◌, ℤ, pos, negsuc, Bool, true, false, not, cond, List, [], ◌∷◌, ◌++◌}
+use Rattle.std.proofs.Common.{length, sym, subst, append_assoc, append-nil, ℕ, zero, suc, ◌+◌, ◌<◌, arith, ◌≢◌, ℤ, pos, negsuc, Bool, true, false, not, cond, List, [], ◌∷◌, ◌++◌}
 use Rattle.std.specs.Bool.{beq}
 use Rattle.std.specs.List.{AllByRecursion}
 use Rattle.std.proofs.lemmas.List.Elements.{All-from_recursion}
@@ -10,14 +10,16 @@ use Rattle.typed_formula.specs.declared.typed.Relation.{Relation}
 use Rattle.typed_formula.specs.declared.typed.Relation.TheVariants.{Eq, Neq, Lt, Leq, Gt, Geq}
 use Rattle.typed_formula.specs.Formula.{Formula, Formulas, Expression, Expressions, formula, constant, compares, applies, negation, every, some, implies, iff, for_all, for_some, part, no_formula, and_formula, number, name, call, minus, total, product, choice, absolute, lesser, greater, no_expression, and_expression}
 use Rattle.purse.specs.Trace.{Traced, just, step, next, combining}
-use Rattle.formula.specs.Form.{Form, Forms, holds, fails, differs, universal, disjunction, no_form, forms}
+use Rattle.formula.specs.Form.{Form, Forms, holds, fails, differs, universal, disjunction, no_form, and_form, forms}
 use Rattle.formula.specs.Reduced.{HasReducedTerms, HaveReducedTerms}
 use Rattle.pri_typing.specs.declared.problem.Problem.{Problem}
 use Rattle.pri_typing.specs.Problems.{assumed_by}
 use Rattle.pri_typing.specs.WellFormed.{is_numeric}
-use Rattle.encoding.specs.Encoding.{named, multiple, related, signed_relation, product_of, junction, quantified, cases, encoded, all_encoded, with_value, with_values, with_sum, with_more}
-use Rattle.encoding.specs.Problems.{body, parts_root, problem_root, constants}
-use Rattle.encoding.specs.Root.{for_last, names_from}
+use Rattle.encoding.specs.Encoding.{named, multiple, related, signed_relation, product_of, junction, quantified, Bound, least, greatest, bounds, inequality, within, outside, limits, restricted, bound_by, cases, encoded, all_encoded, with_value, with_values, with_sum, with_more}
+use Rattle.typed_formula.specs.declared.typed.Sort.{Sort}
+use Rattle.encoding.specs.Occurrences.{occurs}
+use Rattle.encoding.specs.Problems.{append, body, parts_root, problem_root, constants, types}
+use Rattle.encoding.specs.Root.{conditions, for_last, names_from}
 
 number_reduced : (v : ℤ) → IsReduced (linear.number v)
 number_reduced v = record { rising = tt; not_zero = All-from_recursion (λ p. p.1 ≢ pos 0) [] tt }
@@ -58,6 +60,34 @@ quantified_reduced : (plus : Bool) (g : Form) → HasReducedTerms g → HasReduc
 quantified_reduced true g h = h
 quantified_reduced false g h = h
 
+inequality_reduced : (k m : ℤ) (x : ℕ) (t : Linear) → IsReduced t → HasReducedTerms (inequality k x m t).value
+unfolding next just step
+inequality_reduced k m x t h = reduced-combination k m (linear.name x) t (name_reduced x) h
+
+limit_reduced : (all : Bool) (x : ℕ) (b : Bound) → HasReducedTerms (cond all (outside x b) (within x b)).value
+unfolding next just step
+limit_reduced true x (least n) =
+    inequality_reduced (negsuc 0) (pos 1) x _ (reduced-combination (pos 1) (negsuc 0) (linear.number n) (linear.number (pos 1)) (number_reduced n) (number_reduced (pos 1)))
+limit_reduced true x (greatest n) =
+    inequality_reduced (pos 1) (pos 1) x _ (reduced-combination (negsuc 0) (negsuc 0) (linear.number n) (linear.number (pos 1)) (number_reduced n) (number_reduced (pos 1)))
+limit_reduced false x (least n) = inequality_reduced (pos 1) (negsuc 0) x (linear.number n) (number_reduced n)
+limit_reduced false x (greatest n) = inequality_reduced (negsuc 0) (pos 1) x (linear.number n) (number_reduced n)
+
+limits_reduced : (all : Bool) (x : ℕ) (bs : List Bound) (gs : List Form) → HaveReducedTerms (forms gs) → HaveReducedTerms (forms ((limits all x bs).value ++ gs))
+unfolding next just
+limits_reduced all x [] gs h = h
+limits_reduced all x (b ∷ bs) gs h = (limit_reduced all x b, limits_reduced all x bs gs h)
+
+restricted_reduced : (all : Bool) (x : ℕ) (bs : List Bound) (g : Form) → HasReducedTerms g → HasReducedTerms (restricted all (limits all x bs).value g)
+unfolding next just
+restricted_reduced all x [] g h = h
+restricted_reduced true x (b ∷ bs) g h = limits_reduced true x (b ∷ bs) (g ∷ []) (h, tt)
+restricted_reduced false x (b ∷ bs) g h = limits_reduced false x (b ∷ bs) (g ∷ []) (h, tt)
+
+bound_reduced : (all : Bool) (x : ℕ) (s : Sort) (work : Traced Form) → HasReducedTerms work.value → HasReducedTerms (bound_by all x s work).value
+unfolding next just
+bound_reduced all x s work h = quantified_reduced all _ (restricted_reduced all x (bounds s) work.value h)
+
 predicate_reduced : (plus : Bool) (p : ℕ) (ls : List Linear) → AllByRecursion IsReduced ls → HasReducedTerms (cond plus (holds p ls) (fails p ls))
 predicate_reduced true p ls h = h
 predicate_reduced false p ls h = h
@@ -83,8 +113,8 @@ mutual
   encoded_reduced (implies f g) at n plus = junction_reduced (not plus) _ (encoded_reduced f at n (not plus), (encoded_reduced g at n plus, tt))
   encoded_reduced (iff f g) at n plus =
       ((encoded_reduced f at n (not plus), (encoded_reduced g at n true, tt)), ((encoded_reduced f at n plus, (encoded_reduced g at n false, tt)), tt))
-  encoded_reduced (for_all f) at n plus = quantified_reduced plus (encoded (at ++ n ∷ []) (suc n) plus f).value (encoded_reduced f (at ++ n ∷ []) (suc n) plus)
-  encoded_reduced (for_some f) at n plus = quantified_reduced (not plus) (encoded (at ++ n ∷ []) (suc n) plus f).value (encoded_reduced f (at ++ n ∷ []) (suc n) plus)
+  encoded_reduced (for_all s f) at n plus = bound_reduced plus n s (encoded (at ++ n ∷ []) (suc n) plus f) (encoded_reduced f (at ++ n ∷ []) (suc n) plus)
+  encoded_reduced (for_some s f) at n plus = bound_reduced (not plus) n s (encoded (at ++ n ∷ []) (suc n) plus f) (encoded_reduced f (at ++ n ∷ []) (suc n) plus)
   encoded_reduced (part k f) at n plus = encoded_reduced f at n plus
 
   all_encoded_reduced : (fs : Formulas) (at : List ℕ) (n : ℕ) (plus : Bool) → HaveReducedTerms (all_encoded at n plus fs).value
@@ -141,9 +171,30 @@ mutual
       with_reduced t at n (λ m a. next (combining (pos 1) s (pos 1) a) (λ z. with_more at ts m z rest))
       (λ m a ra. more_reduced ts at m _ rest (reduced-combination (pos 1) (pos 1) s a rs ra) r)
 
-last_reduced : (k : ℕ) (f : Form) → HasReducedTerms f → HasReducedTerms (for_last k f)
-last_reduced zero f h = h
-last_reduced (suc k) f h = last_reduced k f h
+last_reduced : (m : ℕ) (ss : List Sort) (work : Traced Form) → HasReducedTerms work.value → HasReducedTerms (for_last m ss work).value
+last_reduced m [] work h = h
+last_reduced m (s ∷ ss) work h = bound_reduced true m s (for_last (suc m) ss work) (last_reduced (suc m) ss work h)
+
+one_reduced : (b : Bool) (x : ℕ) (s : Sort) (gs : List Form) → HaveReducedTerms (forms gs) → HaveReducedTerms (forms ((cond b (limits false x (bounds s)) (just [])).value ++ gs))
+unfolding just
+one_reduced true x s gs h = limits_reduced false x (bounds s) gs h
+one_reduced false x s gs h = h
+
+conditions_reduced : (kept : ℕ → Bool) (x : ℕ) (ss : List Sort) (gs : List Form) → HaveReducedTerms (forms gs) → HaveReducedTerms (forms ((conditions kept x ss).value ++ gs))
+unfolding next just
+conditions_reduced kept x [] gs h = h
+conditions_reduced kept x (s ∷ ss) gs h =
+    let front : List Form = (cond (kept x) (limits false x (bounds s)) (just [])).value in
+    let back : List Form = (conditions kept (suc x) ss).value in
+    subst (λ l. HaveReducedTerms (forms l)) (sym (append_assoc front back gs)) (one_reduced (kept x) x s (back ++ gs) (conditions_reduced kept (suc x) ss gs h))
+
+with_conditions : (hs : List Form) (g : Form) → HaveReducedTerms (forms (hs ++ g ∷ [])) → HasReducedTerms (restricted false hs g)
+with_conditions [] g h = h.0
+with_conditions (f ∷ hs) g h = h
+
+append_reduced : (gs : Forms) (hs : List Form) → HaveReducedTerms gs → HaveReducedTerms (forms hs) → HaveReducedTerms (append gs hs)
+append_reduced no_form hs p q = q
+append_reduced (and_form g gs) hs p q = (p.0, append_reduced gs hs (p.1) q)
 
 -- the terms of an encoded problem are reduced, below the quantifiers of its universal constants and with them
 pub body_reduced : (p : Problem) → HasReducedTerms (body p).value
@@ -151,8 +202,16 @@ body_reduced p = encoded_reduced (formula p.formula) (names_from 0 (constants p)
 
 pub problem_reduced : (p : Problem) → HasReducedTerms (problem_root p).value
 unfolding next just
-problem_reduced p = last_reduced (length p.universals) (body p).value (body_reduced p)
+problem_reduced p =
+    let es = p.existential_types in
+    let g : Form = (for_last (length es) p.universal_types (body p)).value in
+    with_conditions (conditions (λ x. true) 0 es).value g
+    (conditions_reduced (λ x. true) 0 es (g ∷ []) (last_reduced (length es) p.universal_types (body p) (body_reduced p), tt))
 
 -- and those of what parts assume
 pub parts_reduced : (p : Problem) (set : List ℕ) → HasReducedTerms (parts_root p set).value
-parts_reduced p set = encoded_reduced (assumed_by p set) (names_from 0 (constants p)) (constants p) true
+unfolding next just
+parts_reduced p set =
+    let own : List Form = (conditions (λ x. occurs x (assumed_by p set)) 0 (types p)).value in
+    append_reduced _ own (encoded_reduced (assumed_by p set) (names_from 0 (constants p)) (constants p) true)
+    (subst (λ l. HaveReducedTerms (forms l)) (append-nil own) (conditions_reduced (λ x. occurs x (assumed_by p set)) 0 (types p) [] tt))

@@ -36,7 +36,9 @@ FirstRefusal bytes (untyped e) = (f : File) × IsFileOf bytes f × (least (file_
 -- the problems are the same, field by field, with formulas by their trees
 pub record AreSame (p q : Problem) : Type 0 where
   pub existentials : p.existentials ≡ q.existentials
+  pub existential_types : p.existential_types ≡ q.existential_types
   pub universals : p.universals ≡ q.universals
+  pub universal_types : p.universal_types ≡ q.universal_types
   pub functions : p.functions ≡ q.functions
   pub predicates : p.predicates ≡ q.predicates
   pub parts : p.parts ≡ q.parts

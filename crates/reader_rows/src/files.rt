@@ -1,8 +1,8 @@
 // Files that are read and files that are refused, with offsets counted by hand.
 
 use pri_reader::{
-    Block, File, Form, ReadRefusal, completion_law, first_refusal_law, machine_law, one_file_law,
-    read,
+    Block, Declared, File, Form, ReadRefusal, TypeName, completion_law, first_refusal_law,
+    machine_law, one_file_law, read,
 };
 use std::alloc::{AllocError, Global};
 use std::test::Fail;
@@ -48,6 +48,11 @@ fn files_of_the_grammar_are_read(rt: HostRuntime) {
         "\\universalConstants { int a, b; int c; } \\existentialConstants { } \\problem { a < b }",
         "\\interpolant { p, q; r; p } \\problem { \\part [p] true } \\interpolant { a; b }",
         "\\problem { \\forall int x, y; \\exists (int a, b; int c) (x + a - 3*y*b <= c) }",
+        "\\universalConstants { nat n, m; int[0, 9] i; } \\problem { n < i }",
+        "\\existentialConstants { int[-3,-1] a; int [ - 2 /* b */ , 5 ] b; } \\problem { a < b }",
+        "\\problem { \\forall nat x; \\exists (int[1, 2] a, b; nat c; int d) (x + a - c <= b + d) }",
+        "\\problem { \\forall int[-170141183460469231731687303715884105727, 170141183460469231731687303715884105727] x; x = x }",
+        "\\universalConstants { int[3, 1] x; } \\problem { x = 0 }",
         "\\problem { ! a -> b <-> c -> ! (d | e & f) }",
         "\\problem { \\if (a) \\then (1) \\else (-x) >= \\abs(y) + \\min(1, 2) * \\max(3, 4) }",
         "\\problem { 170141183460469231731687303715884105727 != 0 /* } */ }",
@@ -208,6 +213,107 @@ fn files_are_refused_at_the_first_token(rt: HostRuntime) {
     }
 }
 
+#[test]
+fn types_are_refused_at_the_first_token(rt: HostRuntime) {
+    for (text, wanted) in [
+        (
+            "\\universalConstants { int[1] x; }",
+            ReadRefusal::Syntax(27),
+        ),
+        (
+            "\\universalConstants { int[1, ] x; }",
+            ReadRefusal::Syntax(29),
+        ),
+        (
+            "\\universalConstants { int[1, 2 x; }",
+            ReadRefusal::Syntax(31),
+        ),
+        (
+            "\\universalConstants { int[, 2] x; }",
+            ReadRefusal::Syntax(26),
+        ),
+        ("\\universalConstants { int[] x; }", ReadRefusal::Syntax(26)),
+        (
+            "\\universalConstants { int[--1, 2] x; }",
+            ReadRefusal::Syntax(27),
+        ),
+        (
+            "\\universalConstants { int[-x, 2] x; }",
+            ReadRefusal::Syntax(27),
+        ),
+        (
+            "\\universalConstants { int[+1, 2] x; }",
+            ReadRefusal::Syntax(26),
+        ),
+        (
+            "\\universalConstants { nat[1, 2] x; }",
+            ReadRefusal::Syntax(25),
+        ),
+        ("\\universalConstants { nat nat; }", ReadRefusal::Syntax(26)),
+        (
+            "\\universalConstants { int[1, 2], x; }",
+            ReadRefusal::Syntax(31),
+        ),
+        (
+            "\\universalConstants { int[1, 2]; }",
+            ReadRefusal::Syntax(31),
+        ),
+        (
+            "\\universalConstants { nat x, nat y; }",
+            ReadRefusal::Syntax(29),
+        ),
+        (
+            "\\universalConstants { int[1, 2](x); }",
+            ReadRefusal::Syntax(31),
+        ),
+        ("\\universalConstants { nats x; }", ReadRefusal::Syntax(22)),
+        ("\\functions { nat f; }", ReadRefusal::Syntax(13)),
+        ("\\functions { int f(nat); }", ReadRefusal::Syntax(19)),
+        ("\\functions { int[1, 2] f; }", ReadRefusal::Syntax(16)),
+        ("\\functions { int nat; }", ReadRefusal::Syntax(17)),
+        ("\\predicates { p(nat); }", ReadRefusal::Syntax(16)),
+        ("\\predicates { nat; }", ReadRefusal::Syntax(14)),
+        ("\\problem { nat = 0 }", ReadRefusal::Syntax(11)),
+        ("\\problem { \\forall nat; true }", ReadRefusal::Syntax(22)),
+        (
+            "\\problem { \\forall nat[1, 2] x; true }",
+            ReadRefusal::Syntax(22),
+        ),
+        (
+            "\\problem { \\forall (nat x, y; z) true }",
+            ReadRefusal::Syntax(30),
+        ),
+        (
+            "\\problem { \\forall (nat x; nat) true }",
+            ReadRefusal::Syntax(30),
+        ),
+        (
+            "\\problem { \\forall nat (x) true }",
+            ReadRefusal::Syntax(23),
+        ),
+        ("\\problem { \\part [nat] true }", ReadRefusal::Syntax(18)),
+        ("\\interpolant { nat; a }", ReadRefusal::Syntax(15)),
+        (
+            "\\universalConstants { int[1, 170141183460469231731687303715884105728] x; }",
+            ReadRefusal::Literal(29),
+        ),
+        (
+            "\\universalConstants { int[-170141183460469231731687303715884105728, 1] x; }",
+            ReadRefusal::Literal(27),
+        ),
+        (
+            "\\universalConstants { int[1 170141183460469231731687303715884105728] x; }",
+            ReadRefusal::Syntax(28),
+        ),
+        ("\\universalConstants { int[1, 2", ReadRefusal::Syntax(30)),
+        ("\\universalConstants { int[", ReadRefusal::Syntax(26)),
+        ("\\universalConstants { int", ReadRefusal::Syntax(25)),
+        ("\\universalConstants { nat", ReadRefusal::Syntax(25)),
+    ] {
+        assert_eq!(rt; refusal(rt.alloc(), text), Some(wanted), "at {text}");
+    }
+}
+
 // Inside 200 parentheses no further level may be opened, but a word that opens none is no refusal yet.
 #[test]
 fn words_before_a_level_are_read(rt: HostRuntime) -> Result<(), Fail> {
@@ -215,6 +321,9 @@ fn words_before_a_level_are_read(rt: HostRuntime) -> Result<(), Fail> {
         ("\\forall x; 1", ReadRefusal::Syntax(219)),
         ("\\forall int 1; 1", ReadRefusal::Syntax(223)),
         ("\\forall int x; 1", ReadRefusal::Deep(223)),
+        ("\\forall nat 1; 1", ReadRefusal::Syntax(223)),
+        ("\\forall int[-1, -2] x; 1", ReadRefusal::Deep(231)),
+        ("\\forall int[-1, -] x; 1", ReadRefusal::Syntax(228)),
         ("\\if 1", ReadRefusal::Syntax(215)),
         ("\\if (1) \\then (1) \\else (1)", ReadRefusal::Deep(215)),
         ("\\part a 1", ReadRefusal::Deep(211)),
@@ -239,6 +348,8 @@ fn two_hundred_levels_are_read(rt: HostRuntime) -> Result<(), Fail> {
         ("-", "", 0),
         ("\\part [p] ", "", 0),
         ("\\forall int x; ", "", 12),
+        ("\\forall nat x; ", "", 12),
+        ("\\exists int[-1, -2] x; ", "", 20),
         ("a -> ", "", 2),
         ("a <-> ", "", 2),
         ("a * ", "", 2),
@@ -286,6 +397,43 @@ fn is_grouped_right(file: &File) -> bool {
 fn signs_group_as_the_grammar_says(rt: HostRuntime) {
     match read(rt.alloc(), "\\problem { a -> b <-> c <-> d }".as_bytes()) {
         Ok(file) => assert!(rt; is_grouped_right(&file)),
+        Err(refusal) => assert_eq!(rt; Some(refusal), None),
+    }
+}
+
+// Whether this name has this type and begins at this offset.
+fn is_typed(declared: Option<&Declared>, sort: TypeName, at: u64) -> bool {
+    match declared {
+        Some(found) => found.sort == sort && found.name.at == at,
+        None => false,
+    }
+}
+
+// Whether the constants are `nat a, b` and `int[-3, 2] c`, and the bound names of the problem `int x, y` and `nat z`.
+fn is_typed_as_written(file: &File) -> bool {
+    let Some(Block::Existentials(0, constants)) = file.blocks.get(0) else {
+        return false;
+    };
+    let Some(Block::Problem(55, problem)) = file.blocks.get(1) else {
+        return false;
+    };
+    let Form::Quantified(true, bound, _) = &problem.form else {
+        return false;
+    };
+    is_typed(constants.get(0), TypeName::Nat, 28)
+        && is_typed(constants.get(1), TypeName::Nat, 31)
+        && is_typed(constants.get(2), TypeName::Range(-3, 2), 50)
+        && is_typed(bound.get(0), TypeName::Int, 79)
+        && is_typed(bound.get(1), TypeName::Int, 82)
+        && is_typed(bound.get(2), TypeName::Nat, 89)
+}
+
+#[test]
+fn names_have_the_types_of_their_lines(rt: HostRuntime) {
+    let text =
+        "\\existentialConstants { nat a, b; int [ - 3 , 2 ] c; } \\problem { \\forall (int x, y; nat z) true }";
+    match read(rt.alloc(), text.as_bytes()) {
+        Ok(file) => assert!(rt; is_typed_as_written(&file)),
         Err(refusal) => assert_eq!(rt; Some(refusal), None),
     }
 }

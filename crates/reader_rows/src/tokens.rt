@@ -9,11 +9,13 @@ use std::test::Fail;
 fn a_text_is_one_token(rt: HostRuntime) -> Result<(), Fail> {
     for (text, terminal) in [
         ("int", Terminal::Int),
+        ("nat", Terminal::Nat),
         ("\\forall", Terminal::Forall),
         ("<->", Terminal::Iff),
         ("x_1", Terminal::Identifier),
         ("_", Terminal::Identifier),
         ("ints", Terminal::Identifier),
+        ("nat1", Terminal::Identifier),
         ("0127", Terminal::Number),
         ("\\problemx", Terminal::Bad),
         ("\\", Terminal::Bad),

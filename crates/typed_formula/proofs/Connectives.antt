@@ -1,8 +1,12 @@
 -- The laws of the connectives, the quantifiers and the values of terms.
-use Rattle.std.proofs.Common.{◌≡◌, ◌↔◌, ℤ, pos, ◌*ℤ◌, neg_ℤ, List, [], ◌∷◌, ◌++◌, map, All, refl, ap, ◌∙◌, sym, unsigned_abs}
+use borrow.Author.Differences.{ints}
+use Rattle.std.proofs.Common.{◌≡◌, ◌↔◌, ℤ, ◌<ℤ◌, ◌≤ℤ◌, arith, pos, ◌*ℤ◌, neg_ℤ, List, [], ◌∷◌, ◌++◌, map, All, refl, ap, ◌∙◌, sym, unsigned_abs}
 use Rattle.std.specs.Int.{int_min, int_max}
 use Rattle.std.proofs.lemmas.List.Elements.{All-nil, All-cons, All-head, All-tail}
 use Rattle.typed_formula.specs.Formula.{Formula, Formulas, Expression, Expressions, formulas, negation, every, some, implies, iff, for_all, for_some, no_formula, and_formula, number, name, call, minus, total, product, choice, absolute, lesser, greater, no_expression, and_expression}
+use Rattle.typed_formula.specs.declared.typed.Sort.{Sort}
+use Rattle.typed_formula.specs.declared.typed.Sort.TheVariants.{Int, Nat, Range}
+use Rattle.typed_formula.specs.Sorts.{IsValueOf}
 use Rattle.typed_formula.specs.Truth.{Meaning, Truth, AreAllTrue, AreAllFalse, HasValue, HaveValues}
 use Rattle.typed_formula.specs.Lists.{sum_of}
 use Rattle.typed_formula.proofs.Values.{value_more, values_more, value_clash}
@@ -71,17 +75,32 @@ implication w f g e = (λ h k. k.0 (λ a. (k.1).0 (h a)), λ h a. truth_stable w
 pub equivalence : (w : Meaning) (f g : Formula) (e : List ℤ) → Truth w (iff f g) e ↔ Truth w (every (formulas (implies f g ∷ implies g f ∷ []))) e
 equivalence w f g e = (λ h. (h.0, (h.1, tt)), λ h. (h.0, (h.1).0))
 
--- an existential formula is true where its body is true at some integer
-pub witness : (w : Meaning) (f : Formula) (e : List ℤ) (v : ℤ) → Truth w f (e ++ v ∷ []) → Truth w (for_some f) e
-witness w f e v a h = h v a
+-- an existential formula is true where its body is true at some value of the type
+pub witness : (w : Meaning) (s : Sort) (f : Formula) (e : List ℤ) (v : ℤ) → IsValueOf s v → Truth w f (e ++ v ∷ []) → Truth w (for_some s f) e
+witness w s f e v t a h = h v t a
 
 -- the negation of an existential formula is the universal one of the negation
-pub not_for_some : (w : Meaning) (f : Formula) (e : List ℤ) → Truth w (negation (for_some f)) e ↔ Truth w (for_all (negation f)) e
-not_for_some w f e = (λ h v a. h (λ k. k v a), λ h k. k h)
+pub not_for_some : (w : Meaning) (s : Sort) (f : Formula) (e : List ℤ) → Truth w (negation (for_some s f)) e ↔ Truth w (for_all s (negation f)) e
+not_for_some w s f e = (λ h v t a. h (λ k. k v t a), λ h k. k h)
 
 -- the negation of a universal formula is the existential one of the negation
-pub not_for_all : (w : Meaning) (f : Formula) (e : List ℤ) → Truth w (negation (for_all f)) e ↔ Truth w (for_some (negation f)) e
-not_for_all w f e = (λ h k. h (λ v. truth_stable w f (e ++ v ∷ []) (k v)), λ h k. h (λ v n. n (k v)))
+pub not_for_all : (w : Meaning) (s : Sort) (f : Formula) (e : List ℤ) → Truth w (negation (for_all s f)) e ↔ Truth w (for_some s (negation f)) e
+not_for_all w s f e = (λ h k. h (λ v t. truth_stable w f (e ++ v ∷ []) (k v t)), λ h k. h (λ v t n. n (k v t)))
+
+-- over all integers the type asks for nothing
+pub all_integers : (w : Meaning) (f : Formula) (e : List ℤ) → Truth w (for_all Int f) e ↔ ((v : ℤ) → Truth w f (e ++ v ∷ []))
+all_integers w f e = (λ h v. h v tt, λ h v _. h v)
+
+-- over the integers from 0 on: what is not below 0 is a value
+pub naturals : (w : Meaning) (f : Formula) (e : List ℤ) → Truth w (for_all Nat f) e ↔ ((v : ℤ) → pos 0 ≤ℤ v → Truth w f (e ++ v ∷ []))
+naturals w f e = (λ h. h, λ h. h)
+
+no_integer : (a b v : ℤ) → b <ℤ a → IsValueOf (Range a b) v → ⊥
+no_integer a b v lt h = let low = h.0 in let high = h.1 in omega (arith, ints)
+
+-- where the bounds of a range are the wrong way round, what is so of all its values is so
+pub empty_range : (w : Meaning) (f : Formula) (e : List ℤ) (a b : ℤ) → b <ℤ a → Truth w (for_all (Range a b) f) e
+empty_range w f e a b lt v h = absurd (no_integer a b v lt h)
 
 -- a term has one value at most
 pub one_value : (w : Meaning) (t : Expression) (e : List ℤ) (u v : ℤ) → HasValue w t e (λ x. x ≡ u) → HasValue w t e (λ x. x ≡ v) → u ≡ v

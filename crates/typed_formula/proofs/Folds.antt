@@ -1,6 +1,7 @@
 -- The tree of each form of a formula and a term: one equation a form, since a fold does not compute by itself.
 use Rattle.std.proofs.Common.{◌≡◌, ℕ, ℤ, Bool, List, ap, ◌∙◌, sym}
 use Rattle.typed_formula.specs.declared.typed.Relation.{Relation}
+use Rattle.typed_formula.specs.declared.typed.Sort.{Sort}
 use Rattle.typed_formula.specs.declared.typed.Typed.{Typed}
 use Rattle.typed_formula.specs.declared.typed.Typed.TheVariants as f
 use Rattle.typed_formula.specs.declared.typed.Typed.TheVariants.{rolls-Truth, rolls-Rel, rolls-Pred, rolls-Not, rolls-And, rolls-Or, rolls-Implies, rolls-Iff, rolls-Forall, rolls-Exists, rolls-Part}
@@ -35,11 +36,11 @@ formula-Implies g h = ap formula (sym (rolls-Implies g h)) ∙ fold-roll-Typed F
 pub formula-Iff : (g h : Typed) → formula (f.Iff g h) ≡ iff (formula g) (formula h)
 formula-Iff g h = ap formula (sym (rolls-Iff g h)) ∙ fold-roll-Typed Formula Expression formula_step expression_step (o.Iff g h)
 
-pub formula-Forall : (g : Typed) → formula (f.Forall g) ≡ for_all (formula g)
-formula-Forall g = ap formula (sym (rolls-Forall g)) ∙ fold-roll-Typed Formula Expression formula_step expression_step (o.Forall g)
+pub formula-Forall : (s : Sort) (g : Typed) → formula (f.Forall s g) ≡ for_all s (formula g)
+formula-Forall s g = ap formula (sym (rolls-Forall s g)) ∙ fold-roll-Typed Formula Expression formula_step expression_step (o.Forall s g)
 
-pub formula-Exists : (g : Typed) → formula (f.Exists g) ≡ for_some (formula g)
-formula-Exists g = ap formula (sym (rolls-Exists g)) ∙ fold-roll-Typed Formula Expression formula_step expression_step (o.Exists g)
+pub formula-Exists : (s : Sort) (g : Typed) → formula (f.Exists s g) ≡ for_some s (formula g)
+formula-Exists s g = ap formula (sym (rolls-Exists s g)) ∙ fold-roll-Typed Formula Expression formula_step expression_step (o.Exists s g)
 
 pub formula-Part : (k : ℕ) (g : Typed) → formula (f.Part k g) ≡ part k (formula g)
 formula-Part k g = ap formula (sym (rolls-Part k g)) ∙ fold-roll-Typed Formula Expression formula_step expression_step (o.Part k g)

@@ -56,8 +56,8 @@ mutual
   truth_stable w (some fs) e h = λ a. h (λ n. n a)
   truth_stable w (implies f g) e h = λ a. truth_stable w g e (λ n. h (λ k. n (k a)))
   truth_stable w (iff f g) e h = (λ a. truth_stable w g e (λ n. h (λ k. n (k.0 a))), λ a. truth_stable w f e (λ n. h (λ k. n (k.1 a))))
-  truth_stable w (for_all f) e h = λ v. truth_stable w f (e ++ v ∷ []) (λ n. h (λ k. n (k v)))
-  truth_stable w (for_some f) e h = λ a. h (λ n. n a)
+  truth_stable w (for_all s f) e h = λ v t. truth_stable w f (e ++ v ∷ []) (λ n. h (λ k. n (k v t)))
+  truth_stable w (for_some s f) e h = λ a. h (λ n. n a)
   truth_stable w (part k f) e h = truth_stable w f e h
 
   -- formulas that are not untrue together are true together

@@ -2,6 +2,7 @@
 -- defined and proved of truth speaks of these trees.
 use Rattle.std.specs.Prelude.{ℕ, ℤ, Bool, List, [], ◌∷◌, map}
 use Rattle.typed_formula.specs.declared.typed.Relation.{Relation}
+use Rattle.typed_formula.specs.declared.typed.Sort.{Sort}
 use Rattle.typed_formula.specs.declared.typed.Typed.{Typed}
 use Rattle.typed_formula.specs.declared.typed.TypedTerm.{TypedTerm}
 use Rattle.typed_formula.specs.declared.typed.Typed.TheOpen as o
@@ -19,8 +20,8 @@ mutual
     some : Formulas → Formula
     implies : Formula → Formula → Formula
     iff : Formula → Formula → Formula
-    for_all : Formula → Formula
-    for_some : Formula → Formula
+    for_all : Sort → Formula → Formula
+    for_some : Sort → Formula → Formula
     part : ℕ → Formula → Formula
 
   -- a list of formulas
@@ -65,8 +66,8 @@ formula_step (o.And fs) = every (formulas fs)
 formula_step (o.Or fs) = some (formulas fs)
 formula_step (o.Implies f g) = implies f g
 formula_step (o.Iff f g) = iff f g
-formula_step (o.Forall f) = for_all f
-formula_step (o.Exists f) = for_some f
+formula_step (o.Forall s f) = for_all s f
+formula_step (o.Exists s f) = for_some s f
 formula_step (o.Part k f) = part k f
 
 abbrev pub expression_step : TypedTerm-F Formula Expression → Expression

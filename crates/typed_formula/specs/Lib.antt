@@ -1,4 +1,5 @@
 pub mod Formula
 pub mod Lists
+pub mod Sorts
 pub mod Table
 pub mod Truth

@@ -2,7 +2,7 @@
 -- of first-order logic (SMT-LIB 2.6, section 5.3) over the integers.
 --
 -- Truth is written in a stable form, since the proofs have no excluded middle: a disjunction is true where not all its
--- members are false, and an existential formula where not every integer makes its body false. In ordinary mathematics
+-- members are false, and an existential formula where not every value of its type makes its body false. In ordinary mathematics
 -- this is the usual truth; it is what makes a formula true exactly where its negation is not. The value of a term with
 -- a condition depends on a truth that nobody can decide, so what is defined is that the value has a property; a term
 -- has the value v where its value has the property of being v.
@@ -13,6 +13,7 @@ use Rattle.typed_formula.specs.declared.typed.Relation.TheVariants.{Eq, Neq, Lt,
 use Rattle.typed_formula.specs.Formula.{Formula, Formulas, Expression, Expressions, constant, compares, applies, negation, every, some, implies, iff, for_all, for_some, part, no_formula, and_formula, number, name, call, minus, total, product, choice, absolute, lesser, greater, no_expression, and_expression}
 use Rattle.integers.specs.Entry.{entry}
 use Rattle.typed_formula.specs.Lists.{sum_of}
+use Rattle.typed_formula.specs.Sorts.{IsValueOf}
 
 -- an interpretation: what the predicates and functions, by number, are at lists of integers
 pub record Meaning : Type 0 where
@@ -48,8 +49,8 @@ abbrev mutual
   Truth w (some fs) e = ¬ (AreAllFalse w fs e)
   Truth w (implies f g) e = Truth w f e → Truth w g e
   Truth w (iff f g) e = (Truth w f e → Truth w g e) × (Truth w g e → Truth w f e)
-  Truth w (for_all f) e = (v : ℤ) → Truth w f (e ++ v ∷ [])
-  Truth w (for_some f) e = ¬ ((v : ℤ) → ¬ (Truth w f (e ++ v ∷ [])))
+  Truth w (for_all s f) e = (v : ℤ) → IsValueOf s v → Truth w f (e ++ v ∷ [])
+  Truth w (for_some s f) e = ¬ ((v : ℤ) → IsValueOf s v → ¬ (Truth w f (e ++ v ∷ [])))
   Truth w (part k f) e = Truth w f e
 
   -- every formula of the list is true

@@ -28,8 +28,8 @@ impl Typed {
                 copy_formula(alloc, f.get())?,
                 copy_formula(alloc, g.get())?,
             )),
-            Typed::Forall(f) => Ok(Typed::Forall(copy_formula(alloc, f.get())?)),
-            Typed::Exists(f) => Ok(Typed::Exists(copy_formula(alloc, f.get())?)),
+            Typed::Forall(sort, f) => Ok(Typed::Forall(*sort, copy_formula(alloc, f.get())?)),
+            Typed::Exists(sort, f) => Ok(Typed::Exists(*sort, copy_formula(alloc, f.get())?)),
             Typed::Part(k, f) => Ok(Typed::Part(*k, copy_formula(alloc, f.get())?)),
         }
     }

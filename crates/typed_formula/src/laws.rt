@@ -1,11 +1,14 @@
 // The laws of truth that a reader would check, each the contract of a function with nothing to do. They hold in every
 // interpretation, for every formula and term, at every list of integers.
 
-ghost use Rattle.std.specs.Prelude.{◌≡◌, ◌↔◌, ℕ, ℤ, pos, true, false, List, [], ◌∷◌, ◌++◌, map, All};
+ghost use Rattle.std.specs.Prelude.{◌≡◌, ◌↔◌, ℕ, ℤ, ◌≤ℤ◌, ◌<ℤ◌, pos, true, false, List, [], ◌∷◌, ◌++◌, map, All};
 ghost use Rattle.typed_formula.specs.Formula.{Formula, Expression, formulas, negation, every, some, implies, iff, for_all, for_some, part};
 ghost use Rattle.typed_formula.specs.Truth.{Meaning, Truth, HasValue, IsRelated, opposite_relation};
 ghost use Rattle.typed_formula.specs.Table.{SaysTruth, SaysValue, is_true_at_row, value_at_row};
 ghost use Rattle.typed_formula.specs.declared.typed.Relation.{Relation};
+ghost use Rattle.typed_formula.specs.declared.typed.Sort.{Sort};
+ghost use Rattle.typed_formula.specs.declared.typed.Sort.TheVariants.{Int, Nat, Range};
+ghost use Rattle.typed_formula.specs.Sorts.{IsValueOf};
 ghost use Rattle.typed_formula.specs.declared.world.TruthRow.{TruthRow};
 ghost use Rattle.typed_formula.specs.declared.world.ValueRow.{ValueRow};
 
@@ -41,12 +44,20 @@ pub fn implication_law()
         → Truth w (iff f g) e ↔ Truth w (every (formulas (implies f g ∷ implies g f ∷ []))) e }
 {}
 
-/// An existential formula is true where its body is true at some integer, and the quantifiers change places under a
-/// negation.
+/// An existential formula is true where its body is true at some value of the type, and the quantifiers change places
+/// under a negation.
 pub fn quantifier_law()
-    ensures witness { (w : Meaning) (f : Formula) (e : List ℤ) (v : ℤ) → Truth w f (e ++ v ∷ []) → Truth w (for_some f) e }
-    ensures not_for_some { (w : Meaning) (f : Formula) (e : List ℤ) → Truth w (negation (for_some f)) e ↔ Truth w (for_all (negation f)) e }
-    ensures not_for_all { (w : Meaning) (f : Formula) (e : List ℤ) → Truth w (negation (for_all f)) e ↔ Truth w (for_some (negation f)) e }
+    ensures witness { (w : Meaning) (s : Sort) (f : Formula) (e : List ℤ) (v : ℤ) → IsValueOf s v → Truth w f (e ++ v ∷ []) → Truth w (for_some s f) e }
+    ensures not_for_some { (w : Meaning) (s : Sort) (f : Formula) (e : List ℤ) → Truth w (negation (for_some s f)) e ↔ Truth w (for_all s (negation f)) e }
+    ensures not_for_all { (w : Meaning) (s : Sort) (f : Formula) (e : List ℤ) → Truth w (negation (for_all s f)) e ↔ Truth w (for_some s (negation f)) e }
+{}
+
+/// A quantifier ranges over the values of its type: over all integers, over those from 0 on, or over those between two
+/// bounds. A range whose first bound is above the second has no value, so what is said of all its values is true.
+pub fn sort_law()
+    ensures integers { (w : Meaning) (f : Formula) (e : List ℤ) → Truth w (for_all Int f) e ↔ ((v : ℤ) → Truth w f (e ++ v ∷ [])) }
+    ensures naturals { (w : Meaning) (f : Formula) (e : List ℤ) → Truth w (for_all Nat f) e ↔ ((v : ℤ) → pos 0 ≤ℤ v → Truth w f (e ++ v ∷ [])) }
+    ensures empty { (w : Meaning) (f : Formula) (e : List ℤ) (a b : ℤ) → b <ℤ a → Truth w (for_all (Range a b) f) e }
 {}
 
 /// The value of a term is one integer: it has not two values, and it cannot fail to have one.

@@ -9,15 +9,15 @@ mod typed;
 mod world;
 
 pub use laws::{
-    conjunction_law, disjunction_law, implication_law, quantifier_law, relation_law, stability_law,
-    table_law, value_law,
+    conjunction_law, disjunction_law, implication_law, quantifier_law, relation_law, sort_law,
+    stability_law, table_law, value_law,
 };
-pub use typed::{Relation, Typed, TypedTerm};
+pub use typed::{Relation, Sort, Typed, TypedTerm};
 pub use world::{Table, TruthRow, ValueRow, World};
 
 #[cfg(test)]
 mod tests {
-    use crate::{Relation, Table, Typed, TypedTerm};
+    use crate::{Relation, Sort, Table, Typed, TypedTerm};
     use linear_term::Memory;
     use sqlite_items::{Boxed, Items};
     use std::alloc::Global;
@@ -65,8 +65,9 @@ mod tests {
         members.push(Typed::Or(pair(alloc, Typed::Truth(true), Typed::Truth(false))?))?;
         members.push(Typed::Implies(truth(alloc)?, truth(alloc)?))?;
         members.push(Typed::Iff(truth(alloc)?, truth(alloc)?))?;
-        members.push(Typed::Forall(truth(alloc)?))?;
-        members.push(Typed::Exists(truth(alloc)?))?;
+        members.push(Typed::Forall(Sort::Int, truth(alloc)?))?;
+        members.push(Typed::Exists(Sort::Nat, truth(alloc)?))?;
+        members.push(Typed::Forall(Sort::Range(-1, i128::MAX), truth(alloc)?))?;
         members.push(Typed::Part(1, truth(alloc)?))?;
         Ok(Typed::And(members))
     }

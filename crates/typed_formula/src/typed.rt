@@ -14,6 +14,18 @@ pub enum Relation {
     Geq,
 }
 
+/// The type of a constant or of a bound variable: which integers are its values. A `Range` of which the first bound is
+/// above the second has no value.
+#[derive(Clone, Copy, Debug, PartialEq, Eq)]
+pub enum Sort {
+    /// All integers.
+    Int,
+    /// From 0 on.
+    Nat,
+    /// From the first to the second, both included.
+    Range(i128, i128),
+}
+
 /// A formula over the integers. `And` of nothing is true and `Or` of nothing is false. Under a quantifier the bound
 /// variable is the name after those of the formula around it.
 #[cycle(typed)]
@@ -28,8 +40,8 @@ pub enum Typed {
     Or(Items<Typed>),
     Implies(Boxed<Typed>, Boxed<Typed>),
     Iff(Boxed<Typed>, Boxed<Typed>),
-    Forall(Boxed<Typed>),
-    Exists(Boxed<Typed>),
+    Forall(Sort, Boxed<Typed>),
+    Exists(Sort, Boxed<Typed>),
     /// A formula that is the part of this number; it means what the formula means.
     Part(u32, Boxed<Typed>),
 }

@@ -1,5 +1,6 @@
 use Rattle.encoding.proofs.Overs.{encoded_over}
-use Rattle.encoding.proofs.Problems.{root_over, parts_over}
+use Rattle.encoding.proofs.Parts.{parts_over}
+use Rattle.encoding.proofs.Problems.{root_over}
 use Rattle.encoding.proofs.laws.names_law.Goals as goal
 
 pub returns-clause-body : goal.returns-clause-body

@@ -1,4 +1,4 @@
-use Rattle.std.proofs.Common.{◌≡◌, suc, ◌+◌, not, [], ◌∷◌, ◌++◌, drop, reverse, refl, sym, ap, ◌∙◌, subst, arith}
+use Rattle.std.proofs.Common.{length, ◌≡◌, suc, ◌+◌, not, [], ◌∷◌, ◌++◌, drop, reverse, refl, sym, ap, ◌∙◌, subst, arith}
 use Rattle.std.specs.Bool.{beq}
 use Rattle.linear_term.specs.Linear as linear
 use Rattle.typed_formula.specs.Formula.{formula, formulas_of, expression, expressions_of, applies, negation, every, some, implies, iff, for_all, for_some, part}
@@ -16,7 +16,9 @@ use Rattle.function_encoding.specs.Room.{HasRoom, extent_left}
 use Rattle.function_encoding.specs.Stops as stops
 use Rattle.function_encoding.specs.Stops.{Halts, IsTestRanged, test_extent, test_weight}
 use Rattle.function_encoding.specs.Weight.{weight, weights, weight_left}
-use Rattle.function_encoding.proofs.Encodings.{formula_as, room_above, room_two, room_both, room_under, rest_all, rest_next, rest_pushed, rest_end, item_ranged, item_room, item_weight, relation_ready, predicate_ready, relation_made, predicate_made, bound_as, run_as, halt_made, made_same}
+use Rattle.function_encoding.proofs.Bounding.{bound_err, bound_ok}
+use Rattle.encoding.specs.Encoding.{bounds}
+use Rattle.function_encoding.proofs.Encodings.{formula_as, room_above, room_bound, room_two, room_both, room_under, rest_all, rest_next, rest_pushed, rest_end, item_ranged, item_room, item_weight, relation_ready, predicate_ready, relation_made, predicate_made, bound_as, run_as, halt_made, made_same}
 use Rattle.function_encoding.proofs.encoder.+encode.Goals as goal
 
 pub encoded-run-requires : goal.encoded-run-requires
@@ -147,27 +149,27 @@ encoded-returns-in-Iff t c = formula_as _ _ _ _ _ _ (ap formula c.in-Iff.is ∙ 
 
 pub encoded-bound-requires : goal.encoded-bound-requires
 encoded-bound-requires t c =
-    let same = (ap formula c.in-Forall.is ∙ formula-Forall _ ∙ ap (λ z. for_all (formula z)) (sym c.get-in-Forall.ensures)) in
+    let same = (ap formula c.in-Forall.is ∙ formula-Forall _ _ ∙ ap (λ z. for_all c.in-Forall.sort (formula z)) (sym c.get-in-Forall.ensures)) in
     let measure : weight (formula c.args.f.now) ≡ t = c.decreases in
     let is = ap weight same in
     let ranged = subst IsRanged same c.requires.ranged in
     let room = subst (λ z. HasRoom c.args.n (extent z)) same c.requires.room in
-    (omega (arith, is, measure), (ranged, room))
+    (omega (arith, is, measure), (ranged.0, (ranged.1, room)))
 
 pub encoded-returns-in-Forall : goal.encoded-returns-in-Forall
-encoded-returns-in-Forall t c = formula_as _ _ _ _ _ _ (ap formula c.in-Forall.is ∙ formula-Forall _ ∙ ap (λ z. for_all (formula z)) (sym c.get-in-Forall.ensures)) c.bound.ensures
+encoded-returns-in-Forall t c = formula_as _ _ _ _ _ _ (ap formula c.in-Forall.is ∙ formula-Forall _ _ ∙ ap (λ z. for_all c.in-Forall.sort (formula z)) (sym c.get-in-Forall.ensures)) c.bound.ensures
 
 pub encoded-bound-requires-in-Exists : goal.encoded-bound-requires-in-Exists
 encoded-bound-requires-in-Exists t c =
-    let same = (ap formula c.in-Exists.is ∙ formula-Exists _ ∙ ap (λ z. for_some (formula z)) (sym c.get-in-Exists.ensures)) in
+    let same = (ap formula c.in-Exists.is ∙ formula-Exists _ _ ∙ ap (λ z. for_some c.in-Exists.sort (formula z)) (sym c.get-in-Exists.ensures)) in
     let measure : weight (formula c.args.f.now) ≡ t = c.decreases in
     let is = ap weight same in
     let ranged = subst IsRanged same c.requires.ranged in
     let room = subst (λ z. HasRoom c.args.n (extent z)) same c.requires.room in
-    (omega (arith, is, measure), (ranged, room))
+    (omega (arith, is, measure), (ranged.0, (ranged.1, room)))
 
 pub encoded-returns-in-Exists : goal.encoded-returns-in-Exists
-encoded-returns-in-Exists t c = formula_as _ _ _ _ _ _ (ap formula c.in-Exists.is ∙ formula-Exists _ ∙ ap (λ z. for_some (formula z)) (sym c.get-in-Exists.ensures)) c.bound-in-Exists.ensures
+encoded-returns-in-Exists t c = formula_as _ _ _ _ _ _ (ap formula c.in-Exists.is ∙ formula-Exists _ _ ∙ ap (λ z. for_some c.in-Exists.sort (formula z)) (sym c.get-in-Exists.ensures)) c.bound-in-Exists.ensures
 
 pub encoded-returns-in-Truth : goal.encoded-returns-in-Truth
 encoded-returns-in-Truth t c = formula_as _ _ _ _ _ _ (ap formula c.in-Truth.is ∙ formula-Truth c.in-Truth.b) (made_just form _ _ (c.junction.ensures ∙ ap (λ l. junction (beq c.in-Truth.b c.args.plus) (forms_of l)) c.new.ensures))
@@ -264,16 +266,17 @@ bound-returns-in_err-names t c = made_memory form _ c.from_residual.ensures.1
 pub bound-encoded-requires : goal.bound-encoded-requires
 bound-encoded-requires t c =
     let measure : weight (formula c.args.g.now) + 1 ≡ t = c.decreases in
-    (omega (arith, measure), (c.requires.ranged, room_above c.args.n (extent (formula c.args.g.now)) c.requires.room))
+    (omega (arith, measure), (c.requires.ranged, room_bound c.args.n (length (bounds c.args.sort.now)) (extent (formula c.args.g.now)) c.requires.room))
 
 pub bound-returns-in_err-body : goal.bound-returns-in_err-body
-bound-returns-in_err-body t c = made_err form form _ _ _ c.from_residual-in_err-body.ensures.1 (bound_as (c.args.at.now ++ c.args.n ∷ []) c.as_slice.result.now (suc c.args.n) (c.args.n + 1) c.args.plus (formula c.args.g.now) _ (c.as_slice.ensures ∙ c.in_ok-names.ensures) (omega arith) c.in_err-body.ensures)
-
-pub bound-returns-in_err-quantified : goal.bound-returns-in_err-quantified
-bound-returns-in_err-quantified t c = made_memory form _ c.from_residual-in_err-quantified.ensures.1
+bound-returns-in_err-body t c =
+    bound_err c.args.n c.args.for_all c.args.sort.now _ c.from_residual-in_err-body.ensures.1
+    (bound_as (c.args.at.now ++ c.args.n ∷ []) c.as_slice.result.now (suc c.args.n) (c.args.n + 1) c.args.plus (formula c.args.g.now) _ (c.as_slice.ensures ∙ c.in_ok-names.ensures) (omega arith) c.in_err-body.ensures)
 
 pub bound-returns : goal.bound-returns
-bound-returns t c = made_ok form form _ _ (bound_as (c.args.at.now ++ c.args.n ∷ []) c.as_slice.result.now (suc c.args.n) (c.args.n + 1) c.args.plus (formula c.args.g.now) _ (c.as_slice.ensures ∙ c.in_ok-names.ensures) (omega arith) c.in_ok-body.ensures) (made_just form _ _ c.in_ok-quantified.ensures)
+bound-returns t c =
+    bound_ok c.args.n c.args.for_all c.args.sort.now _
+    (bound_as (c.args.at.now ++ c.args.n ∷ []) c.as_slice.result.now (suc c.args.n) (c.args.n + 1) c.args.plus (formula c.args.g.now) _ (c.as_slice.ensures ∙ c.in_ok-names.ensures) (omega arith) c.in_ok-body.ensures) c.bind.ensures
 
 pub run-returns-in_err-stop : goal.run-returns-in_err-stop
 run-returns-in_err-stop t c = made_same _ c.from_residual.ensures.1 (c.in_err-stop.ensures.err c.args.n)

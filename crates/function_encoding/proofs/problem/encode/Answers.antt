@@ -5,7 +5,7 @@ use Rattle.function_encoding.proofs.Roots.{made_value, root_names, root_pure, ro
 use Rattle.function_encoding.proofs.problem.encode.Goals as goal
 
 pub returns-clause-over : goal.returns-clause-over
-returns-clause-over c = root_names c.args.p.now c.in_ok-root.root (made_value c.in_ok-root.ensures)
+returns-clause-over c = root_names c.args.p.now c.in_ok-root.root c.requires (made_value c.in_ok-root.ensures)
 
 pub returns-clause-small : goal.returns-clause-small
 returns-clause-small c = ap is_large (made_value c.in_ok-root.ensures) ∙ sym c.is_large.ensures ∙ c.if-is_large.false

@@ -1,42 +1,65 @@
-use Rattle.std.proofs.Common.{◌≡◌, ◌+◌, ◌≤◌, true, length, ap, ◌∙◌, arith}
-use Rattle.typed_formula.specs.Formula.{formula}
-use Rattle.purse.specs.Trace.{just}
+use Rattle.std.proofs.Common.{◌≡◌, ◌+◌, ◌≤◌, true, false, map, length, All, sym, ap, subst, ◌∙◌, arith}
+use Rattle.typed_formula.specs.Sorts.{IsSortRanged}
+use Rattle.purse.specs.Trace.{just, next}
 use Rattle.formula.specs.Tree.{form}
 use Rattle.formula.proofs.Making.{made_ok, made_err, made_just, made_memory}
-use Rattle.encoding.specs.Problems.{constants}
-use Rattle.encoding.specs.Root.{for_last, names_from}
-use Rattle.function_encoding.proofs.Encodings.{bound_as}
-use Rattle.function_encoding.proofs.Roots.{ranged_of, problem_room}
+use Rattle.encoding.specs.Encoding.{restricted}
+use Rattle.encoding.specs.Problems.{body}
+use Rattle.encoding.specs.Root.{conditions, for_last}
+use Rattle.function_encoding.proofs.Bounding.{alone, last_failed}
+use Rattle.function_encoding.proofs.Roots.{last_as, conditions_as}
 use Rattle.function_encoding.proofs.problem.root.Goals as goal
-
-pub returns-in_err-names : goal.returns-in_err-names
-returns-in_err-names c = made_memory form _ c.from_residual.ensures.1
-
-pub encoded-requires-clause-ranged : goal.encoded-requires-clause-ranged
-encoded-requires-clause-ranged c = ranged_of 0 (formula c.args.p.now.formula) c.requires.formed.numbers
-
-pub encoded-requires-clause-room : goal.encoded-requires-clause-room
-encoded-requires-clause-room c =
-    let few : constants c.args.p.now ≤ 1000 = (let h = c.requires.formed.few in omega arith) in
-    let room = problem_room c.args.p.now few c.requires.small in
-    let m = c.len.ensures in
-    let k = c.len-universals.ensures in
-    omega arith
 
 pub returns-in_err-body : goal.returns-in_err-body
 returns-in_err-body c =
     let p = c.args.p.now in
-    let many : c.len.result + c.len-universals.result ≡ constants p = λ i. c.len.ensures i + c.len-universals.ensures i in
-    made_err form form _ (λ g. just (for_last (length p.universals) g)) _ c.from_residual-in_err-body.ensures.1
-    (bound_as (names_from 0 (constants p)) c.as_slice.result.now (constants p) _ true (formula p.formula) _ (c.as_slice.ensures ∙ c.in_ok-names.ensures ∙ ap (names_from 0) many) many c.in_err-body.ensures)
+    made_err form form (for_last (length p.existential_types) p.universal_types (body p)) (λ g. next (conditions (λ x. true) 0 p.existential_types) (λ hs. just (restricted false hs g))) _
+    c.from_residual.ensures.1 (last_failed (length p.existential_types) p.universal_types (body p) _ c.in_err-body.ensures)
 
-pub returns-in_err-for_last : goal.returns-in_err-for_last
-returns-in_err-for_last c = made_memory form _ c.from_residual-in_err-for_last.ensures.1
+pub for_last-requires-clause-few : goal.for_last-requires-clause-few
+for_last-requires-clause-few c =
+    let few = c.requires.formed.few in
+    let m = c.len-first.ensures in
+    let k = c.requires.formed.universal_types.many in
+    let s = ap length c.as_slice.ensures in
+    omega (arith, few, m, k, s)
+
+pub for_last-requires-clause-ranged : goal.for_last-requires-clause-ranged
+for_last-requires-clause-ranged c = subst (All IsSortRanged) (sym c.as_slice.ensures) c.requires.formed.universal_types.ranged
+
+pub returns-in_err-all : goal.returns-in_err-all
+returns-in_err-all c =
+    let p = c.args.p.now in
+    made_err form form (for_last (length p.existential_types) p.universal_types (body p)) (λ g. next (conditions (λ x. true) 0 p.existential_types) (λ hs. just (restricted false hs g))) _
+    c.from_residual-in_err-all.ensures.1
+    (last_as p c.requires.formed _ c.as_slice.result.now _ c.len-first.ensures c.as_slice.ensures (c.in_err-all.ensures (body p) c.in_ok-body.ensures))
+
+pub conditions-requires-clause-few : goal.conditions-requires-clause-few
+conditions-requires-clause-few c =
+    let few = c.requires.formed.few in
+    let k = c.requires.formed.existential_types.many in
+    let s = ap length c.as_slice-types.ensures in
+    omega (arith, few, k, s)
+
+pub conditions-requires-clause-ranged : goal.conditions-requires-clause-ranged
+conditions-requires-clause-ranged c = subst (All IsSortRanged) (sym c.as_slice-types.ensures) c.requires.formed.existential_types.ranged
+
+pub returns-in_err-conditions : goal.returns-in_err-conditions
+returns-in_err-conditions c =
+    let p = c.args.p.now in
+    made_ok form form (for_last (length p.existential_types) p.universal_types (body p)) (λ g. next (conditions (λ x. true) 0 p.existential_types) (λ hs. just (restricted false hs g)))
+    (last_as p c.requires.formed _ c.as_slice.result.now _ c.len-first.ensures c.as_slice.ensures (c.in_ok-all.ensures (body p) c.in_ok-body.ensures))
+    (made_err (λ hs. map form hs) form (conditions (λ x. true) 0 p.existential_types) (λ hs. just (restricted false hs (form c.in_ok-all.all))) _ c.from_residual-in_err-conditions.ensures.1
+    (conditions_as p c.as_slice-types.result.now c.new.result _ c.as_slice-types.ensures c.new.ensures c.in_err-conditions.ensures))
+
+pub returns-in_err-restricted : goal.returns-in_err-restricted
+returns-in_err-restricted c = made_memory form _ c.from_residual-in_err-restricted.ensures.1
 
 pub returns : goal.returns
 returns c =
     let p = c.args.p.now in
-    let many : c.len.result + c.len-universals.result ≡ constants p = λ i. c.len.ensures i + c.len-universals.ensures i in
-    made_ok form form _ (λ g. just (for_last (length p.universals) g))
-    (bound_as (names_from 0 (constants p)) c.as_slice.result.now (constants p) _ true (formula p.formula) _ (c.as_slice.ensures ∙ c.in_ok-names.ensures ∙ ap (names_from 0) many) many c.in_ok-body.ensures)
-    (made_just form _ _ (c.in_ok-for_last.ensures ∙ ap (λ k. for_last k (form c.in_ok-body.body)) c.len-universals.ensures))
+    made_ok form form (for_last (length p.existential_types) p.universal_types (body p)) (λ g. next (conditions (λ x. true) 0 p.existential_types) (λ hs. just (restricted false hs g)))
+    (last_as p c.requires.formed _ c.as_slice.result.now _ c.len-first.ensures c.as_slice.ensures (c.in_ok-all.ensures (body p) c.in_ok-body.ensures))
+    (made_ok (λ hs. map form hs) form (conditions (λ x. true) 0 p.existential_types) (λ hs. just (restricted false hs (form c.in_ok-all.all)))
+    (conditions_as p c.as_slice-types.result.now c.new.result _ c.as_slice-types.ensures c.new.ensures c.in_ok-conditions.ensures)
+    (made_just form _ _ c.in_ok-restricted.ensures))

@@ -1,5 +1,5 @@
 use Rattle.std.proofs.Common.{◌≡◌, ◌<◌, ◌^◌, arith}
-use Rattle.interpolant.specs.Names.{is_marked}
+use Rattle.function_encoding.specs.Marks.{is_marked}
 use Rattle.interpolant.proofs.Steps.{elim_budget, elim_err, left_all, left_next, left_none, left_one}
 use Rattle.interpolant.proofs.projection.others_out.Goals as goal
 

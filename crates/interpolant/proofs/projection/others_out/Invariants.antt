@@ -1,5 +1,5 @@
 use Rattle.std.proofs.Common.{◌≤◌, ◌<◌, ◌^◌, length}
-use Rattle.interpolant.specs.Names.{is_marked}
+use Rattle.function_encoding.specs.Marks.{is_marked}
 use Rattle.interpolant.specs.Run.{others_out}
 use Rattle.interpolant.proofs.Steps.{Left}
 use Rattle.interpolant.proofs.projection.others_out.Given as goal

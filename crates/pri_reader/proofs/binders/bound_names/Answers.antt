@@ -5,7 +5,7 @@ use Rattle.pri_reader.proofs.BoundNames.{binding_more, binding_ends, binding_no_
 use Rattle.pri_reader.proofs.binders.bound_names.Goals as goal
 
 pub returns-in_err-identifier-clause-refused : goal.returns-in_err-identifier-clause-refused
-returns-in_err-identifier-clause-refused c = fails _ _ c.from_residual.ensures.1 (binding_no_name c.names.invariant.leads c.in_err-identifier.ensures.failed)
+returns-in_err-identifier-clause-refused c = fails _ _ c.from_residual-in_err-identifier.ensures.1 (binding_no_name c.names.invariant.leads c.in_err-identifier.ensures.failed)
 
 pub returns-in_err-levels-clause-refused : goal.returns-in_err-levels-clause-refused
 returns-in_err-levels-clause-refused c = fails _ _ c.from_residual-in_err-levels.ensures.1 (binding_deep c.names.invariant.leads c.in_ok-identifier.ensures.found c.in_err-levels.ensures.failed)

@@ -11,4 +11,4 @@ pub returns-in_default-after-clause-read : goal.returns-in_default-after-clause-
 returns-in_default-after-clause-read c = grouped_end c.if-not-several.false c.in_ok-rest-2.ensures.found
 
 pub returns-clause-read : goal.returns-clause-read
-returns-clause-read c = more_line c.if-not-several.false c.in-Some-after.ensures c.in_ok-rest-3.ensures.found
+returns-clause-read c = more_line c.if-not-several.false c.in-Some-after.ensures c.in_ok-new.ensures.read

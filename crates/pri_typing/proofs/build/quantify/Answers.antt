@@ -1,6 +1,6 @@
 use Rattle.std.proofs.Common.{rules}
-use Rattle.pri_typing.proofs.Building.{quantifiers-more}
+use Rattle.pri_typing.proofs.Building.{quantifiers-last}
 use Rattle.pri_typing.proofs.build.quantify.Goals as goal
 
-pub loop-name-preserved : goal.loop-name-preserved
-loop-name-preserved c = search (rules, quantifiers-more)
+pub loop-last-preserved : goal.loop-last-preserved
+loop-last-preserved c = search (rules, quantifiers-last)

@@ -1,0 +1,12 @@
+use Rattle.purse.specs.Trace.{just}
+use Rattle.formula.specs.Form.{at_least}
+use Rattle.formula.specs.Tree.{form}
+use Rattle.formula.proofs.Building.{form-Geq}
+use Rattle.formula.proofs.Making.{made_ok, made_err, made_just}
+use Rattle.function_encoding.proofs.bounds.at_least.Goals as goal
+
+pub returns-in_err-above : goal.returns-in_err-above
+returns-in_err-above c = made_err (λ u. u) form _ _ _ c.from_residual.ensures.1 c.in_err-above.ensures
+
+pub returns : goal.returns
+returns c = made_ok (λ u. u) form _ (λ u. just (at_least u)) c.in_ok-above.ensures (made_just form _ _ (form-Geq _))

@@ -1,0 +1,11 @@
+use Rattle.std.proofs.Common.{pos, negsuc}
+use Rattle.formula.specs.Tree.{form}
+use Rattle.formula.proofs.Making.{made_ok, made_err}
+use Rattle.encoding.specs.Encoding.{inequality}
+use Rattle.function_encoding.proofs.bounds.less.Goals as goal
+
+pub returns-in_err-other : goal.returns-in_err-other
+returns-in_err-other c = made_err (λ u. u) form _ (λ u. inequality (negsuc 0) c.args.x (pos 1) u) _ c.from_residual.ensures.1 c.in_err-other.ensures
+
+pub returns : goal.returns
+returns c = made_ok (λ u. u) form _ (λ u. inequality (negsuc 0) c.args.x (pos 1) u) c.in_ok-other.ensures c.at_most.ensures

@@ -1,0 +1,131 @@
+-- Two lists of integers put together, at which what speaks of the one's names or of what both have alike keeps its truth.
+use Rattle.std.proofs.Common.{◌≡◌, ◌≢◌, ◌<◌, ◌≤◌, ℕ, zero, suc, ℤ, Bool, true, false, cond, nat_eq, nat_lt, List, [], ◌∷◌, length, refl, sym, ◌∙◌, ap, subst, arith}
+use Rattle.std.proofs.lemmas.Bool.Decides.{nat_tests}
+use Rattle.integers.specs.Entry.{entry, put}
+use Rattle.integers.proofs.Entries.{entry-put_other, entry-put_same, length-put, put-entry}
+use Rattle.typed_formula.specs.declared.typed.Sort.{Sort}
+use Rattle.typed_formula.specs.declared.typed.Sort.TheVariants.{Int}
+use Rattle.typed_formula.specs.Formula.{Formula}
+use Rattle.typed_formula.specs.Sorts.{IsValueOf, AreValuesOf}
+use Rattle.typed_formula.specs.Truth.{Meaning, Truth}
+use Rattle.pri_typing.specs.declared.problem.Problem.{Problem}
+use Rattle.encoding.specs.Meaning.{AreTypedIn, type_at}
+use Rattle.encoding.specs.Occurrences.{occurs}
+use Rattle.encoding.specs.Problems.{constants, types}
+use Rattle.encoding.proofs.Conditions.{pointwise}
+use Rattle.interpolant.specs.Sides.{Lacks}
+use Rattle.interpolant.proofs.Alike.{put_alike}
+use Rattle.interpolant.proofs.Occurrences.{absent_is}
+
+-- a list of n integers at which b is true, and which is e at the names that stay
+pub record Like (w : Meaning) (b : Formula) (stays : ℕ → Bool) (n : ℕ) (e d : List ℤ) : Type 0 where
+  pub many : length d ≡ n
+  pub second : Truth w b d
+  pub same : (x : ℕ) → stays x ≡ true → entry d x ≡ entry e x
+
+other_name : (kept : ℕ → Bool) (x y : ℕ) → kept x ≡ false → kept y ≡ true → x ≢ y
+other_name kept x y gone stands is = let both : kept x ≡ kept y = ap kept is in cc
+
+pub like_put : (w : Meaning) (b : Formula) (stays : ℕ → Bool) (n : ℕ) (e d : List ℤ) (x : ℕ) (v : ℤ) → x < n → stays x ≡ false → Lacks x b → Like w b stays n e d → Like w b stays n e (put d x v)
+like_put w b stays n e d x v lt is lacks h =
+    let m = h.many in
+    record {
+      many = length-put d x v (omega (arith, lt, m)) ∙ m;
+      second = put_alike x w b d v (omega (arith, lt, m)) lacks h.second;
+      same = λ y stands. entry-put_other d x y v (other_name stays x y is stands) ∙ h.same y stands;
+    }
+
+-- d at the names below n that are kept, e at the others
+abbrev pub mixed : (ℕ → Bool) → ℕ → List ℤ → List ℤ → List ℤ
+mixed kept zero d e = d
+mixed kept (suc x) d e = cond (kept x) (mixed kept x d e) (put (mixed kept x d e) x (entry e x))
+
+-- the x-th step, as x is kept or not
+step_of : (kept : ℕ → Bool) (x : ℕ) (d e : List ℤ) (P : List ℤ → Type 0) → (kept x ≡ true → P (mixed kept x d e)) → (kept x ≡ false → P (put (mixed kept x d e) x (entry e x))) → P (mixed kept (suc x) d e)
+step_of kept x d e P stands gone = by (kept x) refl
+  where
+    by : (b : Bool) → kept x ≡ b → P (cond b (mixed kept x d e) (put (mixed kept x d e) x (entry e x)))
+    by true is = stands is
+    by false is = gone is
+
+pub length-mixed : (kept : ℕ → Bool) (m : ℕ) (d e : List ℤ) → m ≤ length d → length (mixed kept m d e) ≡ length d
+length-mixed kept zero d e le = refl
+length-mixed kept (suc x) d e le =
+    let rest = length-mixed kept x d e (omega (arith, le)) in
+    step_of kept x d e (λ l. length l ≡ length d) (λ is. rest) (λ is. length-put (mixed kept x d e) x (entry e x) (omega (arith, le, rest)) ∙ rest)
+
+-- names from m on are those of d
+mixed_above : (kept : ℕ → Bool) (m : ℕ) (d e : List ℤ) (y : ℕ) → m ≤ y → entry (mixed kept m d e) y ≡ entry d y
+mixed_above kept zero d e y le = refl
+mixed_above kept (suc x) d e y le =
+    let rest = mixed_above kept x d e y (omega (arith, le)) in
+    step_of kept x d e (λ l. entry l y ≡ entry d y) (λ is. rest) (λ is. entry-put_other (mixed kept x d e) x y (entry e x) (λ s. omega (arith, le, s)) ∙ rest)
+
+mixed_kept : (kept : ℕ → Bool) (m : ℕ) (d e : List ℤ) (y : ℕ) → kept y ≡ true → entry (mixed kept m d e) y ≡ entry d y
+mixed_kept kept zero d e y stands = refl
+mixed_kept kept (suc x) d e y stands =
+    let rest = mixed_kept kept x d e y stands in
+    step_of kept x d e (λ l. entry l y ≡ entry d y) (λ is. rest) (λ is. entry-put_other (mixed kept x d e) x y (entry e x) (other_name kept x y is stands) ∙ rest)
+
+mixed_other : (kept : ℕ → Bool) (m : ℕ) (d e : List ℤ) (y : ℕ) → kept y ≡ false → y < m → entry (mixed kept m d e) y ≡ entry e y
+mixed_other kept zero d e y gone lt = absurd (omega (arith, lt))
+mixed_other kept (suc x) d e y gone lt = by (nat_eq x y) refl (λ (below : y < x). mixed_other kept x d e y gone below)
+  where
+    by : (b : Bool) → nat_eq x y ≡ b → (y < x → entry (mixed kept x d e) y ≡ entry e y) → entry (mixed kept (suc x) d e) y ≡ entry e y
+    by true eq deep =
+        let own : x ≡ y = grind (arith, nat_tests) in
+        step_of kept x d e (λ l. entry l y ≡ entry e y) (λ is. absurd (other_name kept y x gone is (sym own)))
+        (λ is. subst (λ z. entry (put (mixed kept x d e) z (entry e z)) y ≡ entry e y) (sym own) (entry-put_same (mixed kept x d e) y (entry e y)))
+    by false eq deep =
+        let apart : x ≢ y = λ s. grind (arith, nat_tests) in
+        let rest = deep (grind (arith, nat_tests, lt, apart)) in
+        step_of kept x d e (λ l. entry l y ≡ entry e y) (λ is. rest) (λ is. entry-put_other (mixed kept x d e) x y (entry e x) apart ∙ rest)
+
+-- what speaks of names that are kept alone
+pub mixed_first : (w : Meaning) (a : Formula) (m : ℕ) (d e : List ℤ) → m ≤ length d → Truth w a d → Truth w a (mixed (λ x. occurs x a) m d e)
+mixed_first w a zero d e le t = t
+mixed_first w a (suc x) d e le t =
+    let kept : ℕ → Bool = λ y. occurs y a in
+    let rest = mixed_first w a x d e (omega (arith, le)) t in
+    let long = length-mixed kept x d e (omega (arith, le)) in
+    step_of kept x d e (Truth w a) (λ is. rest) (λ is. put_alike x w a (mixed kept x d e) (entry e x) (omega (arith, le, long)) ((absent_is x a).0 is) rest)
+
+-- and what speaks of names that both lists have alike
+pub mixed_second : (w : Meaning) (a b : Formula) (m : ℕ) (d e : List ℤ) → m ≤ length d → ((x : ℕ) → occurs x b ≡ true → entry d x ≡ entry e x) → Truth w b d
+    → Truth w b (mixed (λ x. occurs x a) m d e)
+mixed_second w a b zero d e le same t = t
+mixed_second w a b (suc x) d e le same t =
+    let kept : ℕ → Bool = λ y. occurs y a in
+    let l : List ℤ = mixed kept x d e in
+    let rest = mixed_second w a b x d e (omega (arith, le)) same t in
+    let long = length-mixed kept x d e (omega (arith, le)) in
+    let lt : x < length l = omega (arith, le, long) in
+    step_of kept x d e (Truth w b) (λ is. rest) (λ is. by l lt rest (mixed_above kept x d e x (omega arith)) (occurs x b) refl)
+  where
+    by : (l : List ℤ) → x < length l → Truth w b l → entry l x ≡ entry d x → (c : Bool) → occurs x b ≡ c → Truth w b (put l x (entry e x))
+    by l lt rest own true is = subst (λ v. Truth w b (put l x v)) (own ∙ same x is) (subst (Truth w b) (sym (put-entry l x lt)) rest)
+    by l lt rest own false is = put_alike x w b l (entry e x) lt ((absent_is x b).0 is) rest
+
+type_past : (ss : List Sort) (x : ℕ) → length ss ≤ x → type_at ss x ≡ Int
+type_past [] x le = refl
+type_past (s ∷ ss) zero le = absurd (omega (arith, le))
+type_past (s ∷ ss) (suc x) le = type_past ss x (omega (arith, le))
+
+typed_at : (kept : ℕ → Bool) (ss : List Sort) (n : ℕ) (d e : List ℤ) (x : ℕ) → length ss ≡ n → length e ≡ n → AreValuesOf ss e → ((y : ℕ) → kept y ≡ true → IsValueOf (type_at ss y) (entry d y))
+    → IsValueOf (type_at ss x) (entry (mixed kept n d e) x)
+typed_at kept ss n d e x few long typed own = by (kept x) refl
+  where
+    past : (b : Bool) → nat_lt x n ≡ b → kept x ≡ false → IsValueOf (type_at ss x) (entry (mixed kept n d e) x)
+    past true lt gone = subst (IsValueOf (type_at ss x)) (sym (mixed_other kept n d e x gone (grind (arith, nat_tests, lt)))) ((pointwise ss e (long ∙ sym few)).0 typed x)
+    past false lt gone = subst (λ s. IsValueOf s (entry (mixed kept n d e) x)) (sym (type_past ss x (grind (arith, nat_tests, lt, few)))) tt
+
+    by : (b : Bool) → kept x ≡ b → IsValueOf (type_at ss x) (entry (mixed kept n d e) x)
+    by true stands = subst (IsValueOf (type_at ss x)) (sym (mixed_kept kept n d e x stands)) (own x stands)
+    by false gone = past (nat_lt x n) refl gone
+
+-- where d has values of the types of the names that are kept, and e of all, so has the mixed list of all
+pub mixed_typed : (p : Problem) (a : Formula) (d e : List ℤ) → length d ≡ constants p → length (types p) ≡ constants p → length e ≡ constants p → AreValuesOf (types p) e
+    → AreTypedIn (types p) a d → AreValuesOf (types p) (mixed (λ x. occurs x a) (constants p) d e)
+mixed_typed p a d e many few long typed own =
+    (pointwise (types p) (mixed (λ x. occurs x a) (constants p) d e) (length-mixed (λ x. occurs x a) (constants p) d e (omega (arith, many)) ∙ many ∙ sym few)).1
+    (λ x. typed_at (λ y. occurs y a) (types p) (constants p) d e x few long typed own)

@@ -1,0 +1,19 @@
+use Rattle.std.proofs.Common.{arith}
+use Rattle.pri_reader.proofs.Exits.{fails, takes_shorter}
+use Rattle.pri_reader.proofs.ConstantLines.{typed_begin, typed_end, typed_next, typed_none}
+use Rattle.pri_reader.proofs.constants.names_of_type.Goals as goal
+
+pub returns-in_err-identifier-clause-refused : goal.returns-in_err-identifier-clause-refused
+returns-in_err-identifier-clause-refused c = fails _ _ c.from_residual.ensures.1 (typed_none c.names.invariant.leads c.in_err-identifier.ensures.failed)
+
+pub names-init : goal.names-init
+names-init c = record { leads = rw c.new-names.ensures typed_begin; shorter = omega arith }
+
+pub returns-in_default-clause-read : goal.returns-in_default-clause-read
+returns-in_default-clause-read c = rw (c.in_ok-push.ensures.ok, c.in_ok-name.ensures.exact) (typed_end c.names.invariant.leads c.in_ok-identifier.ensures.found)
+
+pub names-preserved : goal.names-preserved
+names-preserved c = record {
+  leads = rw (c.in_ok-push.ensures.ok, c.in_ok-name.ensures.exact) (typed_next c.names.invariant.leads c.in_ok-identifier.ensures.found c.in-Some.ensures);
+  shorter = omega (arith, c.names.invariant.shorter, takes_shorter c.in_ok-identifier.ensures.found, takes_shorter c.in-Some.ensures);
+}
