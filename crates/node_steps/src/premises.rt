@@ -3,21 +3,22 @@
 ghost use Rattle.clause_set.specs.Dnfs.{top};
 ghost use Rattle.proof_tree.specs.Rules.{conjoined, first_given};
 ghost use Rattle.purse.specs.Work.{Charged};
-ghost use Rattle.std.specs.Prelude.{◌≡◌, IfOk};
+ghost use Rattle.std.specs.Prelude.{◌≡◌};
 
 use clause_set::{Dnf, and};
-use linear_term::Memory;
 use purse::{Purse, StepFault};
-use sqlite_items::at;
+use sqlite_items::Items;
 use std::alloc::Global;
 
-/// The first constraint; false where there is none.
-pub fn first(alloc: Global, ds: &[Dnf]) -> Result<Dnf, Memory>
-    ensures { IfOk result (λ d. d ≡ first_given ds.now) }
+/// The first constraint, taken out of them; false where there is none.
+pub fn first(alloc: Global, ds: Items<Dnf>) -> Dnf
+    ensures { result ≡ first_given ds }
 {
-    match at(ds, 0) {
-        Some(d) => d.copy(alloc),
-        None => Ok(Dnf::bottom(alloc)),
+    let mut all = ds;
+    if all.is_empty() {
+        Dnf::bottom(alloc)
+    } else {
+        all.remove(0)
     }
 }
 

@@ -1,4 +1,5 @@
 pub mod Held
+pub mod Idle
 pub mod Passing
 pub mod Picks
 pub mod Places

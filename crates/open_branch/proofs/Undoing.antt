@@ -39,6 +39,8 @@ module _ {T : Type 0} where
 
 -- the members of all are pushed but for those of rest, the last one first
 pub record Pushing (start now : History Member) (rest all : List Member) : Type 0 where
+  pub new : List (Pos × Member)
+  pub behind : now.present ≡ start.present ++ new
   pub members : members_in now.present ++ reverse rest ≡ members_in start.present ++ all
   pub pushed : ℕ
   pub count : pushed + length rest ≡ length all
@@ -47,6 +49,8 @@ pub record Pushing (start now : History Member) (rest all : List Member) : Type 
 
 pub pushing_starts : (h : History Member) (rest all : List Member) → rest ≡ reverse all → Pushing h h rest all
 pushing_starts h rest all is = record {
+  new = [];
+  behind = sym (append-nil h.present);
   members = ap (λ l. members_in h.present ++ l) (ap reverse is ∙ reverse-reverse all);
   pushed = 0;
   count = omega (arith, ap length is, length-reverse all);
@@ -57,6 +61,8 @@ pushing_starts h rest all is = record {
 pub pushing_goes : (start now new : History Member) (rest fewer all : List Member) (m : Member) (p : Pos) → Pushing start now rest all → rest ≡ fewer ++ m ∷ [] → new ≡ after (push_of p m) now
     → Pushing start new fewer all
 pushing_goes start now new rest fewer all m p st is did = record {
+  new = st.new ++ (p, m) ∷ [];
+  behind = ap (λ (h : History Member). h.present) did ∙ ap (λ is. is ++ (p, m) ∷ []) st.behind ∙ append_assoc start.present st.new ((p, m) ∷ []);
   members =
       ap (λ (h : History Member). members_in h.present ++ reverse fewer) did ∙ ap (λ l. l ++ reverse fewer) (map-append (λ (i : Pos × Member). i.1) now.present ((p, m) ∷ []))
       ∙ append_assoc (members_in now.present) (m ∷ []) (reverse fewer) ∙ ap (λ l. members_in now.present ++ l) (sym (ap reverse is ∙ reverse-append fewer (m ∷ []))) ∙ st.members;
@@ -65,6 +71,9 @@ pushing_goes start now new rest fewer all m p st is did = record {
   changes = (let c = st.changes in let longer = ap (λ (h : History Member). length h.earlier) did in omega (arith, c, longer));
   there = ap (λ (h : History Member). undone (suc st.pushed) h) did ∙ st.there;
 }
+
+pub pushed_behind : {start now : History Member} {rest all : List Member} → Pushing start now rest all → (new : List (Pos × Member)) × (now.present ≡ start.present ++ new)
+pushed_behind st = (st.new, st.behind)
 
 -- the members are all pushed
 pub pushed_members : {start now : History Member} {rest all : List Member} → Pushing start now rest all → rest ≡ [] → members_in now.present ≡ members_in start.present ++ all

@@ -2,11 +2,13 @@
 
 ghost use Rattle.backlist.specs.History.{after, push_of};
 ghost use Rattle.backlist.specs.declared.boxes.Pos.{Pos as Place};
+ghost use Rattle.open_branch.specs.Passed.{IsPassed};
 ghost use Rattle.open_branch.specs.Standing.{IsPrincipal, LeadsBack, held, members_in, premises_from, standing, undone};
 ghost use Rattle.open_branch.specs.declared.branch.Branch as declared;
+ghost use Rattle.open_branch.specs.declared.choosing.Passed.{Passed};
 ghost use Rattle.sequent.specs.Views.{HasRoom};
 ghost use Rattle.std.specs.List.{slice_get};
-ghost use Rattle.std.specs.Prelude.{◌≡◌, ◌+◌, ◌++◌, ◌<◌, ◌≤◌, IfOk, OnOk, Some, length, reverse};
+ghost use Rattle.std.specs.Prelude.{◌≡◌, ◌+◌, ◌++◌, ◌<◌, ◌≤◌, IfOk, List, OnOk, Some, length, reverse, ℕ};
 
 use crate::branch::Branch;
 use crate::principal::Principal;
@@ -53,6 +55,7 @@ fn push_all(
     list: &mut BackList<Member>,
     members: Items<Member>,
 ) -> Result<(), Memory>
+    ensures behind { OnOk result ((new : List (Place × Member)) × (list.new.present ≡ list.old.present ++ new)) }
     ensures members { OnOk result (members_in list.new.present ≡ members_in list.old.present ++ members) }
     ensures changes { OnOk result (length members ≤ length list.new.earlier) }
     ensures back { OnOk result (undone (length members) list.new ≡ list.old) }
@@ -83,6 +86,7 @@ impl Branch {
         requires within { i < length (premises_from self.old principal.now) }
         ensures premise { OnOk result (slice_get (premises_from self.old principal.now) i ≡ Some (standing self.new)) }
         ensures back { IfOk result (λ e. LeadsBack e self.new self.old) }
+        ensures passed { OnOk result ((limit : ℕ) (p : Passed) → IsPassed limit self.old p → p.count ≤ principal.now.index → IsPassed limit self.new p) }
     {
         let member = self.list.get(principal.at);
         let new = branch(alloc, member, self.count, i)?;

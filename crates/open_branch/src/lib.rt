@@ -10,5 +10,6 @@ mod finding;
 mod principal;
 
 pub use branch::Branch;
+pub use choosing::Passed;
 pub use entering::Entered;
 pub use principal::Principal;

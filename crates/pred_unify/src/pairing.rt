@@ -1,6 +1,6 @@
 // The pairs of a sequent.
 
-ghost use Rattle.std.specs.Prelude.{◌≡◌, ◌≤◌, ◌<◌, ◌+◌, ◌-◌, ◌^◌, length, [], map, IfOk};
+ghost use Rattle.std.specs.Prelude.{◌≡◌, ◌≤◌, ◌<◌, ◌+◌, ◌-◌, ◌^◌, length, [], map, IfOk, OnOk, ◌++◌};
 ghost use Rattle.std.specs.List.{AllByRecursion};
 ghost use Rattle.pred_unify.specs.Pairs as pair;
 ghost use Rattle.formula.specs.Made.{Made};
@@ -96,6 +96,17 @@ fn predicate_pair(alloc: Global, p: u32, ss: &[Term], g: &Core) -> Result<Items<
     }
 }
 
+/// More pairs behind those in out: mostly none.
+fn put(out: &mut Items<Core>, more: Items<Core>) -> Result<(), Memory>
+    ensures { OnOk result (out.new ≡ out.old ++ more) }
+{
+    if more.is_empty() {
+        return Ok(());
+    }
+    out.append(more)?;
+    Ok(())
+}
+
 /// The pairs of a negated predicate with each member.
 fn predicate_pairs(
     alloc: Global,
@@ -108,7 +119,7 @@ fn predicate_pairs(
     let mut out = Items::new(alloc);
     for m in members {
         let more = predicate_pair(alloc, p, ss, &m.formula)?;
-        out.append(more)?;
+        put(&mut out, more)?;
     }
     Ok(out)
 }
@@ -156,7 +167,7 @@ fn function_values(
     let mut out = Items::new(alloc);
     for m in members {
         let more = function_pair(alloc, f, ss, u, &m.formula)?;
-        out.append(more)?;
+        put(&mut out, more)?;
     }
     Ok(out)
 }
@@ -204,7 +215,7 @@ fn all_predicates(alloc: Global, members: &[Member]) -> Result<Items<Core>, Term
     let mut out = Items::new(alloc);
     for m in members {
         let more = with_predicates(alloc, members, &m.formula)?;
-        out.append(more)?;
+        put(&mut out, more)?;
     }
     Ok(out)
 }
@@ -220,7 +231,7 @@ fn later_values(
     let mut out = before;
     for i in 0..members.len() {
         let more = with_functions(alloc, &members[i + 1..], &members[i].formula)?;
-        out.append(more)?;
+        put(&mut out, more)?;
     }
     Ok(out)
 }

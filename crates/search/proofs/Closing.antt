@@ -32,6 +32,6 @@ made_fault view m g a e h is = subst (λ (f : ElimFault). Logged (next m g) a (E
 pub no_leaf : (w : Traced (List (List Literal))) (a : Funds) → Logged w a (Err Memory) a
 no_leaf w a = ([], let r : Result (List (List Literal)) StepFault = Err step_fault.Memory in no_memory r refl)
 
--- a constraint that was copied
-pub copied_made : (d e : List (List Literal)) (b : Funds) {r : Result (List (List Literal) × ElimLog) ElimFault} → r ≡ unlogged (Ok e) → e ≡ d → Logged (just d) b r b
-copied_made d e b is same = subst (λ (r : Result (List (List Literal) × ElimLog) ElimFault). Logged (just d) b r b) (sym is) (then_just d e same)
+-- a constraint that is at hand
+pub just_made : (d e : List (List Literal)) (b : Funds) {r : Result (List (List Literal) × ElimLog) ElimFault} → r ≡ unlogged (Ok e) → e ≡ d → Logged (just d) b r b
+just_made d e b is same = subst (λ (r : Result (List (List Literal) × ElimLog) ElimFault). Logged (just d) b r b) (sym is) (then_just d e same)

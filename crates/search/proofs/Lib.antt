@@ -8,6 +8,7 @@ pub mod Given
 pub mod Growing
 pub mod Judging
 pub mod Making
+pub mod Nodes
 pub mod Pures
 pub mod Retracing
 pub mod Rounding

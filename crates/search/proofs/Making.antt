@@ -3,15 +3,14 @@ use Rattle.std.proofs.Common.{◌≡◌, ℕ, suc, List, [], ◌∷◌, ◌++◌
 use Rattle.purse.specs.Trace.{Traced, just, next, note, new_log}
 use Rattle.purse.proofs.Tracing.{next-same, next-assoc, next-just}
 use Rattle.clause_set.specs.declared.literal.Literal.{Literal}
-use Rattle.clause_set.specs.Dnfs.{negation, conjunction, top}
+use Rattle.clause_set.specs.Dnfs.{conjunction, top}
 use Rattle.linear_term.specs.Linear.{Linear}
 use Rattle.formula.specs.Form.{Form}
 use Rattle.formula.specs.Form as tree
 use Rattle.formula.specs.Sizes.{depth}
-use Rattle.elim_rules.specs.Elimination.{exists_name, for_all_name}
-use Rattle.elim_rules.specs.Logs.{Does, IsQuiet, by_log, entries_of, name_by_log, read_next, reads_none, every_by_log}
+use Rattle.elim_rules.specs.Logs.{Does, IsQuiet, by_log, entries_of, read_next, reads_none}
 use Rattle.elim_rules.specs.Whole.{eliminated, eliminating}
-use Rattle.elim_rules.proofs.Quiet.{conjunction-quiet, negation-quiet, quiet_cond, quiet_each, quiet_just, quiet_next, quiet_raw}
+use Rattle.elim_rules.proofs.Quiet.{conjunction-quiet, quiet_cond, quiet_each, quiet_just, quiet_next, quiet_raw}
 use Rattle.elim_rules.proofs.Replays.{does_next, does_quiet, form_does, name_does, every_does}
 use Rattle.elim_rules.proofs.Wholes.{whole_does}
 use Rattle.sequent.specs.declared.member.Pick.{Pick}

@@ -3,15 +3,15 @@ use Rattle.std.proofs.Common.{◌≡◌, ℕ, suc, ◌+◌, ◌-◌, ◌≤◌, 
 use Rattle.purse.specs.declared.fault.StepFault.{StepFault}
 use Rattle.purse.specs.Followed.{Followed}
 use Rattle.purse.specs.Runs.{total}
-use Rattle.purse.specs.Trace.{Funds, At}
+use Rattle.purse.specs.Trace.{Funds, At, Traced}
 use Rattle.purse.proofs.Advancing.{followed_later, followed_whole}
 use Rattle.purse.proofs.Following.{Going, follow_err, follow_just, follow_ok, going_all, going_ends, going_next}
 use Rattle.formula.specs.Form.{Form}
 use Rattle.search.specs.declared.course.Course.{Course}
 use Rattle.search.specs.declared.judge.Found.{Found}
 use Rattle.search.specs.Course.{noted}
-use Rattle.search.specs.Rounds.{answer_in, run_as}
-use Rattle.search.specs.Run.{canonical_run, one_round, or_further, rounds}
+use Rattle.search.specs.Run.{Answer, canonical_run, one_round, or_further, rounds}
+use Rattle.search.specs.Walking.{Gets}
 use Rattle.search.proofs.Endings.{round_charges}
 
 -- before the round with the limit k: what is left of the run, and that each round before has charged
@@ -50,15 +50,16 @@ next_turn f n k {now} {b} {old} {c} {d} {c0} turn h =
       within = within;
     }
 
-pub run_found : (f : Form) (n k : ℕ) {now b old : Funds} {c d c0 : Course} (a : Found) → Turn f n k now c old c0 → Followed noted (one_round f n k) now c (Ok (Some (answer_in a))) b d
-    → Followed noted (canonical_run f n old.budget) old c0 (Ok (answer_in a)) b d
-run_found f n k {old = old} a turn h =
-    going_ends turn.going (follow_ok (one_round f n k) (or_further (rounds f n (old.budget - k) (suc k))) h (follow_just (answer_in a) (answer_in a) refl))
+pub run_found : (f : Form) (n k : ℕ) {now b old : Funds} {c d c0 : Course} (a : Answer) → Turn f n k now c old c0 → Followed noted (one_round f n k) now c (Ok (Some a)) b d → Followed noted (canonical_run f n old.budget) old c0 (Ok a) b d
+run_found f n k {old = old} a turn h = going_ends turn.going (follow_ok (one_round f n k) (or_further (rounds f n (old.budget - k) (suc k))) h (follow_just a a refl))
 
-run_err : (e : StepFault) (r : Result Found StepFault) → IsErrAnd r (λ x. x ≡ e) → IsErrAnd (run_as r) (λ x. x ≡ e)
-run_err e (Ok o) h = absurd h
-run_err e (Err x) h = h
+gets_err : {A B : Type 0} {P : A → B → Type 0} {work : Traced A} {a b : Funds} {c d : Course} (e : StepFault) (r : Result B StepFault) → IsErrAnd r (λ x. x ≡ e) → Followed noted work a c (Err e) b d → Gets P work a c r b d
+gets_err e (Ok o) h w = absurd h
+gets_err {work = work} {a} {b} {c} {d} e (Err x) h w = record { ok = λ z is. absurd (cc); err = λ f is. (let same : x ≡ f = cc in subst (λ (z : StepFault). Followed noted work a c (Err z) b d) (sym h ∙ same) w) }
 
-pub run_cut : (f : Form) (n k : ℕ) {now b old : Funds} {c d c0 : Course} {e : StepFault} (r : Result Found StepFault) → Turn f n k now c old c0 → IsErrAnd r (λ x. x ≡ e) → Followed noted (one_round f n k) now c (Err e) b d
-    → Followed noted (canonical_run f n old.budget) old c0 (run_as r) b d
-run_cut f n k {old = old} r turn is h = going_ends turn.going (follow_err (one_round f n k) (or_further (rounds f n (old.budget - k) (suc k))) (run_as r) (run_err _ r is) h)
+pub got_ok : {A B : Type 0} {P : A → B → Type 0} {work : Traced A} {a b : Funds} {c d : Course} (x : A) (y : B) → Followed noted work a c (Ok x) b d → P x y → Gets P work a c (Ok y) b d
+got_ok {P = P} x y w p = record { ok = λ z is. (x, w, subst (P x) (cc) p); err = λ e is. absurd (cc) }
+
+pub run_cut : (f : Form) (n k : ℕ) {now b old : Funds} {c d c0 : Course} {e : StepFault} {P : Answer → Found → Type 0} (r : Result Found StepFault) → Turn f n k now c old c0 → IsErrAnd r (λ x. x ≡ e) → Followed noted (one_round f n k) now c (Err e) b d
+    → Gets P (canonical_run f n old.budget) old c0 r b d
+run_cut f n k {old = old} {e = e} r turn is h = gets_err e r is (going_ends turn.going (follow_err (one_round f n k) (or_further (rounds f n (old.budget - k) (suc k))) (Err e) refl h))

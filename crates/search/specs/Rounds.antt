@@ -1,6 +1,5 @@
 -- How the rounds of a run end, as the code tells it.
-use Rattle.std.specs.Prelude.{◌≡◌, ℕ, ℤ, cond, List, Option, Some, None, Result, Ok, Err}
-use Rattle.purse.specs.declared.fault.StepFault.{StepFault}
+use Rattle.std.specs.Prelude.{◌≡◌, ℕ, ℤ, Bool, cond, List, Option, Some, None, IsSome}
 use Rattle.purse.specs.Runs.{total}
 use Rattle.purse.specs.Trace.{Traced, just, next}
 use Rattle.clause_set.specs.declared.literal.Literal.{Literal}
@@ -10,19 +9,23 @@ use Rattle.formula.specs.Form.{Form, is_pure}
 use Rattle.parameter_solver.specs.declared.solving.Solved.{Solved}
 use Rattle.parameter_solver.specs.declared.solving.Solved.TheVariants as solved
 use Rattle.solution_rules.specs.Solutions.{solving}
+use Rattle.proof_tree.specs.declared.node.Conclusion.{Conclusion}
 use Rattle.proof_tree.specs.declared.node.Conclusion.TheVariants.{Solution, Nothing}
+use Rattle.proof_tree.specs.declared.node.Node.{Node}
 use Rattle.proof_tree.specs.declared.run.Run.{Run}
 use Rattle.proof_tree.specs.declared.run.Why.TheVariants as why
-use Rattle.proof_tree.specs.Proof.{given}
+use Rattle.proof_tree.specs.Proof.{Proof, given}
 use Rattle.proof_tree.specs.Proves.{proof_walk}
-use Rattle.proof_tree.specs.Views.{proof_of}
 use Rattle.proof_tree.specs.Walk.{in_new_log}
+use Rattle.search.specs.declared.judge.Decided.{Decided}
+use Rattle.search.specs.declared.judge.Decided.TheVariants as decided
 use Rattle.search.specs.declared.judge.Found.{Found}
 use Rattle.search.specs.declared.judge.Found.TheVariants as found
 use Rattle.search.specs.declared.judge.Outcome.{Outcome}
 use Rattle.search.specs.declared.judge.Outcome.TheVariants as outcome
 use Rattle.search.specs.declared.walk.Built.{Built}
 use Rattle.search.specs.Run.{Answer, valid, invalid, saturated, too_long}
+use Rattle.search.specs.Walking.{IsKept}
 
 -- what solving d for n names finds
 abbrev pub solved_of : ℕ → List (List Literal) → Option (List ℤ) → Solved
@@ -37,37 +40,38 @@ solving_of n d = next (in_new_log (solving n d)) (λ a. just (solved_of n d a))
 -- a further round is to come
 abbrev pub found_by : Form → Built → ℕ → ℕ → Solved → Option Found
 found_by f tree charged spent (solved.Values vs) = Some (found.Valid tree charged vs)
-found_by f tree charged spent (solved.None log) = cond (is_pure f) (Some (found.Invalid tree spent log)) (cond tree.has_open None (Some (found.Saturated tree log)))
+found_by f tree charged spent (solved.None log) = cond (is_pure f) (Some (found.Invalid tree spent log)) (cond tree.has_open None (Some (found.Saturated log)))
 
--- what was found, as an answer of the run
-abbrev pub answer_in : Found → Answer
-answer_in (found.Valid tree charges vs) = valid vs (proof_of tree.root)
-answer_in (found.Invalid tree charges log) = invalid log.entries (proof_of tree.root)
-answer_in (found.Saturated tree log) = saturated log.entries (proof_of tree.root)
-answer_in found.Branch = too_long
+-- the tree x of the run, kept or not, has its constraint, and is charged what the walk over it with this conclusion is
+pub record IsTreeOf (keeps : Bool) (f : Form) (n : ℕ) (x : Proof) (c : Conclusion) (tree : Built) (charges : ℕ) : Type 0 where
+  pub root : IsKept keeps x tree.root
+  pub constraint : tree.constraint ≡ given x
+  pub charges_are : charges ≡ total (proof_walk f n x c).events
 
-abbrev pub maybe_in : Option Found → Option Answer
-maybe_in None = None
-maybe_in (Some a) = Some (answer_in a)
+-- the answer is what was found
+abbrev pub IsAnswer : Bool → Form → ℕ → Answer → Found → Type 0
+IsAnswer keeps f n a (found.Valid tree charges vs) = (x : Proof) × (a ≡ valid vs x) × IsTreeOf keeps f n x (Solution vs) tree charges
+IsAnswer keeps f n a (found.Invalid tree charges log) = (x : Proof) × (a ≡ invalid log.entries x) × IsTreeOf keeps f n x (Nothing log) tree charges
+IsAnswer keeps f n a (found.Saturated log) = (x : Proof) × (a ≡ saturated log.entries x)
+IsAnswer keeps f n a found.Branch = a ≡ too_long
 
-abbrev pub round_as : Result (Option Found) StepFault → Result (Option Answer) StepFault
-round_as (Ok o) = Ok (maybe_in o)
-round_as (Err e) = Err e
-
-abbrev pub run_as : Result Found StepFault → Result Answer StepFault
-run_as (Ok a) = Ok (answer_in a)
-run_as (Err e) = Err e
-
--- the tree that was found has its constraint, and charges what the walk over its proof does
-abbrev pub HasTree : Form → ℕ → Found → Type 0
-HasTree f n (found.Valid tree charges vs) = (tree.constraint ≡ given (proof_of tree.root)) × (charges ≡ total (proof_walk f n (proof_of tree.root) (Solution vs)).events)
-HasTree f n (found.Invalid tree charges log) = (tree.constraint ≡ given (proof_of tree.root)) × (charges ≡ total (proof_walk f n (proof_of tree.root) (Nothing log)).events)
-HasTree f n (found.Saturated tree log) = Unit {0}
-HasTree f n found.Branch = Unit {0}
+-- a tree that was found is kept
+abbrev pub HasRoot : Found → Type 0
+HasRoot (found.Valid tree charges vs) = IsSome tree.root
+HasRoot (found.Invalid tree charges log) = IsSome tree.root
+HasRoot (found.Saturated log) = Unit {0}
+HasRoot found.Branch = Unit {0}
 
 -- the outcome of a run that found this, and stood there
-abbrev pub outcome_of : Found → Run → Outcome
-outcome_of (found.Valid tree charges vs) run = outcome.Valid tree.constraint vs (record { charges = charges; root = tree.root; conclusion = Solution vs })
-outcome_of (found.Invalid tree charges log) run = outcome.Invalid tree.constraint (record { charges = charges; root = tree.root; conclusion = Nothing log })
-outcome_of (found.Saturated tree log) run = outcome.Unknown why.Saturated run
-outcome_of found.Branch run = outcome.Unknown why.Branch run
+abbrev pub IsOutcome : Found → Run → Outcome → Type 0
+IsOutcome (found.Valid tree charges vs) run o = (x : Node) × (tree.root ≡ Some x) × (o ≡ outcome.Valid tree.constraint vs (record { charges = charges; root = x; conclusion = Solution vs }))
+IsOutcome (found.Invalid tree charges log) run o = (x : Node) × (tree.root ≡ Some x) × (o ≡ outcome.Invalid tree.constraint (record { charges = charges; root = x; conclusion = Nothing log }))
+IsOutcome (found.Saturated log) run o = o ≡ outcome.Unknown why.Saturated run
+IsOutcome found.Branch run o = o ≡ outcome.Unknown why.Branch run
+
+-- the same without its tree
+abbrev pub decided_of : Found → Run → Decided
+decided_of (found.Valid tree charges vs) run = decided.Valid tree.constraint vs
+decided_of (found.Invalid tree charges log) run = decided.Invalid tree.constraint
+decided_of (found.Saturated log) run = decided.Unknown why.Saturated run
+decided_of found.Branch run = decided.Unknown why.Branch run

@@ -1,5 +1,6 @@
--- The trees of a run as the code builds them: nodes with their constraints, and whether a leaf is open.
-use Rattle.std.specs.Prelude.{◌≡◌, ℕ, ◌+◌, ◌≤◌, List, map, Option, Some, None, Result, Ok, Err}
+-- The trees of a run as the code builds them: nodes where trees are kept, their constraints, and whether a leaf is open.
+use Rattle.std.specs.Prelude.{◌≡◌, ℕ, ◌+◌, ◌≤◌, Bool, cond, List, [], ◌∷◌, map, Option, Some, None, Result, Ok, Err}
+use Rattle.std.specs.Option.{option_map}
 use Rattle.linear_term.specs.declared.range.TermFault.{TermFault}
 use Rattle.linear_term.specs.declared.range.TermFault.TheVariants as term_fault
 use Rattle.purse.specs.declared.fault.StepFault.{StepFault}
@@ -7,7 +8,8 @@ use Rattle.purse.specs.declared.fault.StepFault.TheVariants as step_fault
 use Rattle.purse.specs.declared.fault.ElimFault.{ElimFault}
 use Rattle.purse.specs.declared.fault.ElimFault.TheVariants.{Steps, Overflow, Memory}
 use Rattle.purse.specs.declared.log.ElimLog.{ElimLog}
-use Rattle.purse.specs.Trace.{Traced, just, next}
+use Rattle.purse.specs.Followed.{Followed}
+use Rattle.purse.specs.Trace.{Funds, Traced, just, next}
 use Rattle.clause_set.specs.declared.literal.Literal.{Literal}
 use Rattle.elim_rules.specs.Logs.{entries_of}
 use Rattle.sequent.specs.declared.member.Pick.{Pick}
@@ -16,10 +18,11 @@ use Rattle.proof_tree.specs.declared.node.Node.{Node}
 use Rattle.proof_tree.specs.Proof.{Proof, given, proofs}
 use Rattle.proof_tree.specs.Views.{proof_of}
 use Rattle.proof_tree.specs.Walk.{in_new_log, nodes_in, nodes_in_all}
+use Rattle.search.specs.declared.course.Course.{Course}
 use Rattle.search.specs.declared.walk.Built.{Built}
 use Rattle.search.specs.declared.walk.Children.{Children}
 use Rattle.search.specs.Building.{canonical_constraint}
-use Rattle.search.specs.Course.{no_log}
+use Rattle.search.specs.Course.{no_log, noted}
 use Rattle.search.specs.Run.{has_open_leaf, have_open_leaf}
 
 -- the refusal of a call on terms, with an empty log
@@ -42,43 +45,46 @@ making s p ds = next (in_new_log (canonical_constraint s p ds)) (λ d. just (d, 
 abbrev pub proofs_in : List Node → List Proof
 proofs_in xs = map proof_of xs
 
--- what was built, as a proof
-abbrev pub proof_in : Option Built → Option Proof
-proof_in None = None
-proof_in (Some b) = Some (proof_of b.root)
+-- the node, if there is one
+abbrev pub listed : Option Node → List Node
+listed None = []
+listed (Some x) = x ∷ []
 
-abbrev pub built_as : Result (Option Built) StepFault → Result (Option Proof) StepFault
-built_as (Ok o) = Ok (proof_in o)
-built_as (Err e) = Err e
+-- the node is the proof x where trees are kept, and else there is none
+abbrev pub IsKept : Bool → Proof → Option Node → Type 0
+IsKept keeps x o = option_map proof_of o ≡ cond keeps (Some x) None
 
--- what was built for premises, as proofs
-abbrev pub all_in : Option Children → Option (List Proof)
-all_in None = None
-all_in (Some c) = Some (proofs_in c.nodes)
+-- the nodes are the proofs xs where trees are kept, and else there are none
+abbrev pub AreKept : Bool → List Proof → List Node → Type 0
+AreKept keeps xs ns = proofs_in ns ≡ cond keeps xs []
 
-abbrev pub all_as : Result (Option Children) StepFault → Result (Option (List Proof)) StepFault
-all_as (Ok o) = Ok (all_in o)
-all_as (Err e) = Err e
+-- the trees xs of these sequents have these constraints, and have an open leaf or none
+pub record AreGrown (keeps : Bool) (ss : List Sequent) (xs : List Proof) (c : Children) : Type 0 where
+  pub nodes : AreKept keeps xs c.nodes
+  pub constraints : c.constraints ≡ map given xs
+  pub has_open : c.has_open ≡ have_open_leaf ss (proofs xs)
 
--- the trees have these constraints, are of these sequents, and have an open leaf or none
-pub record AreGrown (ss : List Sequent) (c : Children) : Type 0 where
-  pub constraints : c.constraints ≡ map given (proofs_in c.nodes)
-  pub has_open : c.has_open ≡ have_open_leaf ss (proofs (proofs_in c.nodes))
+-- the tree x of this sequent has this constraint, and has an open leaf or none
+pub record IsGrown (keeps : Bool) (s : Sequent) (x : Proof) (b : Built) : Type 0 where
+  pub root : IsKept keeps x b.root
+  pub constraint : b.constraint ≡ given x
+  pub has_open : b.has_open ≡ has_open_leaf s x
 
--- the tree has this constraint, is of this sequent, and has an open leaf or none
-pub record IsGrown (s : Sequent) (b : Built) : Type 0 where
-  pub constraint : b.constraint ≡ given (proof_of b.root)
-  pub has_open : b.has_open ≡ has_open_leaf s (proof_of b.root)
+-- a tree above the trees xs, for which no further node was entered
+pub record IsFinished (keeps : Bool) (s : Sequent) (xs : List Proof) (n m : ℕ) (x : Proof) (b : Built) : Type 0 where
+  pub tree : IsGrown keeps s x b
+  pub size : nodes_in x ≡ nodes_in_all (proofs xs) + 1
+  pub nodes : m ≡ n
 
 -- a tree whose nodes have the numbers from n up to m, each of which was charged
-pub record IsNumbered (s : Sequent) (n m spent : ℕ) (b : Built) : Type 0 where
-  pub tree : IsGrown s b
-  pub nodes : m ≡ n + nodes_in (proof_of b.root)
+pub record IsNumbered (keeps : Bool) (s : Sequent) (n m spent : ℕ) (x : Proof) (b : Built) : Type 0 where
+  pub tree : IsGrown keeps s x b
+  pub nodes : m ≡ n + nodes_in x
   pub paid : m ≤ spent
 
-pub record AreNumbered (ss : List Sequent) (n m spent : ℕ) (c : Children) : Type 0 where
-  pub trees : AreGrown ss c
-  pub nodes : m ≡ n + nodes_in_all (proofs (proofs_in c.nodes))
+pub record AreNumbered (keeps : Bool) (ss : List Sequent) (n m spent : ℕ) (xs : List Proof) (c : Children) : Type 0 where
+  pub trees : AreGrown keeps ss xs c
+  pub nodes : m ≡ n + nodes_in_all (proofs xs)
   pub paid : m ≤ spent
 
 -- p of what was built, if anything was
@@ -86,3 +92,14 @@ abbrev pub IfBuilt : {A : Type 0} → Result (Option A) StepFault → (A → Typ
 IfBuilt (Ok (Some a)) p = p a
 IfBuilt (Ok None) p = Unit {0}
 IfBuilt (Err e) p = Unit {0}
+
+-- the call did the work as far as its result says, and what it made is, by P, the value of the work
+pub record Gets {A B : Type 0} (P : A → B → Type 0) (work : Traced A) (old : Funds) (c : Course) (result : Result B StepFault) (new : Funds) (d : Course) : Type 0 where
+  pub ok : (b : B) → result ≡ Ok b → (x : A) × Followed noted work old c (Ok x) new d × P x b
+  pub err : (e : StepFault) → result ≡ Err e → Followed noted work old c (Err e) new d
+
+-- the same of work that may have no value
+pub record Makes {A B : Type 0} (P : A → B → Type 0) (work : Traced (Option A)) (old : Funds) (c : Course) (result : Result (Option B) StepFault) (new : Funds) (d : Course) : Type 0 where
+  pub some : (b : B) → result ≡ Ok (Some b) → (x : A) × Followed noted work old c (Ok (Some x)) new d × P x b
+  pub none : result ≡ Ok None → Followed noted work old c (Ok None) new d
+  pub err : (e : StepFault) → result ≡ Err e → Followed noted work old c (Err e) new d

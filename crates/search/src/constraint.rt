@@ -73,8 +73,8 @@ fn unlogged(alloc: Global, outcome: Result<Dnf, StepFault>) -> Result<(Dnf, Elim
     }
 }
 
-/// A constraint that was only copied.
-fn copied(alloc: Global, outcome: Result<Dnf, Memory>) -> Result<(Dnf, ElimLog), ElimFault>
+/// A constraint that costs nothing.
+fn free(alloc: Global, outcome: Result<Dnf, Memory>) -> Result<(Dnf, ElimLog), ElimFault>
     ensures { (d : List (List Literal)) (b : Funds) → IfOk outcome (λ c. c ≡ d) → Logged (just d) b result b }
 {
     match outcome {
@@ -84,10 +84,10 @@ fn copied(alloc: Global, outcome: Result<Dnf, Memory>) -> Result<(Dnf, ElimLog),
 }
 
 /// The constraint of beta: that of each premise.
-fn beta(alloc: Global, ds: &[Dnf], purse: &mut Purse) -> Result<(Dnf, ElimLog), ElimFault>
-    ensures { Logged (conjoined ds.now top) purse.old result purse.new }
+fn beta(alloc: Global, ds: Items<Dnf>, purse: &mut Purse) -> Result<(Dnf, ElimLog), ElimFault>
+    ensures { Logged (conjoined ds top) purse.old result purse.new }
 {
-    let all = conjoined(alloc, ds, purse);
+    let all = conjoined(alloc, ds.as_slice(), purse);
     unlogged(alloc, all)
 }
 
@@ -95,33 +95,27 @@ fn beta(alloc: Global, ds: &[Dnf], purse: &mut Purse) -> Result<(Dnf, ElimLog), 
 fn delta(
     alloc: Global,
     count: u32,
-    ds: &[Dnf],
+    ds: Items<Dnf>,
     purse: &mut Purse,
 ) -> Result<(Dnf, ElimLog), ElimFault>
     requires room { count + 1 < 2 ^ 32 }
     requires budget { purse.old.budget < 2 ^ 32 }
-    ensures { Logged (for_all_name count (first_given ds.now)) purse.old result purse.new }
+    ensures { Logged (for_all_name count (first_given ds)) purse.old result purse.new }
 {
-    match first(alloc, ds) {
-        Ok(d) => forall_last(alloc, &d, count + 1, purse),
-        Err(_) => Err(ElimFault::Memory),
-    }
+    forall_last(alloc, &first(alloc, ds), count + 1, purse)
 }
 
 /// The constraint of gamma: that of the premise, for some value of the new constant, which comes after so many.
 fn gamma(
     alloc: Global,
     count: u32,
-    ds: &[Dnf],
+    ds: Items<Dnf>,
     purse: &mut Purse,
 ) -> Result<(Dnf, ElimLog), ElimFault>
     requires budget { purse.old.budget < 2 ^ 32 }
-    ensures { Logged (exists_name count (first_given ds.now)) purse.old result purse.new }
+    ensures { Logged (exists_name count (first_given ds)) purse.old result purse.new }
 {
-    match first(alloc, ds) {
-        Ok(d) => quant_elim::exists_name(alloc, &d, count, purse),
-        Err(_) => Err(ElimFault::Memory),
-    }
+    quant_elim::exists_name(alloc, &first(alloc, ds), count, purse)
 }
 
 /// The constraint of the rule with this principal, made of those of its premises.
@@ -129,16 +123,16 @@ fn constraint(
     alloc: Global,
     branch: &Branch,
     principal: &Principal,
-    ds: &[Dnf],
+    ds: Items<Dnf>,
     purse: &mut Purse,
 ) -> Result<(Dnf, ElimLog), ElimFault>
     requires room { (standing branch.now).count + 1 < 2 ^ 32 }
     requires budget { purse.old.budget < 2 ^ 32 }
-    ensures { Logged (canonical_constraint (standing branch.now) (rule_at principal.now.shape principal.now.index) ds.now) purse.old result purse.new }
+    ensures { Logged (canonical_constraint (standing branch.now) (rule_at principal.now.shape principal.now.index) ds) purse.old result purse.new }
 {
     match principal.shape {
-        Shape::Trivial => copied(alloc, Dnf::top(alloc)),
-        Shape::Alpha => copied(alloc, first(alloc, ds)),
+        Shape::Trivial => free(alloc, Dnf::top(alloc)),
+        Shape::Alpha => unlogged(alloc, Ok(first(alloc, ds))),
         Shape::Delta => delta(alloc, branch.count(), ds, purse),
         Shape::Beta => beta(alloc, ds, purse),
         Shape::Gamma => gamma(alloc, branch.count(), ds, purse),
@@ -150,13 +144,13 @@ pub fn made(
     alloc: Global,
     branch: &Branch,
     principal: &Principal,
-    ds: &[Dnf],
+    ds: Items<Dnf>,
     course: &mut Course,
     purse: &mut Purse,
 ) -> Result<(Dnf, ElimLog), StepFault>
     requires room { (standing branch.now).count + 1 < 2 ^ 32 }
     requires budget { purse.old.budget < 2 ^ 32 }
-    ensures work { Followed noted (making (standing branch.now) (rule_at principal.now.shape principal.now.index) ds.now) purse.old course.old result purse.new course.new }
+    ensures work { Followed noted (making (standing branch.now) (rule_at principal.now.shape principal.now.index) ds) purse.old course.old result purse.new course.new }
     ensures nodes { IfOk result (λ r. course.new.nodes ≡ course.old.nodes) }
 {
     course.begin_log(alloc);

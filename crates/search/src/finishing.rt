@@ -4,20 +4,17 @@ ghost use Rattle.clause_set.specs.declared.literal.Literal.{Literal};
 ghost use Rattle.formula.specs.Sizes.{depth};
 ghost use Rattle.open_branch.specs.Standing.{premises_from, rule_at, standing};
 ghost use Rattle.pred_unify.specs.Pairs.{closing_of};
-ghost use Rattle.proof_tree.specs.Proof.{node, proofs};
+ghost use Rattle.proof_tree.specs.Proof.{Proof, node, proofs};
 ghost use Rattle.proof_tree.specs.Views.{proof_of};
-ghost use Rattle.proof_tree.specs.Walk.{nodes_in, nodes_in_all};
-ghost use Rattle.purse.specs.Followed.{Followed};
 ghost use Rattle.purse.specs.declared.log.Entry.{Entry};
 ghost use Rattle.search.specs.Building.{finished};
-ghost use Rattle.search.specs.Course.{noted};
 ghost use Rattle.search.specs.Run.{has_open_leaf};
-ghost use Rattle.search.specs.Walking.{AreGrown, IfBuilt, IsGrown, built_as, proofs_in};
+ghost use Rattle.search.specs.Walking.{AreGrown, AreKept, IsFinished, IsKept, Makes, proofs_in};
 ghost use Rattle.sequent.specs.Leaf as leaf;
 ghost use Rattle.sequent.specs.Views.{HasRoom, members_of, sequent_of};
 ghost use Rattle.sequent.specs.declared.member.Pick.TheVariants as pick;
 ghost use Rattle.std.specs.List.{list_any};
-ghost use Rattle.std.specs.Prelude.{◌≡◌, ◌+◌, ◌<◌, ◌≤◌, ◌^◌, IfOk, List, [], ℕ};
+ghost use Rattle.std.specs.Prelude.{◌≡◌, ◌+◌, ◌<◌, ◌≤◌, ◌^◌, Bool, IfOk, List, [], ℕ};
 
 use super::constraint::{made, made_at_leaf};
 use super::course::Course;
@@ -54,34 +51,30 @@ fn node(rule: Pick, children: Items<Node>, log: ElimLog, gives: Items<Items<Lite
     }
 }
 
-/// The tree whose root has these parts, with its constraint.
-fn grown(
+/// The root of these parts, where trees are kept.
+fn kept(
     alloc: Global,
+    keeps: bool,
     rule: Pick,
     children: Items<Node>,
-    has_open: bool,
-    constraint: Dnf,
     log: ElimLog,
-) -> Result<Built, Memory>
-    ensures root { IfOk result (λ b. proof_of b.root ≡ node rule (proofs (proofs_in children)) log.entries constraint) }
-    ensures constraint { IfOk result (λ b. b.constraint ≡ constraint) }
-    ensures has_open { IfOk result (λ b. b.has_open ≡ has_open) }
+    constraint: &Dnf,
+) -> Result<Option<Node>, Memory>
+    ensures { (xs : List Proof) → AreKept keeps xs children → IfOk result (λ root. IsKept keeps (node rule (proofs xs) log.entries constraint.now) root) }
 {
+    if !keeps {
+        return Ok(None);
+    }
     let gives = clauses_of(alloc, constraint.clauses())?;
-    let root = node(rule, children, log, gives);
-    Ok(Built {
-        root,
-        constraint,
-        has_open,
-    })
+    Ok(Some(node(rule, children, log, gives)))
 }
 
 /// Whether a leaf of the tree with these trees of premises is open.
 fn has_open_leaf(branch: &Branch, principal: &Principal, children: &Children) -> bool
-    requires { AreGrown (premises_from branch.now principal.now) children.now }
-    ensures { (log : List Entry) (d : List (List Literal)) → result ≡ has_open_leaf (standing branch.now) (node (rule_at principal.now.shape principal.now.index) (proofs (proofs_in children.now.nodes)) log d) }
+    ensures { (keeps : Bool) (xs : List Proof) (log : List Entry) (d : List (List Literal)) → AreGrown keeps (premises_from branch.now principal.now) xs children.now
+        → result ≡ has_open_leaf (standing branch.now) (node (rule_at principal.now.shape principal.now.index) (proofs xs) log d) }
 {
-    if children.nodes.is_empty() {
+    if children.constraints.is_empty() {
         branch.has_open_member()
     } else {
         children.has_open
@@ -95,36 +88,29 @@ pub fn finish(
     branch: &Branch,
     principal: &Principal,
     children: Children,
+    keeps: bool,
     course: &mut Course,
     purse: &mut Purse,
 ) -> Result<Option<Built>, StepFault>
     requires room { (standing branch.now).count + 1 < 2 ^ 32 }
     requires budget { purse.old.budget < 2 ^ 32 }
-    requires trees { AreGrown (premises_from branch.now principal.now) children }
-    ensures work { (n : ℕ) → Followed noted (finished n (standing branch.now) (rule_at principal.now.shape principal.now.index) (proofs_in children.nodes)) purse.old course.old (built_as result) purse.new course.new }
-    ensures tree { IfBuilt result (λ b. IsGrown (standing branch.now) b) }
-    ensures size { IfBuilt result (λ b. nodes_in (proof_of b.root) ≡ nodes_in_all (proofs (proofs_in children.nodes)) + 1) }
-    ensures nodes { IfBuilt result (λ b. course.new.nodes ≡ course.old.nodes) }
+    ensures { (n : ℕ) (xs : List Proof) → AreGrown keeps (premises_from branch.now principal.now) xs children
+        → Makes (IsFinished keeps (standing branch.now) xs course.old.nodes course.new.nodes) (finished n (standing branch.now) (rule_at principal.now.shape principal.now.index) xs) purse.old course.old result purse.new course.new }
 {
     course.back(alloc);
-    let (constraint, log) = made(
-        alloc,
-        branch,
-        principal,
-        children.constraints.as_slice(),
-        course,
-        purse,
-    )?;
     let has_open = has_open_leaf(branch, principal, &children);
-    let tree = grown(
-        alloc,
-        principal.rule(),
-        children.nodes,
-        has_open,
+    let Children {
+        nodes,
+        constraints,
+        ..
+    } = children;
+    let (constraint, log) = made(alloc, branch, principal, constraints, course, purse)?;
+    let root = kept(alloc, keeps, principal.rule(), nodes, log, &constraint)?;
+    Ok(Some(Built {
+        root,
         constraint,
-        log,
-    )?;
-    Ok(Some(tree))
+        has_open,
+    }))
 }
 
 /// The leaf that is closed, with these members.
@@ -132,6 +118,7 @@ pub fn finish_closed(
     alloc: Global,
     s: &Sequent,
     has_open: bool,
+    keeps: bool,
     course: &mut Course,
     purse: &mut Purse,
 ) -> Result<Option<Built>, StepFault>
@@ -139,20 +126,21 @@ pub fn finish_closed(
     requires depth { s.now.count + depth (closing_of (sequent_of s.now)).value ≤ 2 ^ 32 }
     requires budget { purse.old.budget < 2 ^ 32 }
     requires open { has_open ≡ list_any (λ m. leaf.is_open m.formula) (members_of s.now.members) }
-    ensures work { (n : ℕ) → Followed noted (finished n (sequent_of s.now) pick.Close []) purse.old course.old (built_as result) purse.new course.new }
-    ensures tree { IfBuilt result (λ b. IsGrown (sequent_of s.now) b) }
-    ensures size { IfBuilt result (λ b. nodes_in (proof_of b.root) ≡ 1) }
-    ensures nodes { IfBuilt result (λ b. course.new.nodes ≡ course.old.nodes) }
+    ensures { (n : ℕ) → Makes (IsFinished keeps (sequent_of s.now) [] course.old.nodes course.new.nodes) (finished n (sequent_of s.now) pick.Close []) purse.old course.old result purse.new course.new }
 {
     course.back(alloc);
     let (constraint, log) = made_at_leaf(alloc, s, course, purse)?;
-    let tree = grown(
+    let root = kept(
         alloc,
+        keeps,
         Pick::Close,
         Items::new(alloc),
-        has_open,
-        constraint,
         log,
+        &constraint,
     )?;
-    Ok(Some(tree))
+    Ok(Some(Built {
+        root,
+        constraint,
+        has_open,
+    }))
 }

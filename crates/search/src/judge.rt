@@ -5,7 +5,7 @@ ghost use Rattle.formula.specs.Tree.{form};
 ghost use Rattle.purse.specs.Followed.{Followed};
 ghost use Rattle.search.specs.Course.{noted};
 ghost use Rattle.search.specs.Outcomes.{stopped_by};
-ghost use Rattle.search.specs.Rounds.{found_by, outcome_of, solving_of};
+ghost use Rattle.search.specs.Rounds.{HasRoot, IsOutcome, decided_of, found_by, solving_of};
 ghost use Rattle.std.specs.Prelude.{◌≡◌, ◌<◌, ◌^◌, IfOk};
 
 use super::course::Course;
@@ -31,6 +31,22 @@ pub enum Outcome {
     Invalid {
         constraint: Dnf,
         tree: Tree,
+    },
+    Unknown {
+        why: Why,
+        run: Run,
+    },
+}
+
+/// How a search ended, without its tree: the constraint that the tree gave, and the values.
+#[derive(Drop)]
+pub enum Decided {
+    Valid {
+        constraint: Dnf,
+        solution: Items<i128>,
+    },
+    Invalid {
+        constraint: Dnf,
     },
     Unknown {
         why: Why,
@@ -65,7 +81,7 @@ pub enum Found {
     /// The log takes all names out of the constraint of the tree, which leaves false: so much is charged for both.
     Invalid(Built, u64, ElimLog),
     /// The same of a formula that is not pure, where no leaf of the tree is open.
-    Saturated(Built, ElimLog),
+    Saturated(ElimLog),
     /// A branch would have got too many nodes.
     Branch,
 }
@@ -82,15 +98,16 @@ pub fn conclude(root: &Core, tree: Built, charged: u64, spent: u64, solved: Solv
             } else if tree.has_open {
                 None
             } else {
-                Some(Found::Saturated(tree, log))
+                Some(Found::Saturated(log))
             }
         }
     }
 }
 
-/// The outcome of a run that found this, and stood there.
+/// The outcome of a run that kept its trees, found this, and stood there.
 pub fn ended(alloc: Global, found: Found, run: Run) -> Result<Outcome, Memory>
-    ensures { IfOk result (λ o. o ≡ outcome_of found run) }
+    requires { HasRoot found }
+    ensures { IfOk result (λ o. IsOutcome found run o) }
 {
     match found {
         Found::Valid(tree, charges, values) => {
@@ -99,6 +116,7 @@ pub fn ended(alloc: Global, found: Found, run: Run) -> Result<Outcome, Memory>
                 constraint,
                 ..
             } = tree;
+            let Some(root) = root else { unreachable!() };
             let solution = Items::from_slice(alloc, values.as_slice())?;
             let tree = Tree {
                 charges,
@@ -117,6 +135,7 @@ pub fn ended(alloc: Global, found: Found, run: Run) -> Result<Outcome, Memory>
                 constraint,
                 ..
             } = tree;
+            let Some(root) = root else { unreachable!() };
             let tree = Tree {
                 charges,
                 root,
@@ -124,7 +143,7 @@ pub fn ended(alloc: Global, found: Found, run: Run) -> Result<Outcome, Memory>
             };
             Ok(Outcome::Invalid { constraint, tree })
         }
-        Found::Saturated(_, _) => Ok(Outcome::Unknown {
+        Found::Saturated(_) => Ok(Outcome::Unknown {
             why: Why::Saturated,
             run,
         }),
@@ -135,19 +154,36 @@ pub fn ended(alloc: Global, found: Found, run: Run) -> Result<Outcome, Memory>
     }
 }
 
-/// The outcome of a run that was cut.
-pub fn stopped(fault: StepFault, run: Run) -> Result<Outcome, Memory>
-    ensures { result ≡ stopped_by fault run }
+/// The outcome of a run that found this, and stood there, without its tree.
+pub fn without_tree(found: Found, run: Run) -> Decided
+    ensures { result ≡ decided_of found run }
+{
+    match found {
+        Found::Valid(tree, _, solution) => Decided::Valid {
+            constraint: tree.constraint,
+            solution,
+        },
+        Found::Invalid(tree, _, _) => Decided::Invalid {
+            constraint: tree.constraint,
+        },
+        Found::Saturated(_) => Decided::Unknown {
+            why: Why::Saturated,
+            run,
+        },
+        Found::Branch => Decided::Unknown {
+            why: Why::Branch,
+            run,
+        },
+    }
+}
+
+/// Why a run was cut that has met this.
+pub fn stopped(fault: StepFault) -> Result<Why, Memory>
+    ensures { result ≡ stopped_by fault }
 {
     match fault {
-        StepFault::Steps => Ok(Outcome::Unknown {
-            why: Why::Steps,
-            run,
-        }),
-        StepFault::Overflow(place) => Ok(Outcome::Unknown {
-            why: Why::Overflow(place),
-            run,
-        }),
+        StepFault::Steps => Ok(Why::Steps),
+        StepFault::Overflow(place) => Ok(Why::Overflow(place)),
         StepFault::Memory => Err(Memory),
     }
 }

@@ -11,6 +11,6 @@ mod laws;
 mod run;
 mod walk;
 
-pub use judge::Outcome;
+pub use judge::{Decided, Outcome};
 pub use laws::{answer_law, canonical_law, closed_law, one_end_law, pure_law};
-pub use run::prove;
+pub use run::{decide, prove};

@@ -3,20 +3,18 @@
 ghost use Rattle.formula.specs.Form.{IsFormOver};
 ghost use Rattle.formula.specs.Sizes.{depth, size};
 ghost use Rattle.formula.specs.Tree.{form};
-ghost use Rattle.purse.specs.Followed.{Followed};
-ghost use Rattle.search.specs.Course.{noted};
-ghost use Rattle.search.specs.Outcomes.{EndsAs};
-ghost use Rattle.search.specs.Rounds.{HasTree, round_as, run_as};
+ghost use Rattle.search.specs.Outcomes.{DecidesAs, EndsAs, IsRun};
+ghost use Rattle.search.specs.Rounds.{IsAnswer};
 ghost use Rattle.search.specs.Run.{canonical_run, one_round};
-ghost use Rattle.search.specs.Walking.{IfBuilt};
-ghost use Rattle.std.specs.Prelude.{◌≡◌, ◌+◌, ◌<◌, ◌≤◌, ◌^◌, IfOk};
+ghost use Rattle.search.specs.Walking.{Gets, Makes};
+ghost use Rattle.std.specs.Prelude.{◌≡◌, ◌+◌, ◌<◌, ◌≤◌, ◌^◌};
 
 use super::course::Course;
-use super::judge::{Found, Outcome, conclude, ended, solution, stopped};
-use super::walk::build;
+use super::judge::{Decided, Found, Outcome, conclude, ended, solution, stopped, without_tree};
+use super::walk::{Plan, build};
 use formula::Core;
 use linear_term::Memory;
-use open_branch::Branch;
+use open_branch::{Branch, Passed};
 use proof_tree::{Run, know_reduced};
 use purse::{Purse, StepFault};
 use sequent::start;
@@ -28,6 +26,7 @@ fn one_round(
     root: &Core,
     constants: u32,
     limit: u32,
+    keeps: bool,
     course: &mut Course,
     purse: &mut Purse,
 ) -> Result<Option<Found>, StepFault>
@@ -36,15 +35,19 @@ fn one_round(
     requires depth { depth (form root.now) ≤ 2000 }
     requires constants { constants ≤ 1000 }
     requires budget { purse.old.budget < 2 ^ 32 }
-    ensures work { Followed noted (one_round (form root.now) constants limit) purse.old course.old (round_as result) purse.new course.new }
-    ensures tree { IfBuilt result (λ found. HasTree (form root.now) constants found) }
+    ensures { Makes (IsAnswer keeps (form root.now) constants) (one_round (form root.now) constants limit) purse.old course.old result purse.new course.new }
 {
     course.begin_round(limit, alloc);
     let before = purse.spent();
     let s = start(alloc, root, constants)?;
     know_reduced(&s);
     let mut branch = Branch::at(alloc, s)?;
-    match build(alloc, &mut branch, limit, 2000, course, purse)? {
+    let plan = Plan {
+        limit,
+        keeps,
+        passed: Passed::new(),
+    };
+    match build(alloc, &mut branch, &plan, 2000, course, purse)? {
         Some(tree) => {
             let charged = purse.spent() - before;
             let solved = solution(alloc, &tree.constraint, constants, course, purse)?;
@@ -60,6 +63,7 @@ fn all_rounds(
     alloc: Global,
     root: &Core,
     constants: u32,
+    keeps: bool,
     course: &mut Course,
     purse: &mut Purse,
 ) -> Result<Found, StepFault>
@@ -69,16 +73,42 @@ fn all_rounds(
     requires constants { constants ≤ 1000 }
     requires budget { purse.old.budget < 2 ^ 32 }
     requires funds { purse.old.spent ≤ purse.old.budget }
-    ensures work { Followed noted (canonical_run (form root.now) constants purse.old.budget) purse.old course.old (run_as result) purse.new course.new }
-    ensures tree { IfOk result (λ found. HasTree (form root.now) constants found) }
+    ensures { Gets (IsAnswer keeps (form root.now) constants) (canonical_run (form root.now) constants purse.old.budget) purse.old course.old result purse.new course.new }
 {
     let mut limit: u32 = 0;
     loop {
-        if let Some(found) = one_round(alloc, root, constants, limit, course, purse)? {
+        if let Some(found) = one_round(alloc, root, constants, limit, keeps, course, purse)? {
             return Ok(found);
         }
         limit += 1;
     }
+}
+
+/// The canonical run on what is left in the purse: what it finds or meets, and where it stands then.
+fn whole(
+    alloc: Global,
+    root: &Core,
+    constants: u32,
+    keeps: bool,
+    purse: &mut Purse,
+) -> (Result<Found, StepFault>, Run)
+    requires over { IsFormOver constants (form root.now) }
+    requires size { size (form root.now) ≤ 1000000 }
+    requires depth { depth (form root.now) ≤ 2000 }
+    requires constants { constants ≤ 1000 }
+    requires budget { purse.old.budget < 2 ^ 32 }
+    ensures { IsRun keeps (form root.now) constants purse.old result.0 result.1 purse.new }
+{
+    let mut course = Course::new(alloc);
+    let before = purse.spent();
+    let answer = all_rounds(alloc, root, constants, keeps, &mut course, purse);
+    let run = Run {
+        round: course.round,
+        nodes: course.nodes,
+        log: course.log,
+        spent: purse.spent() - before,
+    };
+    (answer, run)
 }
 
 /// Searches a proof of the root over its constants: the canonical run on what is left in the purse, and how it ends. Valid
@@ -99,17 +129,36 @@ pub fn prove(
     requires budget { purse.old.budget < 2 ^ 32 }
     ensures { EndsAs (form root.now) constants purse.old result purse.new }
 {
-    let mut course = Course::new(alloc);
-    let before = purse.spent();
-    let answer = all_rounds(alloc, root, constants, &mut course, purse);
-    let run = Run {
-        round: course.round,
-        nodes: course.nodes,
-        log: course.log,
-        spent: purse.spent() - before,
-    };
+    let (answer, run) = whole(alloc, root, constants, true, purse);
     match answer {
         Ok(found) => ended(alloc, found, run),
-        Err(fault) => stopped(fault, run),
+        Err(fault) => {
+            let why = stopped(fault)?;
+            Ok(Outcome::Unknown { why, run })
+        }
+    }
+}
+
+/// The same without the tree: it keeps the branch where it stands and the constraints that are to be put together, and no more.
+pub fn decide(
+    alloc: Global,
+    root: &Core,
+    constants: u32,
+    purse: &mut Purse,
+) -> Result<Decided, Memory>
+    requires over { IsFormOver constants (form root.now) }
+    requires size { size (form root.now) ≤ 1000000 }
+    requires depth { depth (form root.now) ≤ 2000 }
+    requires constants { constants ≤ 1000 }
+    requires budget { purse.old.budget < 2 ^ 32 }
+    ensures { DecidesAs (form root.now) constants purse.old result purse.new }
+{
+    let (answer, run) = whole(alloc, root, constants, false, purse);
+    match answer {
+        Ok(found) => Ok(without_tree(found, run)),
+        Err(fault) => {
+            let why = stopped(fault)?;
+            Ok(Decided::Unknown { why, run })
+        }
     }
 }

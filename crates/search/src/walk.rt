@@ -1,13 +1,13 @@
 // The trees of a round, depth first: one branch serves them all. A node takes its principal out of it and adds its new members
 // behind, and what a premise did is undone when it is left; the members are copied where a leaf is closed, and nowhere else.
+// Where trees are not kept, all that a finished node leaves is its constraint and whether a leaf below it is open.
 
+ghost use Rattle.open_branch.specs.Passed.{IsPassed};
 ghost use Rattle.open_branch.specs.Standing.{IsPrincipal, premises_from, rule_at, standing};
 ghost use Rattle.proof_tree.specs.Proof.{Proof};
-ghost use Rattle.purse.specs.Followed.{Followed};
 ghost use Rattle.purse.specs.Trace.{Traced};
 ghost use Rattle.search.specs.Building.{all_built, built, entered};
-ghost use Rattle.search.specs.Course.{noted};
-ghost use Rattle.search.specs.Walking.{AreNumbered, IfBuilt, IsNumbered, all_as, built_as};
+ghost use Rattle.search.specs.Walking.{AreNumbered, IfBuilt, IsNumbered, Makes, listed};
 ghost use Rattle.node_steps.specs.Within.{IsWithin};
 ghost use Rattle.sequent.specs.Sequent as q;
 ghost use Rattle.sequent.specs.declared.member.Pick.TheVariants as pick;
@@ -18,21 +18,30 @@ use super::finishing::{finish, finish_closed};
 use clause_set::Dnf;
 use linear_term::Memory;
 use node_steps::{closing_fee, principal_fee};
-use open_branch::{Branch, Principal};
+use open_branch::{Branch, Passed, Principal};
 use proof_tree::Node;
 use purse::{Purse, StepFault};
 use sqlite_items::Items;
 use std::alloc::Global;
 
-/// A tree: its root, the constraint of that, and whether a leaf is open.
+/// How a round goes on below a node: its limit on the uses of gamma, whether trees are kept, and which members from the front
+/// are known to fit no rule.
+#[derive(Drop)]
+pub struct Plan {
+    pub limit: u32,
+    pub keeps: bool,
+    pub passed: Passed,
+}
+
+/// A tree: its root where trees are kept, the constraint of that, and whether a leaf is open.
 #[derive(Drop)]
 pub struct Built {
-    pub root: Node,
+    pub root: Option<Node>,
     pub constraint: Dnf,
     pub has_open: bool,
 }
 
-/// The trees of a node's premises, their constraints, and whether a leaf is open.
+/// The trees of a node's premises where trees are kept, their constraints, and whether a leaf is open.
 #[derive(Drop)]
 pub struct Children {
     pub nodes: Items<Node>,
@@ -54,7 +63,7 @@ impl Children {
 
     /// One more tree.
     fn push(&mut self, child: Built) -> Result<(), Memory>
-        ensures nodes { OnOk result (self.new.nodes ≡ self.old.nodes ++ child.root ∷ []) }
+        ensures nodes { OnOk result (self.new.nodes ≡ self.old.nodes ++ listed child.root) }
         ensures constraints { OnOk result (self.new.constraints ≡ self.old.constraints ++ child.constraint ∷ []) }
         ensures has_open { OnOk result (self.new.has_open ≡ (self.old.has_open || child.has_open)) }
     {
@@ -63,38 +72,45 @@ impl Children {
             constraint,
             has_open,
         } = child;
-        self.nodes.push(root)?;
+        if let Some(node) = root {
+            self.nodes.push(node)?;
+        }
         self.constraints.push(constraint)?;
         self.has_open = self.has_open || has_open;
         Ok(())
     }
 }
 
-/// The canonical tree of the sequent where the branch stands, at a limit on the uses of gamma; none where a branch has more than
+/// The canonical tree of the sequent where the branch stands, at the limit of the plan; none where a branch has more than
 /// `left` nodes. The nodes are numbered as they are entered. Where there is a tree, the branch is what it was.
 #[cycle(build)]
 pub fn build(
     alloc: Global,
     branch: &mut Branch,
-    limit: u32,
+    plan: &Plan,
     left: u32,
     course: &mut Course,
     purse: &mut Purse,
 ) -> Result<Option<Built>, StepFault>
     requires within { IsWithin left (standing branch.old) }
+    requires passed { IsPassed plan.now.limit branch.old plan.now.passed }
     requires budget { purse.old.budget < 2 ^ 32 }
     requires funds { purse.old.spent ≤ purse.old.budget }
     requires paid { course.old.nodes ≤ purse.old.spent }
-    ensures work { Followed noted (built limit left course.old.nodes (standing branch.old)) purse.old course.old (built_as result) purse.new course.new }
-    ensures tree { IfBuilt result (λ b. IsNumbered (standing branch.old) course.old.nodes course.new.nodes purse.new.spent b) }
+    ensures work { Makes (IsNumbered plan.now.keeps (standing branch.old) course.old.nodes course.new.nodes purse.new.spent) (built plan.now.limit left course.old.nodes (standing branch.old)) purse.old course.old result purse.new course.new }
     ensures back { IfBuilt result (λ b. branch.new ≡ branch.old) }
 {
     if left == 0 {
         return Ok(None);
     }
-    match branch.principal(limit) {
-        Some(principal) => grow(alloc, branch, &principal, limit, left - 1, course, purse),
-        None => close(alloc, branch, course, purse),
+    let plan = Plan {
+        limit: plan.limit,
+        keeps: plan.keeps,
+        passed: branch.pass(plan.limit, &plan.passed),
+    };
+    match branch.principal(plan.limit, &plan.passed) {
+        Some(principal) => grow(alloc, branch, &principal, &plan, left - 1, course, purse),
+        None => close(alloc, branch, plan.keeps, course, purse),
     }
 }
 
@@ -103,6 +119,7 @@ pub fn build(
 fn close(
     alloc: Global,
     branch: &Branch,
+    keeps: bool,
     course: &mut Course,
     purse: &mut Purse,
 ) -> Result<Option<Built>, StepFault>
@@ -110,13 +127,12 @@ fn close(
     requires budget { purse.old.budget < 2 ^ 32 }
     requires funds { purse.old.spent ≤ purse.old.budget }
     requires paid { course.old.nodes ≤ purse.old.spent }
-    ensures work { (f : ℕ → q.Sequent → Traced (Option Proof)) → Followed noted (entered f course.old.nodes (standing branch.now) pick.Close) purse.old course.old (built_as result) purse.new course.new }
-    ensures tree { IfBuilt result (λ b. IsNumbered (standing branch.now) course.old.nodes course.new.nodes purse.new.spent b) }
+    ensures { (f : ℕ → q.Sequent → Traced (Option Proof)) → Makes (IsNumbered keeps (standing branch.now) course.old.nodes course.new.nodes purse.new.spent) (entered f course.old.nodes (standing branch.now) pick.Close) purse.old course.old result purse.new course.new }
 {
     course.enter(alloc);
     let s = branch.copied(alloc)?;
     purse.step(closing_fee(&s))?;
-    finish_closed(alloc, &s, branch.has_open_member(), course, purse)
+    finish_closed(alloc, &s, branch.has_open_member(), keeps, course, purse)
 }
 
 /// The canonical tree whose root has the rule with this principal.
@@ -125,24 +141,27 @@ fn grow(
     alloc: Global,
     branch: &mut Branch,
     principal: &Principal,
-    limit: u32,
+    plan: &Plan,
     left: u32,
     course: &mut Course,
     purse: &mut Purse,
 ) -> Result<Option<Built>, StepFault>
     requires principal { IsPrincipal branch.old principal.now }
+    requires passed { IsPassed plan.now.limit branch.old plan.now.passed }
+    requires behind { plan.now.passed.count ≤ principal.now.index }
     requires within { IsWithin (left + 1) (standing branch.old) }
     requires budget { purse.old.budget < 2 ^ 32 }
     requires funds { purse.old.spent ≤ purse.old.budget }
     requires paid { course.old.nodes ≤ purse.old.spent }
-    ensures work { Followed noted (entered (built limit left) course.old.nodes (standing branch.old) (rule_at principal.now.shape principal.now.index)) purse.old course.old (built_as result) purse.new course.new }
-    ensures tree { IfBuilt result (λ b. IsNumbered (standing branch.old) course.old.nodes course.new.nodes purse.new.spent b) }
+    ensures work { Makes (IsNumbered plan.now.keeps (standing branch.old) course.old.nodes course.new.nodes purse.new.spent) (entered (built plan.now.limit left) course.old.nodes (standing branch.old) (rule_at principal.now.shape principal.now.index)) purse.old course.old result purse.new course.new }
     ensures back { IfBuilt result (λ b. branch.new ≡ branch.old) }
 {
     course.enter(alloc);
     purse.step(principal_fee(branch, principal))?;
-    match build_all(alloc, branch, principal, limit, left, course, purse)? {
-        Some(children) => finish(alloc, branch, principal, children, course, purse),
+    match build_all(alloc, branch, principal, plan, left, course, purse)? {
+        Some(children) => finish(
+            alloc, branch, principal, children, plan.keeps, course, purse,
+        ),
         None => Ok(None),
     }
 }
@@ -153,24 +172,25 @@ fn build_all(
     alloc: Global,
     branch: &mut Branch,
     principal: &Principal,
-    limit: u32,
+    plan: &Plan,
     left: u32,
     course: &mut Course,
     purse: &mut Purse,
 ) -> Result<Option<Children>, StepFault>
     requires principal { IsPrincipal branch.old principal.now }
+    requires passed { IsPassed plan.now.limit branch.old plan.now.passed }
+    requires behind { plan.now.passed.count ≤ principal.now.index }
     requires within { IsWithin (left + 1) (standing branch.old) }
     requires budget { purse.old.budget < 2 ^ 32 }
     requires funds { purse.old.spent ≤ purse.old.budget }
     requires paid { course.old.nodes ≤ purse.old.spent }
-    ensures work { Followed noted (all_built (built limit left) course.old.nodes (premises_from branch.old principal.now) []) purse.old course.old (all_as result) purse.new course.new }
-    ensures trees { IfBuilt result (λ c. AreNumbered (premises_from branch.old principal.now) course.old.nodes course.new.nodes purse.new.spent c) }
+    ensures work { Makes (AreNumbered plan.now.keeps (premises_from branch.old principal.now) course.old.nodes course.new.nodes purse.new.spent) (all_built (built plan.now.limit left) course.old.nodes (premises_from branch.old principal.now) []) purse.old course.old result purse.new course.new }
     ensures back { IfBuilt result (λ c. branch.new ≡ branch.old) }
 {
     let mut children = Children::new(alloc);
     for i in 0..branch.width(principal) {
         let entered = branch.enter(alloc, principal, i)?;
-        match build(alloc, branch, limit, left, course, purse)? {
+        match build(alloc, branch, plan, left, course, purse)? {
             Some(child) => {
                 branch.leave(entered);
                 children.push(child)?;

@@ -9,12 +9,12 @@ returns-in_err-more c =
     left_err (map form) (map form) _ _ _ c.from_residual.ensures.1
     (later_next c.args.members.now c.loop-i.i _ c.loop-i.out _ (omega arith) c.index-members-i.is c.loop-i.invariant) (later_made c.args.members.now c.loop-i.i _ _ c.index-members-i.is c.in_err-more.ensures)
 
-pub returns-in_err-append : goal.returns-in_err-append
-returns-in_err-append c = made_memory (map form) _ c.from_residual-in_err-append.ensures.1
+pub returns-in_err-put : goal.returns-in_err-put
+returns-in_err-put c = made_memory (map form) _ c.from_residual-in_err-put.ensures.1
 
 pub loop-i-preserved : goal.loop-i-preserved
 loop-i-preserved c =
-    later_appended _ c.loop-i.out _ _ _ c.in_ok-append.ensures
+    later_appended _ c.loop-i.out _ _ _ c.in_ok-put.ensures
     (left_made (map form) _ _ (later_next c.args.members.now c.loop-i.i _ c.loop-i.out _ (omega arith) c.index-members-i.is c.loop-i.invariant) (later_made c.args.members.now c.loop-i.i _ _ c.index-members-i.is c.in_ok-more.ensures))
 
 pub returns : goal.returns

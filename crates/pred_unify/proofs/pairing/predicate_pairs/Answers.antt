@@ -9,12 +9,12 @@ returns-in_err-more c =
     left_err (map form) (map form) _ _ _ c.from_residual.ensures.1
     (each_next _ c.args.members.now c.loop-m.m-index _ c.loop-m.out _ (omega arith) c.m-item.is c.loop-m.invariant) c.in_err-more.ensures
 
-pub returns-in_err-append : goal.returns-in_err-append
-returns-in_err-append c = made_memory (map form) _ c.from_residual-in_err-append.ensures.1
+pub returns-in_err-put : goal.returns-in_err-put
+returns-in_err-put c = made_memory (map form) _ c.from_residual-in_err-put.ensures.1
 
 pub loop-m-preserved : goal.loop-m-preserved
 loop-m-preserved c =
-    each_appended _ _ c.loop-m.out _ _ _ c.in_ok-append.ensures
+    each_appended _ _ c.loop-m.out _ _ _ c.in_ok-put.ensures
     (left_made (map form) _ _ (each_next _ c.args.members.now c.loop-m.m-index _ c.loop-m.out _ (omega arith) c.m-item.is c.loop-m.invariant) c.in_ok-more.ensures)
 
 pub returns : goal.returns

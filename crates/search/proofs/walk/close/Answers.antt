@@ -10,15 +10,15 @@ use Rattle.sequent.specs.declared.member.Sequent as code
 use Rattle.std.specs.List.{list_any}
 use Rattle.sequent.specs.Leaf.{is_open}
 use Rattle.open_branch.specs.Standing.{held, standing}
-use Rattle.search.proofs.Growing.{closed_numbered, node_closed, node_memory, node_unpaid}
+use Rattle.search.proofs.Growing.{leaf_made, node_memory, node_unpaid}
 use Rattle.node_steps.proofs.Keeping.{within_depth, within_room}
 use Rattle.search.proofs.walk.close.Goals as goal
 
-pub returns-in_err-s-clause-work : goal.returns-in_err-s-clause-work
-returns-in_err-s-clause-work c = λ f. node_memory f (standing c.args.branch.now) Close c.args.course.now c.from_residual.result c.from_residual.ensures.1
+pub returns-in_err-s : goal.returns-in_err-s
+returns-in_err-s c = λ f. node_memory f (standing c.args.branch.now) Close c.args.course.now c.from_residual.result c.from_residual.ensures.1
 
-pub returns-in_err-step-clause-work : goal.returns-in_err-step-clause-work
-returns-in_err-step-clause-work c = λ f.
+pub returns-in_err-step : goal.returns-in_err-step
+returns-in_err-step c = λ f.
     let s = standing c.args.branch.now in
     node_unpaid f s Close c.args.course.now c.from_residual-in_err-step.result (c.enter.ensures c.args.course.now.nodes) c.from_residual-in_err-step.ensures.1
     (c.in_err-step.ensures (fee s Close) (c.closing_fee.ensures ∙ ap (λ (q : code.Sequent). capped (fee (sequent_of q) Close)) c.in_ok-s.ensures))
@@ -38,15 +38,8 @@ finish_closed-requires-clause-budget c =
 pub finish_closed-requires-clause-open : goal.finish_closed-requires-clause-open
 finish_closed-requires-clause-open c = c.has_open_member.ensures ∙ ap (λ (q : code.Sequent). list_any (λ m. is_open m.formula) (sequent_of q).members) (sym c.in_ok-s.ensures)
 
-pub returns-clause-work : goal.returns-clause-work
-returns-clause-work c = λ f.
+pub returns : goal.returns
+returns c = λ f.
     let s = standing c.args.branch.now in
-    node_closed f s (sequent_of c.in_ok-s.s) c.args.course.now (ap sequent_of c.in_ok-s.ensures) (c.enter.ensures c.args.course.now.nodes)
-    (c.in_ok-step.ensures (fee s Close) (c.closing_fee.ensures ∙ ap (λ (q : code.Sequent). capped (fee (sequent_of q) Close)) c.in_ok-s.ensures)) (c.finish_closed.ensures.work c.args.course.now.nodes)
-
-pub returns-clause-tree : goal.returns-clause-tree
-returns-clause-tree c =
-    let s = standing c.args.branch.now in
-    closed_numbered s (sequent_of c.in_ok-s.s) c.args.course.now c.finish_closed.result (ap sequent_of c.in_ok-s.ensures) (c.enter.ensures c.args.course.now.nodes) c.requires.funds c.requires.paid
-    (c.in_ok-step.ensures (fee s Close) (c.closing_fee.ensures ∙ ap (λ (q : code.Sequent). capped (fee (sequent_of q) Close)) c.in_ok-s.ensures)) (c.finish_closed.ensures.work c.args.course.now.nodes) c.finish_closed.ensures.tree c.finish_closed.ensures.size
-    c.finish_closed.ensures.nodes
+    leaf_made c.args.keeps f s (sequent_of c.in_ok-s.s) c.args.course.now c.finish_closed.result (ap sequent_of c.in_ok-s.ensures) (c.enter.ensures c.args.course.now.nodes) c.requires.funds c.requires.paid
+    (c.in_ok-step.ensures (fee s Close) (c.closing_fee.ensures ∙ ap (λ (q : code.Sequent). capped (fee (sequent_of q) Close)) c.in_ok-s.ensures)) (c.finish_closed.ensures c.args.course.now.nodes)

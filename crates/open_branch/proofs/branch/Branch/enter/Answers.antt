@@ -3,6 +3,7 @@ use Rattle.std.specs.List.{remove, slice_get}
 use Rattle.sequent.proofs.Premising.{length-premises, premise_is, room_below, room_over, room_used}
 use Rattle.open_branch.specs.Standing.{held, members_in, undone}
 use Rattle.open_branch.proofs.Held.{leads_back, member_got, others_are, premises_are}
+use Rattle.open_branch.proofs.Idle.{passed_entered}
 use Rattle.open_branch.proofs.branch.Branch.enter.Goals as goal
 
 pub branch-alloc-requires-clause-over : goal.branch-alloc-requires-clause-over
@@ -50,3 +51,10 @@ returns-clause-back c =
     let same = c.len.ensures in
     leads_back (record { pushed = c.len.result; count = b.count }) (record { list = two; count = c.count_after-self.result }) b c.unlink.new.self two c.args.principal.now.at c.unlink.ensures.unlinked (omega (arith, few, same))
     (ap (λ n. undone n two) same ∙ c.in_ok-push_all.ensures.back) refl refl
+
+pub returns-clause-passed : goal.returns-clause-passed
+returns-clause-passed c =
+    let b = c.args.self.now in
+    let h = c.requires.principal in
+    let more = c.in_ok-push_all.ensures.behind in
+    passed_entered b (record { list = c.push_all.new.list; count = c.count_after-self.result }) c.args.principal.now h more.0 (more.1 ∙ ap (λ is. is ++ more.0) (c.unlink.ensures.others h.before h.member h.behind h.whole))

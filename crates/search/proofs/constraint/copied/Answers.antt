@@ -1,9 +1,0 @@
-use Rattle.purse.specs.Trace.{just}
-use Rattle.search.proofs.Closing.{copied_made, no_leaf}
-use Rattle.search.proofs.constraint.copied.Goals as goal
-
-pub returns-in-Ok : goal.returns-in-Ok
-returns-in-Ok c = λ d b is. copied_made d c.in-Ok.constraint b c.unlogged.ensures (rw c.in-Ok.is at is)
-
-pub returns-in-Err : goal.returns-in-Err
-returns-in-Err c = λ d b is. no_leaf (just d) b
