@@ -49,7 +49,7 @@ not_true P b t f = absurd (cc)
 residue_same : (b y d z k x : ℤ) → b ≡ y → d ≡ z → k ≡ x → residue_work b d k ≡ residue_work y z x
 residue_same b y d z k x e f g = ap (λ v. residue_work v d k) e ∙ ap (λ v. residue_work y v k) f ∙ ap (λ v. residue_work y z v) g
 
-at_literal : (j : ℕ) (l : Literal) (t : Linear) (b d k : ℤ) → t ≡ term_of l → b ≡ coef_of t j → d ≡ divisor_of l → k ≡ t.constant → residue_work b d k ≡ residue_work (coef_of (term_of l) j) (divisor_of l) (term_of l).constant
+pub at_literal : (j : ℕ) (l : Literal) (t : Linear) (b d k : ℤ) → t ≡ term_of l → b ≡ coef_of t j → d ≡ divisor_of l → k ≡ t.constant → residue_work b d k ≡ residue_work (coef_of (term_of l) j) (divisor_of l) (term_of l).constant
 at_literal j l t b d k is first second third =
     residue_same b (coef_of (term_of l) j) d (divisor_of l) k (term_of l).constant (first ∙ ap (λ z. coef_of z j) is) second (third ∙ ap (λ (z : Linear). z.constant) is)
 
@@ -65,7 +65,7 @@ class_done j l t b d k m lo hi r is first second third did rest =
     subst (λ w. Worked w r) (class_then j (divisor_of l) (term_of l) (λ y n. two_between y n lo hi))
     (work_ok _ _ (subst (λ w. Worked w (Ok m)) (at_literal j l t b d k is first second third) did) (subst (λ y. Worked (two_between y m lo hi) r) second rest))
 
-class_behind : (j : ℕ) (l : Literal) (ls : List Literal) → IsAlone j l → is_divisibility j l ≡ false → class_of j (l ∷ ls) ≡ class_of j ls
+pub class_behind : (j : ℕ) (l : Literal) (ls : List Literal) → IsAlone j l → is_divisibility j l ≡ false → class_of j (l ∷ ls) ≡ class_of j ls
 class_behind j (Eq t) ls a n = refl
 class_behind j (Geq t) ls a n = refl
 class_behind j (Div d t) ls a n = not_true _ _ (single-mentions j a.0 t a.1) n
@@ -91,12 +91,12 @@ divisibility_alone j l h a = subst (IsAlone j) (divisibility_is j l h) a
 pub divisibility_divisor : (j : ℕ) (l : Literal) → is_divisibility j l ≡ true → HasDivisor l → IsDivisor (divisor_of l)
 divisibility_divisor j l h k = subst HasDivisor (divisibility_is j l h) k
 
-class_here : (j : ℕ) (ls : List Literal) (i : ℕ) (l : Literal) → i < length ls → l ≡ get_or ls i l → is_divisibility j l ≡ true
+pub class_here : (j : ℕ) (ls : List Literal) (i : ℕ) (l : Literal) → i < length ls → l ≡ get_or ls i l → is_divisibility j l ≡ true
     → class_of j (drop i ls) ≡ class_of j ls → solutions j (divisor_of l) (term_of l) ≡ class_of j ls
 class_here j ls i l lt is h before =
     sym (ap (class_of j) (drop-item ls i l lt is) ∙ ap (λ y. class_of j (y ∷ drop (i + 1) ls)) (divisibility_is j l h)) ∙ before
 
-class_none : (j : ℕ) (ls : List Literal) (i : ℕ) → length ls ≤ i → class_of j (drop i ls) ≡ class_of j ls → class_of j ls ≡ just (record { modulus = pos 1; residue = pos 0 })
+pub class_none : (j : ℕ) (ls : List Literal) (i : ℕ) → length ls ≤ i → class_of j (drop i ls) ≡ class_of j ls → class_of j ls ≡ just (record { modulus = pos 1; residue = pos 0 })
 class_none j ls i le h = sym h ∙ ap (class_of j) (drop_all ls i le)
 
 -- the candidates in the class of the literal at i, the first divisibility, and where there is none

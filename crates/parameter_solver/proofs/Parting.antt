@@ -70,13 +70,13 @@ merge_place j i k c h g =
     both _ _ l (both _ _ (position-got (is_divisibility j) c i h)
     (ap (passes (is_divisibility j)) (sym (get-drop c (i + 1) k)) ∙ position-got (is_divisibility j) (drop (i + 1) c) k g))
 
-any_place : (p : Literal → Bool) (c : List Literal) (i : ℕ) → position p c ≡ Some i → list_any p c ≡ true
+pub any_place : (p : Literal → Bool) (c : List Literal) (i : ℕ) → position p c ≡ Some i → list_any p c ≡ true
 any_place p c i h =
     let d : Literal = Geq (number (pos 0)) in
     let k = position-Some p c i d h in
     any-got p c i (get_or c i d) (slice_get-get_or c i d k.0) k.1
 
-no_place : (p : Literal → Bool) (c : List Literal) → position p c ≡ None → list_any p c ≡ false
+pub no_place : (p : Literal → Bool) (c : List Literal) → position p c ≡ None → list_any p c ≡ false
 no_place p c h = none-any p c (position-none p c h)
 
 -- ---- what the first split leaves

@@ -6,7 +6,7 @@ ghost use Rattle.std.specs.Prelude.{All};
 use clause_set::Clause;
 
 /// Clauses are normal forms.
-pub(crate) fn know_clauses(cs: &[Clause])
+pub fn know_clauses(cs: &[Clause])
     ensures { All IsClause cs.now }
 {
     for c in cs {

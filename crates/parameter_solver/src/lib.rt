@@ -11,5 +11,9 @@ mod solving;
 mod steps;
 mod values;
 
+pub use knowing::know_clauses;
+pub use numbers::is_at_most;
 pub use over::is_over;
-pub use solving::{Solved, solve};
+pub use single::{at_root, lower, residue, upper};
+pub use solving::{Solved, names_from, solve};
+pub use steps::{equation_place, split};

@@ -67,7 +67,8 @@ fn below_zero(hi: Option<i128>) -> i128
     }
 }
 
-fn is_at_most(v: i128, hi: Option<i128>) -> bool
+/// Whether v is at most a bound; one that is missing forbids nothing.
+pub fn is_at_most(v: i128, hi: Option<i128>) -> bool
     ensures { result ≡ is_at_most v hi }
 {
     match hi {

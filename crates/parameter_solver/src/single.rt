@@ -25,7 +25,7 @@ use sqlite_items::Items;
 use std::alloc::Global;
 
 /// The greatest lower bound of j.
-fn lower(c: &Clause, j: u32) -> Option<i128>
+pub fn lower(c: &Clause, j: u32) -> Option<i128>
     ensures exact { result ≡ lower j c.now }
     ensures range { IfSome result (λ k. InRange k) }
 {
@@ -36,7 +36,7 @@ fn lower(c: &Clause, j: u32) -> Option<i128>
 }
 
 /// The least upper bound of j.
-fn upper(c: &Clause, j: u32) -> Option<i128>
+pub fn upper(c: &Clause, j: u32) -> Option<i128>
     ensures exact { result ≡ upper j c.now }
     ensures range { IfSome result (λ k. InRange k) }
 {
@@ -44,7 +44,7 @@ fn upper(c: &Clause, j: u32) -> Option<i128>
 }
 
 /// −u·k modulo d, where u·b is 1 modulo d.
-fn residue(b: i128, d: i128, k: i128) -> Result<i128, StepFault>
+pub fn residue(b: i128, d: i128, k: i128) -> Result<i128, StepFault>
     requires positive { pos 0 <ℤ b }
     requires divisor { IsDivisor d }
     ensures work { Worked (next (compute (product (bezout b d).p k ∷ [])) (λ _. just (int_rem_euclid (neg_ℤ ((bezout b d).p *ℤ k)) d))) result }
@@ -101,7 +101,7 @@ pub(crate) fn bounded(alloc: Global, c: &Clause, j: u32) -> Result<Items<i128>, 
 }
 
 /// The candidate of the equation at i.
-pub(crate) fn at_root(alloc: Global, c: &Clause, j: u32, i: usize) -> Result<Items<i128>, StepFault>
+pub fn at_root(alloc: Global, c: &Clause, j: u32, i: usize) -> Result<Items<i128>, StepFault>
     requires alone { All (IsAlone j) c.now }
     requires equation { passes (is_equation j) (slice_get c.now i) ≡ true }
     ensures work { Worked (root_at j c.now (Some i)) result }

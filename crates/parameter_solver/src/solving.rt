@@ -31,7 +31,7 @@ pub enum Solved {
 }
 
 /// The k names from j on out of d, the last of them first.
-fn names_from(
+pub fn names_from(
     alloc: Global,
     d: &Dnf,
     j: u32,

@@ -22,7 +22,7 @@ use sqlite_items::Items;
 use std::alloc::Global;
 
 /// The place of the first equation with j.
-fn equation_place(ls: &[Literal], j: u32) -> Option<usize>
+pub fn equation_place(ls: &[Literal], j: u32) -> Option<usize>
     ensures { result ≡ position (is_equation j) ls.now }
 {
     ls.iter().position(|l| is_equation(l, j))
@@ -69,7 +69,7 @@ fn merged(
 
 /// The clauses that the first negated divisibility, or else the first two divisibilities, split the clause into; none
 /// where it is not split.
-fn split(
+pub fn split(
     alloc: Global,
     c: &Clause,
     j: u32,

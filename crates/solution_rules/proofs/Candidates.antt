@@ -130,7 +130,7 @@ root_at-candidates j c None e a at h = not_both (list_any (is_equation j) c) _ h
 root_at-candidates j c (Some i) e a at h = root_of-candidates j c i (slice_get c i) e a refl (position-got (is_equation j) c i at)
 
 -- ---- bounds and at most one divisibility
-class-positive : (j : ℕ) (c : List Literal) → AllByRecursion (IsAlone j) c → pos 0 <ℤ (class_of j c).value.modulus
+pub class-positive : (j : ℕ) (c : List Literal) → AllByRecursion (IsAlone j) c → pos 0 <ℤ (class_of j c).value.modulus
 unfolding next just step
 class-positive j [] a = omega (arith, ints)
 class-positive j (Eq t ∷ ls) a = class-positive j ls a.1

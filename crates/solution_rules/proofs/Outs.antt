@@ -84,7 +84,7 @@ taken_out-shaped : (x : ℕ) (c : List Literal) → IsFit c → AllByRecursion (
 unfolding taken_out
 taken_out-shaped x c h = rules_deep-shaped x (suc (measure x c)) c h
 
-exists_name-shaped : (x : ℕ) (d : List (List Literal)) → AreFormed d → AllByRecursion (All IsShaped) d → AllByRecursion (All IsShaped) (exists_name x d).value
+pub exists_name-shaped : (x : ℕ) (d : List (List Literal)) → AreFormed d → AllByRecursion (All IsShaped) d → AllByRecursion (All IsShaped) (exists_name x d).value
 unfolding next just step
 exists_name-shaped x d f s =
     tidied-kept (All IsShaped) _ (subst (AllByRecursion (All IsShaped)) (sym (each-value (taken_out x) d []))
@@ -94,7 +94,7 @@ exists_name-shaped x d f s =
 pub exists_name-met : (j x : ℕ) (d : List (List Literal)) (e : List ℤ) → Spans j (suc x) d → (dnf_truth (exists_name x d).value e ≡ true) ↔ IsMet d x e
 exists_name-met j x d e s = let o : IsOut x d (exists_name x d).value = exists_name-out x d (spans-formed (IsFrom j (suc x)) d s) in (o.back e, o.kept e)
 
-free_lacks : (x : ℕ) (d : List (List Literal)) → AllByRecursion (λ c. list_any (has x) c ≡ false) d → AllByRecursion (Lacks x) d
+pub free_lacks : (x : ℕ) (d : List (List Literal)) → AllByRecursion (λ c. list_any (has x) c ≡ false) d → AllByRecursion (Lacks x) d
 free_lacks x d h = kept-weaker (λ c. list_any (has x) c ≡ false) (Lacks x) (λ c k. any-none (has x) c k) d h
 
 pub exists_name-spans : (j x : ℕ) (d : List (List Literal)) → j ≤ x → Spans j (suc x) d → Spans j x (exists_name x d).value

@@ -1,0 +1,3 @@
+mod Sums
+pub mod Braced
+pub mod Limits
