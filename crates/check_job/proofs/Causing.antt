@@ -1,7 +1,6 @@
 -- Where each answer of `check` comes.
-use Rattle.std.proofs.Common.{◌≡◌, ◌≢◌, ◌∙◌, ◌⊎◌, inl, inr, ℕ, ℤ, List, [], ◌∷◌, ◌++◌, length, refl, sym, ap, subst, codes}
+use Rattle.std.proofs.Common.{◌≡◌, ◌≢◌, ◌∙◌, ◌⊎◌, inl, inr, ℕ, ℤ, List, [], ◌∷◌, ◌++◌, length, refl, sym, ap, codes}
 use Rattle.std.specs.Fmt.{decimal}
-use Rattle.linear_term.specs.declared.range.Place.{Place}
 use Rattle.proof_tree.specs.declared.node.Conclusion.{Conclusion}
 use Rattle.proof_tree.specs.declared.run.Verdict.TheVariants.{Valid, Invalid}
 use Rattle.proof_tree.specs.Proof.{Proof, given}
@@ -15,15 +14,17 @@ use Rattle.tree_checker.specs.Faults.{Check, accepted, wrong, too_costly, leaves
 use Rattle.encoding.specs.Problems.{problem_root}
 use Rattle.pri_typing.specs.declared.problem.Problem.{Problem}
 use Rattle.pri_printer.specs.Printed.{dnf_text}
-use Rattle.answers.specs.Answer.{Answer, line, placed, says_line, refused_answer, refused_proof_answer, unknown_answer}
+use Rattle.answers.specs.Answer.{Answer, line, says_line, refused_answer, refused_proof_answer}
 use Rattle.constraint_lines.specs.Lines.{valued_lines}
+use Rattle.problem_file.specs.Reads.{Refusal}
 use Rattle.problem_file.specs.Refusals.{refusal_name}
-use Rattle.problem_file.specs.Refused.{IsRefused, first, special, too_large}
+use Rattle.problem_file.proofs.Naming.{comes_of, not_large, not_unsupported}
+use Rattle.problem_file.specs.Refused.{ComesOf, IsRefused, first, special, too_large}
 use Rattle.problem_file.specs.Answers.{Poses, PosesOne, refused, unsupported, posed}
 use Rattle.problem_file.specs.Encoded.{AnswersEncoded, Fits, LeavesRange, large, leaves as outside, runs}
 use Rattle.problem_file.proofs.Answering.{one_of_file, posed_answered}
 use Rattle.problem_file.proofs.Encoded.{fitting_answered, one_of_encoded, same_encoded}
-use Rattle.check_job.specs.Causes.{AreProofCauses, Causes, IsJudged}
+use Rattle.check_job.specs.Causes.{AreProofCauses, Causes}
 use Rattle.check_job.specs.Checked.{AnswersProof, IsChecked, Judged, syntax, deep, node, range, cost, closed, valid, invalid}
 use Rattle.check_job.specs.Exactly.{HoldsProof}
 use Rattle.check_job.proofs.Exactly.{decided, same_row, status_of}
@@ -152,6 +153,12 @@ refused_status proof bytes a checked (first r h) = ap status_of (one_answer proo
 refused_status proof bytes a checked (special at h) = ap status_of (one_answer proof bytes a _ checked (unsupported at h refl))
 refused_status proof bytes a checked (too_large h) = ap status_of (one_answer proof bytes a _ checked (posed h.0 h.1 (large h.2 refl)))
 
+-- the text of a refusal of the problem's file comes of that refusal alone
+only_first : (proof bytes : List ℕ) (a : Answer) → IsChecked proof bytes a → (r : Refusal) → a ≡ refused_answer (refusal_name r) → IsRefused bytes → ComesOf bytes r
+only_first proof bytes a checked r e (first q h) = comes_of bytes a r q e h (one_answer proof bytes a _ checked (refused q h refl))
+only_first proof bytes a checked r e (special at h) = absurd (not_unsupported a r at e (one_answer proof bytes a _ checked (unsupported at h refl)))
+only_first proof bytes a checked r e (too_large h) = absurd (not_large a r e (one_answer proof bytes a _ checked (posed h.0 h.1 (large h.2 refl))))
+
 not_accepted : (p : Problem) (proof : List ℕ) (a : Answer) → (a.status ≡ 0) ⊎ (a.status ≡ 4) → (a.status ≡ 0 → HoldsProof p proof) → (¬ (HoldsProof p proof)) → a.status ≡ 4
 not_accepted p proof a (inl h) holds none = absurd (none (holds h))
 not_accepted p proof a (inr h) holds none = h
@@ -177,6 +184,7 @@ causes proof bytes a is = record {
   refuses = (refused_by proof bytes a is, refused_status proof bytes a is);
   never = never_one proof bytes a is;
   refused = λ r h. one_answer proof bytes a _ is (refused r h refl);
+  only = λ r e. only_first proof bytes a is r e (refused_by proof bytes a is (ap status_of e));
   unsupported = λ at h. one_answer proof bytes a _ is (unsupported at h refl);
   large = λ h. one_answer proof bytes a _ is (posed h.0 h.1 (large h.2 refl));
 }

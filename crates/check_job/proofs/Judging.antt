@@ -1,7 +1,7 @@
 -- What is told of a check is the answer to the problem and the proof.
 use Rattle.std.proofs.Common.{◌≡◌, ◌∙◌, ℕ, ℤ, List, length, Result, Ok, Err, IfOk, sym, ap, subst}
 use Rattle.linear_term.specs.declared.range.Memory.{Memory}
-use Rattle.formula.specs.Form.{Form}
+use Rattle.formula.specs.Form.{Form, IsFormOver}
 use Rattle.formula.specs.Tree.{form}
 use Rattle.elim_rules.specs.Whole.{AreOver}
 use Rattle.proof_tree.specs.declared.node.Conclusion.{Conclusion}
@@ -40,7 +40,7 @@ judged p e h proof x c charges a holds is = record { holds = holds; is = sym (ch
 pub fitting : (p : Problem) (e : Encoded) → IsEncoded p e → (proof : List ℕ) (k : Checked) → ChecksText (form e.root) e.constants proof (Ok k) → IsFitting p k
 fitting p e h proof k t =
     let j = judged p e h proof t.1 t.2 t.0 (accepted k.verdict) t.3 t.4.0 in
-    record { over = subst (AreOver (length p.existentials)) (sym t.4.1) (accepted_over p proof t.1 t.2 t.0 k.verdict j); values = values k.verdict j }
+    record { over = subst (AreOver (length p.existentials)) (sym t.4.1) (accepted_over p (subst (IsFormOver (length p.existentials)) h.root h.over) proof t.1 t.2 t.0 k.verdict j); values = values k.verdict j }
   where
     values : (v : Verdict) → Judged p proof t.1 t.2 t.0 (accepted v) → HasValues p v
     values (Valid vs) j = accepted_values p proof t.1 t.2 t.0 vs j

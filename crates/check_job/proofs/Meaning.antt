@@ -2,7 +2,7 @@
 use Rattle.std.proofs.Common.{◌≡◌, ◌≢◌, ◌∙◌, ℕ, ℤ, Bool, true, false, cond, ◌&&◌, nat_eq, List, length, Option, Some, None, refl, sym, ap, subst}
 use Rattle.typed_formula.specs.Truth.{Meaning}
 use Rattle.purse.specs.Trace.{Traced, just, next}
-use Rattle.formula.specs.Form.{Form, is_pure}
+use Rattle.formula.specs.Form.{Form, IsFormOver, is_pure}
 use Rattle.elim_rules.specs.Whole.{AreOver}
 use Rattle.sequent.proofs.Forming.{start_formed}
 use Rattle.proof_tree.specs.declared.node.Conclusion.{Conclusion}
@@ -42,9 +42,9 @@ pub proves : (p : Problem) (proof : List ℕ) (x : Proof) (c : Conclusion) (char
 proves p proof x c charges v j = (accepts_proofs (problem_root p).value (length p.existentials) x c charges v).0 j.is
 
 -- its constraint is over the existential constants
-pub accepted_over : (p : Problem) (proof : List ℕ) (x : Proof) (c : Conclusion) (charges : ℕ) (v : Verdict) → Judged p proof x c charges (accepted v) → AreOver (length p.existentials) (given x)
-accepted_over p proof x c charges v j =
-    (node_given _ x (start_formed (problem_root p).value (length p.existentials) (root_over p)) (problem_reduced p, tt) (proves p proof x c charges v j).tree).over
+pub accepted_over : (p : Problem) → IsFormOver (length p.existentials) (problem_root p).value → (proof : List ℕ) (x : Proof) (c : Conclusion) (charges : ℕ) (v : Verdict) → Judged p proof x c charges (accepted v) → AreOver (length p.existentials) (given x)
+accepted_over p over proof x c charges v j =
+    (node_given _ x (start_formed (problem_root p).value (length p.existentials) over) (problem_reduced p, tt) (proves p proof x c charges v j).tree).over
 
 -- and its values are as many
 pub accepted_values : (p : Problem) (proof : List ℕ) (x : Proof) (c : Conclusion) (charges : ℕ) (vs : List ℤ) → Judged p proof x c charges (accepted (Valid vs)) → length vs ≡ length p.existentials
@@ -52,13 +52,13 @@ accepted_values p proof x c charges vs j =
     (proves_valid (problem_root p).value (length p.existentials) x c charges vs (problem_reduced p) (proves p proof x c charges (Valid vs) j)).0
 
 -- it covers the encoding
-covers : (p : Problem) (proof : List ℕ) (x : Proof) (c : Conclusion) (charges : ℕ) (vs : List ℤ) → Judged p proof x c charges (accepted (Valid vs)) → CoversRoot p (given x) vs
-covers p proof x c charges vs j =
+covers : (p : Problem) → IsFormOver (length p.existentials) (problem_root p).value → (proof : List ℕ) (x : Proof) (c : Conclusion) (charges : ℕ) (vs : List ℤ) → Judged p proof x c charges (accepted (Valid vs)) → CoversRoot p (given x) vs
+covers p over proof x c charges vs j =
     let h = proves p proof x c charges (Valid vs) j in
     let v = proves_valid (problem_root p).value (length p.existentials) x c charges vs (problem_reduced p) h in
     record {
-      over = accepted_over p proof x c charges (Valid vs) j;
-      covers = root_covers (problem_root p).value (length p.existentials) x (root_over p) (problem_reduced p) h.tree;
+      over = accepted_over p over proof x c charges (Valid vs) j;
+      covers = root_covers (problem_root p).value (length p.existentials) x over (problem_reduced p) h.tree;
       many = v.0;
       satisfies = v.1;
     }
@@ -101,14 +101,14 @@ row_means w proof bytes p a poses (row.closed x c charges vs j none e) = record 
   accepted = λ z. record {
     problem = p;
     reads = poses.reads;
-    says = says.closed none (ap (λ b. b.text) e) (closed_holds w p (given x) vs (reads_formed bytes p poses.reads) (covers p proof x c charges vs j) none);
+    says = says.closed none (ap (λ b. b.text) e) (closed_holds w p (given x) vs (reads_formed bytes p poses.reads) (covers p (root_over p (reads_formed bytes p poses.reads)) proof x c charges vs j) none);
   };
 }
 row_means w proof bytes p a poses (row.valid x c charges vs text j some printed e) = record {
   accepted = λ z. record {
     problem = p;
     reads = poses.reads;
-    says = says.supported text vs some (ap (λ b. b.text) e) (supports w p (given x) vs text (reads_formed bytes p poses.reads) (covers p proof x c charges vs j) printed);
+    says = says.supported text vs some (ap (λ b. b.text) e) (supports w p (given x) vs text (reads_formed bytes p poses.reads) (covers p (root_over p (reads_formed bytes p poses.reads)) proof x c charges vs j) printed);
   };
 }
 row_means w proof bytes p a poses (row.invalid x c charges j e) =
@@ -119,7 +119,7 @@ row_means w proof bytes p a poses (row.invalid x c charges j e) =
         reads = poses.reads;
         says = says.refuted (ap (λ b. b.text) e)
             (lost_refuted p (reads_formed bytes p poses.reads) (invalid_pure (problem_root p).value (length p.existentials) (rule_of x) c (given x) h.conclusion)
-            (proves_invalid (problem_root p).value (length p.existentials) x c charges (root_over p) (problem_reduced p) h));
+            (proves_invalid (problem_root p).value (length p.existentials) x c charges (root_over p (reads_formed bytes p poses.reads)) (problem_reduced p) h));
       };
     }
 

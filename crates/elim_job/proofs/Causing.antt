@@ -4,7 +4,10 @@ use Rattle.clause_set.specs.declared.literal.Literal.{Literal}
 use Rattle.search.specs.Run.{Ending, ends_with, out_of_steps, overflows}
 use Rattle.pri_typing.specs.declared.problem.Problem.{Problem}
 use Rattle.answers.specs.Answer.{Answer, placed, refused_answer, unknown_answer}
+use Rattle.problem_file.specs.Reads.{Refusal}
 use Rattle.problem_file.specs.Refusals.{refusal_name}
+use Rattle.problem_file.specs.Refused.{ComesOf}
+use Rattle.problem_file.proofs.Naming.{comes_of, not_impure, not_large, not_unsupported}
 use Rattle.problem_file.specs.Answers.{Poses, refused, unsupported, posed}
 use Rattle.problem_file.specs.Encoded.{Fits, LeavesRange, impure, pure, large, leaves, runs}
 use Rattle.elim_job.specs.Eliminated.{AnswersEnd, made, steps, overflow, elimination_end, IsEliminated}
@@ -95,6 +98,13 @@ refused_status budget bytes a eliminated (cause.special at h) = ap status_of (on
 refused_status budget bytes a eliminated (cause.impure at h) = ap status_of (one_answer budget bytes a _ eliminated (posed h.0 h.1 (impure at h.2 refl)))
 refused_status budget bytes a eliminated (cause.too_large h) = ap status_of (one_answer budget bytes a _ eliminated (posed h.0 h.1 (pure h.2.0 (large h.2.1 refl))))
 
+-- the text of a refusal comes of that refusal alone
+only_first : (budget : ℕ) (bytes : List ℕ) (a : Answer) → IsEliminated budget bytes a → (r : Refusal) → a ≡ refused_answer (refusal_name r) → IsRefused bytes → ComesOf bytes r
+only_first budget bytes a eliminated r e (cause.first q h) = comes_of bytes a r q e h (one_answer budget bytes a _ eliminated (refused q h refl))
+only_first budget bytes a eliminated r e (cause.special at h) = absurd (not_unsupported a r at e (one_answer budget bytes a _ eliminated (unsupported at h refl)))
+only_first budget bytes a eliminated r e (cause.impure at h) = absurd (not_impure a r at e (one_answer budget bytes a _ eliminated (posed h.0 h.1 (impure at h.2 refl))))
+only_first budget bytes a eliminated r e (cause.too_large h) = absurd (not_large a r e (one_answer budget bytes a _ eliminated (posed h.0 h.1 (pure h.2.0 (large h.2.1 refl)))))
+
 out_of_range : (budget : ℕ) (bytes : List ℕ) (a : Answer) → IsEliminated budget bytes a → PosesPure bytes LeavesRange ⊎ Ends budget bytes IsOutOfRange → a ≡ unknown_answer (codes "overflow")
 out_of_range budget bytes a eliminated (inl h) = one_answer budget bytes a _ eliminated (posed h.0 h.1 (pure h.2.0 (leaves h.2.1 refl)))
 out_of_range budget bytes a eliminated (inr h) = ended budget bytes a h.0 _ eliminated h.1 h.2.0 h.2.1.0 h.2.1.1.2
@@ -116,6 +126,7 @@ causes budget bytes a eliminated = record {
   refuses = (refused_by budget bytes a eliminated, refused_status budget bytes a eliminated);
   never = never_invalid budget bytes a eliminated;
   refused = λ r h. one_answer budget bytes a _ eliminated (refused r h refl);
+  only = λ r e. only_first budget bytes a eliminated r e (refused_by budget bytes a eliminated (ap status_of e));
   unsupported = λ at h. one_answer budget bytes a _ eliminated (unsupported at h refl);
   impure = λ at h. one_answer budget bytes a _ eliminated (posed h.0 h.1 (impure at h.2 refl));
   large = λ h. one_answer budget bytes a _ eliminated (posed h.0 h.1 (pure h.2.0 (large h.2.1 refl)));

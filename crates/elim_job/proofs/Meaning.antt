@@ -61,14 +61,14 @@ ends_same v d (out_of_range numbers a) stands is = absurd cc
 -- ---- status 0
 
 -- the constraint that is made is over the existential constants
-pub made_over : (p : Problem) (d : List (List Literal)) → IsPure p → d ≡ (eliminating (length p.existentials) (problem_root p).value).value → AreOver (length p.existentials) d
-made_over p d without is = subst (AreOver (length p.existentials)) (sym is) (eliminating_over (length p.existentials) (problem_root p).value (root_presburger p without) (root_over p))
+pub made_over : (p : Problem) → IsFormOver (length p.existentials) (problem_root p).value → (d : List (List Literal)) → IsPure p → d ≡ (eliminating (length p.existentials) (problem_root p).value).value → AreOver (length p.existentials) d
+made_over p own d without is = subst (AreOver (length p.existentials)) (sym is) (eliminating_over (length p.existentials) (problem_root p).value (root_presburger p without) own)
 
 made_constrains : (w : Meaning) (bytes : List ℕ) (p : Problem) (d : List (List Literal)) (x text : List ℕ) → Reads bytes p → IsPure p
     → d ≡ (eliminating (length p.existentials) (problem_root p).value).value → IsTextOf p d x → text ≡ constraint_line x → Constrained w bytes text
 made_constrains w bytes p d x text reads without is printed e =
     let formed = reads_formed bytes p reads in
-    let over = made_over p d without is in
+    let over = made_over p (root_over p formed) d without is in
     record {
       problem = p;
       reads = reads;

@@ -8,6 +8,7 @@ use Rattle.pri_typing.specs.declared.problem.Problem.{Problem}
 use Rattle.answers.specs.Answer.{Answer, placed, refused_answer, unknown_answer}
 use Rattle.problem_file.specs.Reads.{Refusal, FirstRefusal}
 use Rattle.problem_file.specs.Refusals.{refusal_name}
+use Rattle.problem_file.specs.Refused.{ComesOf}
 use Rattle.problem_file.specs.Answers.{Poses, PosesOne, PosesUnsupported}
 use Rattle.problem_file.specs.Encoded.{Fits, IsLarge, LeavesRange}
 use Rattle.elim_job.specs.Eliminated.{elimination_end}
@@ -49,6 +50,7 @@ pub record Causes (budget : ℕ) (bytes : List ℕ) (answer : Answer) : Type 0 w
   pub refuses : (answer.status ≡ 3) ↔ IsRefused bytes
   pub never : answer.status ≢ 1
   pub refused : (r : Refusal) → FirstRefusal bytes r → answer ≡ refused_answer (refusal_name r)
+  pub only : (r : Refusal) → answer ≡ refused_answer (refusal_name r) → ComesOf bytes r
   pub unsupported : (at : ℕ) → PosesUnsupported bytes at → answer ≡ refused_answer (placed (codes "Unsupported") at)
   pub impure : (at : ℕ) → PosesImpure bytes at → answer ≡ refused_answer (placed (codes "Impure") at)
   pub large : PosesPure bytes IsLarge → answer ≡ refused_answer (codes "Large")

@@ -1,10 +1,12 @@
 -- The commands of the program, and what each finds in its line.
-use Rattle.std.proofs.Common.{◌≡◌, ◌∙◌, ◌&&◌, ℕ, Bool, true, false, List, [], ◌∷◌, map, Some, None, refl, sym, ap, codes}
+use Rattle.std.proofs.Common.{◌≡◌, ◌∙◌, ◌&&◌, ℕ, Bool, true, false, List, [], ◌∷◌, map, Option, Some, None, refl, sym, ap, codes}
 use Rattle.std.specs.List.{slice_index_or}
 use Rattle.clap.specs.Matches.{first_value, one_text}
 use Rattle.clap.specs.declared.parser.matches.Found.{Found}
-use Rattle.job_words.specs.Uses.{Text, listed, operands, times, values_of}
-use Rattle.job_words.specs.Jobs.{IsBudget, IsNumber, NamesCheck, NamesDrill, NamesElim, NamesSolve, budget_option, solve_options}
+use Rattle.answers.specs.declared.form.ProofForm.{ProofForm}
+use Rattle.answers.specs.declared.form.ProofForm.TheVariants.{Whole, Short}
+use Rattle.job_words.specs.Uses.{Text, listed, operands, tally, times, values_of}
+use Rattle.job_words.specs.Jobs.{IsBudget, IsNumber, NamesCheck, NamesDrill, NamesElim, NamesSolve, asks_short, asks_whole, budget_option, solve_options}
 use Rattle.job_words.specs.Shapes.{command_app}
 use Rattle.job_words.proofs.Accepted.{IsCommand}
 use Rattle.job_words.proofs.Answering.{budget_is, budget_once, flag_is, flag_once, one_flag, operand_is, operands_are}
@@ -21,10 +23,10 @@ check_is = record { is_built = refl; whole = refl; places = (refl, (refl, refl))
 
 -- ---- each option once at most
 
-pub solve_once : (line : List Text) (file : Text) (n : ℕ) (p s : Bool) (names : NamesSolve line file n p s) → OnceEach solve_options names.us
-solve_once line file n p s names = (
+pub solve_once : (line : List Text) (file : Text) (n : ℕ) (a : Option ProofForm) (names : NamesSolve line file n a) → OnceEach solve_options names.us
+solve_once line file n a names = (
   budget_once (values_of (codes "budget") names.us) n names.budget_is,
-  (flag_once (times (codes "proof") names.us) p names.proof_is, (flag_once (times (codes "short") names.us) s names.short_is, tt)),
+  (flag_once (times (codes "proof") names.us) (asks_whole a) names.proof_is, (flag_once (times (codes "short") names.us) (asks_short a) names.short_is, tt)),
 )
 
 pub elim_once : (line : List Text) (file : Text) (n : ℕ) (names : NamesElim line file n) → OnceEach budget_option names.us
@@ -36,26 +38,31 @@ elim_once line file n names = (budget_once (values_of (codes "budget") names.us)
 abbrev pub Raised : Found → Text → Bool → Type 0
 Raised f name given = (one_text f name ≡ Some (codes "true") → given ≡ true) × (one_text f name ≡ Some (codes "false") → given ≡ false)
 
-pub solve_named : (line : List Text) (f : Found) (file : Text) (n : ℕ) (p s : Bool) → Finds (codes "FILE" ∷ []) solve_options line f → Some file ≡ first_value f (codes "FILE") → IsBudget (listed (first_value f (codes "budget"))) n
-    → Raised f (codes "proof") p → Raised f (codes "short") s → (p && s) ≡ false → NamesSolve line file n p s
-solve_named line f file n p s found is budget proof short one = record {
+pub solve_named : (line : List Text) (f : Found) (file : Text) (n : ℕ) (p s : Bool) (a : Option ProofForm) → Finds (codes "FILE" ∷ []) solve_options line f → Some file ≡ first_value f (codes "FILE") → IsBudget (listed (first_value f (codes "budget"))) n
+    → Raised f (codes "proof") p → Raised f (codes "short") s → (asks_whole a ≡ p) × (asks_short a ≡ s) → NamesSolve line file n a
+solve_named line f file n p s a found is budget proof short asks = record {
   us = found.us;
   spells = found.spells;
   file_is = operand_is (codes "FILE") file solve_options line f found is;
   budget_is = budget_is (codes "FILE" ∷ []) solve_options line f n refl found budget;
-  proof_is = flag_is (codes "proof") (codes "FILE" ∷ []) solve_options line f p refl found proof.0 proof.1;
-  short_is = flag_is (codes "short") (codes "FILE" ∷ []) solve_options line f s refl found short.0 short.1;
-  one_form = one;
+  proof_is = flag_is (codes "proof") (codes "FILE" ∷ []) solve_options line f p refl found proof.0 proof.1 ∙ ap tally (sym asks.0);
+  short_is = flag_is (codes "short") (codes "FILE" ∷ []) solve_options line f s refl found short.0 short.1 ∙ ap tally (sym asks.1);
 }
+
+-- not both forms are asked for
+one_alone : (a : Option ProofForm) → (asks_whole a && asks_short a) ≡ true → ⊥
+one_alone None h = cc
+one_alone (Some Whole) h = cc
+one_alone (Some Short) h = cc
 
 -- where both forms of the proof are asked for, the line names no job
 pub not_both : (line : List Text) (f : Found) (p s : Bool) → Finds (codes "FILE" ∷ []) solve_options line f → Raised f (codes "proof") p → Raised f (codes "short") s → (p && s) ≡ true
-    → (file : Text) (n : ℕ) (q t : Bool) → NamesSolve line file n q t → ⊥
-not_both line f p s found proof short both file n q t names =
+    → (file : Text) (n : ℕ) (a : Option ProofForm) → NamesSolve line file n a → ⊥
+not_both line f p s found proof short both file n a names =
     let us : names.us ≡ found.us = same_uses _ _ _ _ solve_is line names.us found.us names.spells found.spells in
-    let proofs : q ≡ p = one_flag q p (sym names.proof_is ∙ ap (times (codes "proof")) us ∙ flag_is (codes "proof") (codes "FILE" ∷ []) solve_options line f p refl found proof.0 proof.1) in
-    let shorts : t ≡ s = one_flag t s (sym names.short_is ∙ ap (times (codes "short")) us ∙ flag_is (codes "short") (codes "FILE" ∷ []) solve_options line f s refl found short.0 short.1) in
-    let bad : true ≡ false = sym both ∙ (λ i. sym proofs i && sym shorts i) ∙ names.one_form in cc
+    let proofs : asks_whole a ≡ p = one_flag (asks_whole a) p (sym names.proof_is ∙ ap (times (codes "proof")) us ∙ flag_is (codes "proof") (codes "FILE" ∷ []) solve_options line f p refl found proof.0 proof.1) in
+    let shorts : asks_short a ≡ s = one_flag (asks_short a) s (sym names.short_is ∙ ap (times (codes "short")) us ∙ flag_is (codes "short") (codes "FILE" ∷ []) solve_options line f s refl found short.0 short.1) in
+    one_alone a ((λ i. proofs i && shorts i) ∙ both)
 
 pub elim_named : (line : List Text) (f : Found) (file : Text) (n : ℕ) → Finds (codes "FILE" ∷ []) budget_option line f → Some file ≡ first_value f (codes "FILE") → IsBudget (listed (first_value f (codes "budget"))) n
     → NamesElim line file n

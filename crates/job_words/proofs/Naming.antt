@@ -1,24 +1,26 @@
 -- The job that all the words name, by their command.
-use Rattle.std.proofs.Common.{◌≡◌, ◌∙◌, ℕ, Bool, true, false, List, [], ◌∷◌, sym, ap, subst, codes}
+use Rattle.std.proofs.Common.{◌≡◌, ◌∙◌, ℕ, Bool, true, false, List, [], ◌∷◌, Option, Some, None, refl, sym, ap, subst, codes}
 use Rattle.std.specs.List.{slice_index_or}
 use Rattle.std.specs.Str.{bytes_eq}
 use Rattle.std.specs.Str.Parse.{digits_value}
+use Rattle.answers.specs.declared.form.ProofForm.{ProofForm}
+use Rattle.answers.specs.declared.form.ProofForm.TheVariants.{Whole, Short}
 use Rattle.job_words.specs.Uses.{Text, operands, times, values_of}
-use Rattle.job_words.specs.Jobs.{IsBudget, NamesCheck, NamesDrill, NamesElim, NamesJob, NamesSolve, Task, solve, eliminate, check, drill}
+use Rattle.job_words.specs.Jobs.{IsBudget, NamesCheck, NamesDrill, NamesElim, NamesJob, NamesSolve, Task, asks_short, asks_whole, solve, eliminate, check, drill}
 use Rattle.job_words.proofs.Answering.{one_flag}
 use Rattle.job_words.proofs.Commanding.{check_is, drill_is, elim_is, solve_is}
 use Rattle.job_words.proofs.Finds.{same_uses}
 
 -- the command of a job
 abbrev command_of : Task → Text
-command_of (solve file budget proof short) = codes "solve"
+command_of (solve file budget asked) = codes "solve"
 command_of (eliminate file budget) = codes "elim"
 command_of (check file proof) = codes "check"
 command_of (drill count budget) = codes "drill"
 
 -- behind a command stands a job of that command
-pub only_solve : (line : List Text) → ((f : Text) (n : ℕ) (p s : Bool) → NamesSolve line f n p s → ⊥) → (task : Task) → NamesJob (codes "solve" ∷ line) task → ⊥
-only_solve line none (solve f n p s) names = none f n p s names.1
+pub only_solve : (line : List Text) → ((f : Text) (n : ℕ) (a : Option ProofForm) → NamesSolve line f n a → ⊥) → (task : Task) → NamesJob (codes "solve" ∷ line) task → ⊥
+only_solve line none (solve f n a) names = none f n a names.1
 only_solve line none task names =
     let bad : true ≡ false = ap (bytes_eq (codes "solve")) names.0 in cc
 
@@ -44,13 +46,25 @@ one_budget [] n m a b = a ∙ sym b
 one_budget (text ∷ []) n m a b = sym a.value ∙ b.value
 one_budget (text ∷ more ∷ rest) n m a b = absurd a
 
-one_solve : (line : List Text) (f g : Text) (n m : ℕ) (p q s t : Bool) → NamesSolve line f n p s → NamesSolve line g m q t → solve f n p s ≡ solve g m q t
-one_solve line f g n m p q s t a b =
+same_form : (p q : Option ProofForm) → asks_whole p ≡ asks_whole q → asks_short p ≡ asks_short q → p ≡ q
+same_form None None h k = refl
+same_form None (Some Whole) h k = absurd cc
+same_form None (Some Short) h k = absurd cc
+same_form (Some Whole) None h k = absurd cc
+same_form (Some Whole) (Some Whole) h k = refl
+same_form (Some Whole) (Some Short) h k = absurd cc
+same_form (Some Short) None h k = absurd cc
+same_form (Some Short) (Some Whole) h k = absurd cc
+same_form (Some Short) (Some Short) h k = refl
+
+one_solve : (line : List Text) (f g : Text) (n m : ℕ) (p q : Option ProofForm) → NamesSolve line f n p → NamesSolve line g m q → solve f n p ≡ solve g m q
+one_solve line f g n m p q a b =
     let us = same_uses _ _ _ _ solve_is line a.us b.us a.spells b.spells in
     let file : f ≡ g = ap (λ l. slice_index_or l 0 []) (sym a.file_is ∙ ap operands us ∙ b.file_is) in
     let budget = one_budget (values_of (codes "budget") b.us) n m (subst (λ vs. IsBudget (values_of (codes "budget") vs) n) us a.budget_is) b.budget_is in
-    let proof = one_flag p q (sym a.proof_is ∙ ap (times (codes "proof")) us ∙ b.proof_is) in
-    let short = one_flag s t (sym a.short_is ∙ ap (times (codes "short")) us ∙ b.short_is) in λ i. solve (file i) (budget i) (proof i) (short i)
+    let whole = one_flag (asks_whole p) (asks_whole q) (sym a.proof_is ∙ ap (times (codes "proof")) us ∙ b.proof_is) in
+    let short = one_flag (asks_short p) (asks_short q) (sym a.short_is ∙ ap (times (codes "short")) us ∙ b.short_is) in
+    let form = same_form p q whole short in λ i. solve (file i) (budget i) (form i)
 
 one_elim : (line : List Text) (f g : Text) (n m : ℕ) → NamesElim line f n → NamesElim line g m → eliminate f n ≡ eliminate g m
 one_elim line f g n m a b =
@@ -73,7 +87,7 @@ one_drill line n m k l a b =
 
 pub one_job : (words : List Text) (a b : Task) → NamesJob words a → NamesJob words b → a ≡ b
 one_job [] a b x y = absurd x
-one_job (command ∷ line) (solve f n p s) (solve g m q t) x y = one_solve line f g n m p q s t x.1 y.1
+one_job (command ∷ line) (solve f n p) (solve g m q) x y = one_solve line f g n m p q x.1 y.1
 one_job (command ∷ line) (eliminate f n) (eliminate g m) x y = one_elim line f g n m x.1 y.1
 one_job (command ∷ line) (check f p) (check g q) x y = one_check line f g p q x.1 y.1
 one_job (command ∷ line) (drill n k) (drill m l) x y =

@@ -1,29 +1,30 @@
 -- The job that the words after the program's name ask for.
-use Rattle.std.specs.Prelude.{◌≡◌, ◌≤◌, ◌&&◌, ℕ, Bool, true, false, List, [], ◌∷◌, codes, length, string_bytes}
+use Rattle.std.specs.Prelude.{◌≡◌, ◌≤◌, ℕ, Bool, true, false, List, [], ◌∷◌, Option, Some, None, codes, length, string_bytes}
 use Rattle.std.specs.Str.Parse.{digits_value, IsNumeral}
+use Rattle.answers.specs.declared.form.ProofForm.{ProofForm}
+use Rattle.answers.specs.declared.form.ProofForm.TheVariants.{Whole, Short}
 use Rattle.job_words.specs.declared.jobs.Job.{Job}
 use Rattle.job_words.specs.declared.jobs.Job.TheVariants as job
 use Rattle.job_words.specs.Uses.{Text, Use, Options, Spells, operands, tally, times, values_of}
 
--- a job by the bytes of its words: to solve the problem in a file, with its proof, or that in the short form, or without, or to
--- give its constraint, within a budget, or to check the proof in a file, or to solve the problem of a size that the program makes,
--- within a budget
+-- a job by the bytes of its words: to solve the problem in a file, with its proof in a form or without, or to give its constraint,
+-- within a budget, or to check the proof in a file, or to solve the problem of a size that the program makes, within a budget
 pub data Task : Type 0 where
-  solve : (file : Text) → (budget : ℕ) → (proof short : Bool) → Task
+  solve : (file : Text) → (budget : ℕ) → (asked : Option ProofForm) → Task
   eliminate : (file : Text) → (budget : ℕ) → Task
   check : (file proof : Text) → Task
   drill : (count budget : ℕ) → Task
 
 -- a job as its words
 abbrev pub task_of : Job → Task
-task_of (job.Solve file budget proof short) = solve (string_bytes file) budget proof short
+task_of (job.Solve file budget asked) = solve (string_bytes file) budget asked
 task_of (job.Elim file budget) = eliminate (string_bytes file) budget
 task_of (job.Check file proof) = check (string_bytes file) (string_bytes proof)
 task_of (job.Drill count budget) = drill count budget
 
 -- the files that a job reads, in their order
 abbrev pub files_of : Task → List Text
-files_of (solve file budget proof short) = file ∷ []
+files_of (solve file budget asked) = file ∷ []
 files_of (eliminate file budget) = file ∷ []
 files_of (check file proof) = file ∷ proof ∷ []
 files_of (drill count budget) = []
@@ -50,15 +51,26 @@ budget_option = (codes "budget", true) ∷ []
 abbrev pub solve_options : Options
 solve_options = (codes "budget", true) ∷ (codes "proof", false) ∷ (codes "short", false) ∷ []
 
--- the words behind `solve` name a file and a budget, and ask for the proof in one form at most
-pub record NamesSolve (line : List Text) (file : Text) (budget : ℕ) (proof short : Bool) : Type 0 where
+-- the proof is asked for in the first format
+abbrev pub asks_whole : Option ProofForm → Bool
+asks_whole None = false
+asks_whole (Some Whole) = true
+asks_whole (Some Short) = false
+
+-- the proof is asked for in the second format
+abbrev pub asks_short : Option ProofForm → Bool
+asks_short None = false
+asks_short (Some Whole) = false
+asks_short (Some Short) = true
+
+-- the words behind `solve` name a file and a budget, and ask for the proof by the flag of its form
+pub record NamesSolve (line : List Text) (file : Text) (budget : ℕ) (asked : Option ProofForm) : Type 0 where
   pub us : List Use
   pub spells : Spells solve_options line us
   pub file_is : operands us ≡ file ∷ []
   pub budget_is : IsBudget (values_of (codes "budget") us) budget
-  pub proof_is : times (codes "proof") us ≡ tally proof
-  pub short_is : times (codes "short") us ≡ tally short
-  pub one_form : (proof && short) ≡ false
+  pub proof_is : times (codes "proof") us ≡ tally (asks_whole asked)
+  pub short_is : times (codes "short") us ≡ tally (asks_short asked)
 
 -- the words behind `elim` name a file and a budget
 pub record NamesElim (line : List Text) (file : Text) (budget : ℕ) : Type 0 where
@@ -85,7 +97,7 @@ pub record NamesDrill (line : List Text) (count budget : ℕ) : Type 0 where
 -- the words name the job
 abbrev pub NamesJob : List Text → Task → Type 0
 NamesJob [] task = ⊥
-NamesJob (command ∷ line) (solve file budget proof short) = (command ≡ codes "solve") × NamesSolve line file budget proof short
+NamesJob (command ∷ line) (solve file budget asked) = (command ≡ codes "solve") × NamesSolve line file budget asked
 NamesJob (command ∷ line) (eliminate file budget) = (command ≡ codes "elim") × NamesElim line file budget
 NamesJob (command ∷ line) (check file proof) = (command ≡ codes "check") × NamesCheck line file proof
 NamesJob (command ∷ line) (drill count budget) = (command ≡ codes "drill") × NamesDrill line count budget

@@ -2,18 +2,17 @@
 
 ghost use Rattle.std.specs.Prelude.{◌≡◌};
 
+use answers::ProofForm;
 use std::alloc::AllocError;
 
 /// A job that words name.
 #[derive(Debug, Drop)]
 pub enum Job {
-    /// To say whether the problem in this file is valid, within a budget, and with its proof, or its proof in the short form, where
-    /// one of them is asked for.
+    /// To say whether the problem in this file is valid, within a budget, and with its proof in a form, where one is asked for.
     Solve {
         file: String,
         budget: u64,
-        proof: bool,
-        short: bool,
+        asked: Option<ProofForm>,
     },
     /// To give the constraint of the problem in this file, within a budget.
     Elim {

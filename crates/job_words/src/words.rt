@@ -1,13 +1,14 @@
 // The words of the command line, and the job that they name.
 
 ghost use Rattle.clap.specs.Words.{first_value, found_of};
-ghost use Rattle.job_words.specs.Jobs.{IsBudget, IsNumber, NamesJob, Task, task_of};
+ghost use Rattle.job_words.specs.Jobs.{IsBudget, IsNumber, NamesJob, Task, asks_short, asks_whole, task_of};
 ghost use Rattle.job_words.specs.Uses.{listed, Text};
 ghost use Rattle.std.specs.Prelude.{◌≡◌, ◌∷◌, ◌&&◌, ℕ, List, map, codes, string_bytes, true, false, None, Some, IfOk, IfErr, MatchResult};
 
 use crate::commands::{check_command, drill_command, elim_command, read, solve_command};
 use crate::jobs::{Job, WordsFault};
 use crate::numbers::number;
+use answers::ProofForm;
 use clap::ArgMatches;
 use std::alloc::Global;
 
@@ -51,14 +52,13 @@ fn solve_job(alloc: Global, line: &[String]) -> Result<Job, WordsFault>
     let matches = read(solve_command(alloc)?, line)?;
     let file = text_in(alloc, &matches, "FILE")?;
     let budget = budget_in(&matches)?;
-    let proof = matches.get_flag("proof");
+    let whole = matches.get_flag("proof");
     let short = matches.get_flag("short");
-    one_form(proof, short)?;
+    let asked = asked_form(whole, short)?;
     Ok(Job::Solve {
         file,
         budget,
-        proof,
-        short,
+        asked,
     })
 }
 
@@ -106,14 +106,16 @@ fn text_in(alloc: Global, matches: &ArgMatches<'_>, id: &str) -> Result<String, 
     }
 }
 
-// The flags of `solve` ask for the proof in one form at most.
-fn one_form(proof: bool, short: bool) -> Result<(), WordsFault>
-    ensures { MatchResult result (λ _. (proof && short) ≡ false) (λ e. (proof && short) ≡ true) }
+// The form in which the flags of `solve` ask for the proof, if they do; not both can be asked for.
+fn asked_form(whole: bool, short: bool) -> Result<Option<ProofForm>, WordsFault>
+    ensures { MatchResult result (λ asked. (asks_whole asked ≡ whole) × (asks_short asked ≡ short)) (λ e. (whole && short) ≡ true) }
 {
-    if proof && short {
-        return Err(WordsFault::Words);
+    match (whole, short) {
+        (true, true) => Err(WordsFault::Words),
+        (true, false) => Ok(Some(ProofForm::Whole)),
+        (false, true) => Ok(Some(ProofForm::Short)),
+        (false, false) => Ok(None),
     }
-    Ok(())
 }
 
 // The number that the operand of `drill` writes.

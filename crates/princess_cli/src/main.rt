@@ -2,10 +2,12 @@
 // ends the program.
 #![tactic(auto)]
 
+use answers::status::NO_MEMORY;
 use prover_io::{FileSource, OutSink};
 use prover_job::run;
 use std::alloc::AllocError;
 use std::env;
+use std::io::ErrorKind;
 use std::process::ExitCode;
 use typed_formula::Table;
 
@@ -13,12 +15,14 @@ use typed_formula::Table;
 const NO_WORDS: u8 = 10;
 
 fn main(rt: HostRuntime) -> ExitCode {
-    let Ok(args) = env::args(&rt) else {
-        return ExitCode::from(NO_WORDS);
+    let args = match env::args(&rt) {
+        Ok(args) => args,
+        Err(error) if error.kind() == ErrorKind::OutOfMemory => return ExitCode::from(NO_MEMORY),
+        Err(_) => return ExitCode::from(NO_WORDS),
     };
     let words: Result<Vec<String>, AllocError> = args.skip(1).collect(rt.alloc());
     let Ok(words) = words else {
-        return ExitCode::from(NO_WORDS);
+        return ExitCode::from(NO_MEMORY);
     };
     let mut source = FileSource::new(rt.alloc(), &rt);
     let mut sink = OutSink::new(&rt);

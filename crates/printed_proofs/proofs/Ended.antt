@@ -1,5 +1,5 @@
 -- The round that a run ends with: its tree, and what that and its solution charge.
-use Rattle.std.proofs.Common.{◌≡◌, ℕ, suc, zero, ◌+◌, ◌≤◌, ℤ, Bool, true, false, cond, nat_le, ◌&&◌, List, [], ◌∷◌, ◌++◌, refl, sym, ◌∙◌, ap, subst, arith, Option, Some, None, inl, inr, ◌⊎◌}
+use Rattle.std.proofs.Common.{◌≡◌, ℕ, suc, zero, ◌+◌, ◌-◌, ◌≤◌, ℤ, Bool, true, false, cond, nat_le, ◌&&◌, List, [], ◌∷◌, ◌++◌, refl, sym, ◌∙◌, ap, subst, arith, Option, Some, None, inl, inr, ◌⊎◌}
 use Rattle.purse.specs.declared.log.Entry.{Entry}
 use Rattle.purse.specs.Trace.{Event, Funds, charge, raw, mark, after_charge, after_mark, capped, At, at, End, done, refused, out_of_range, cut, just, step, next}
 use Rattle.linear_term.specs.Range.{all_stay}
@@ -95,18 +95,18 @@ passes (raw ps ∷ es) a b e = by (all_stay ps) refl e (λ q. passes es a b q)
     by false is q ih = absurd (cc)
 passes (mark m ∷ es) a b e = let p = passes es (after_mark m a) b e in record { stay = p.stay; within = p.within }
 
-charges_within : (t spent budget : ℕ) → (t ≡ 0) ⊎ (spent + t ≤ budget) → t ≤ budget
+charges_within : (t spent budget : ℕ) → (t ≡ 0) ⊎ (spent + t ≤ budget) → t ≤ budget - spent
 charges_within t spent budget (inl none) = omega (arith, none)
 charges_within t spent budget (inr more) = omega (arith, more)
 
--- a round of the run that answers what the run ends with, within the budget
-record IsLast (f : Form) (n budget : ℕ) (a : Answer) : Type 0 where
+-- a round of the run that answers what the run ends with, within what is left of the budget
+record IsLast (f : Form) (n left : ℕ) (a : Answer) : Type 0 where
   limit : ℕ
   answers : (one_round f n limit).value ≡ Some a
-  charges : total (one_round f n limit).events ≤ budget
+  charges : total (one_round f n limit).events ≤ left
   stay : raw_stay (one_round f n limit).events ≡ true
 
-last_found : (f : Form) (n : ℕ) (g : Funds) (a : Answer) (b : At) → ending (canonical_run f n g.budget) (at g []) ≡ ends_with a b → (a ≡ too_long → ⊥) → IsLast f n g.budget a
+last_found : (f : Form) (n : ℕ) (g : Funds) (a : Answer) (b : At) → ending (canonical_run f n g.budget) (at g []) ≡ ends_with a b → (a ≡ too_long → ⊥) → IsLast f n (g.budget - g.spent) a
 unfolding canonical_run
 last_found f n g a b e not_long =
     let w = canonical_run f n g.budget in
@@ -171,24 +171,24 @@ round_concludes f n k b e not_long = by (built k branch_limit 0 (start f n)).val
         }
 
 -- ---- answers
-pub record IsValidRound (f : Form) (n budget : ℕ) (vs : List ℤ) (x : Proof) : Type 0 where
+pub record IsValidRound (f : Form) (n left : ℕ) (vs : List ℤ) (x : Proof) : Type 0 where
   pub limit : ℕ
   pub tree : HasTree f n limit x (Some vs)
-  pub charges : total (one_round f n limit).events ≤ budget
+  pub charges : total (one_round f n limit).events ≤ left
   pub stay : raw_stay (solving n (given x)).events ≡ true
   pub tree_stay : raw_stay (built limit branch_limit 0 (start f n)).events ≡ true
 
-pub record IsInvalidRound (f : Form) (n budget : ℕ) (log : List Entry) (x : Proof) : Type 0 where
+pub record IsInvalidRound (f : Form) (n left : ℕ) (log : List Entry) (x : Proof) : Type 0 where
   pub limit : ℕ
   pub tree : HasTree f n limit x None
   pub pure : is_pure f ≡ true
   pub log_is : log ≡ entries_of (names_out n (given x)).events
-  pub charges : total (one_round f n limit).events ≤ budget
+  pub charges : total (one_round f n limit).events ≤ left
   pub stay : raw_stay (solving n (given x)).events ≡ true
   pub tree_stay : raw_stay (built limit branch_limit 0 (start f n)).events ≡ true
 
-valid_ends : (f : Form) (n budget : ℕ) (vs : List ℤ) (x : Proof) → IsLast f n budget (valid vs x) → IsValidRound f n budget vs x
-valid_ends f n budget vs x l =
+valid_ends : (f : Form) (n left : ℕ) (vs : List ℤ) (x : Proof) → IsLast f n left (valid vs x) → IsValidRound f n left vs x
+valid_ends f n left vs x l =
     let c = round_concludes f n l.limit (valid vs x) l.answers (λ e. absurd (cc)) in
     by c.proof c.solution c.tree c.is
   where
@@ -197,7 +197,7 @@ valid_ends f n budget vs x l =
     none y false true e = cc
     none y false false e = cc
 
-    by : (y : Proof) (a : Option (List ℤ)) → HasTree f n l.limit y a → concluded f n y a ≡ Some (valid vs x) → IsValidRound f n budget vs x
+    by : (y : Proof) (a : Option (List ℤ)) → HasTree f n l.limit y a → concluded f n y a ≡ Some (valid vs x) → IsValidRound f n left vs x
     by y None t e = absurd (none y (is_pure f) (has_open_leaf (start f n) y) e)
     by y (Some us) t e =
         let us_is : us ≡ vs = cc in
@@ -205,13 +205,13 @@ valid_ends f n budget vs x l =
         let u = subst (λ (z : Proof). HasTree f n l.limit z (Some vs)) y_is (subst (λ (z : List ℤ). HasTree f n l.limit y (Some z)) us_is t) in
         record { limit = l.limit; tree = u; charges = l.charges; stay = u.stay l.stay; tree_stay = u.tree_stay l.stay }
 
-invalid_ends : (f : Form) (n budget : ℕ) (log : List Entry) (x : Proof) → IsLast f n budget (invalid log x) → IsInvalidRound f n budget log x
-invalid_ends f n budget log x l =
+invalid_ends : (f : Form) (n left : ℕ) (log : List Entry) (x : Proof) → IsLast f n left (invalid log x) → IsInvalidRound f n left log x
+invalid_ends f n left log x l =
     let c = round_concludes f n l.limit (invalid log x) l.answers (λ e. absurd (cc)) in
     by c.proof c.solution c.tree c.is
   where
     none : (y : Proof) (p o : Bool) → is_pure f ≡ p → HasTree f n l.limit y None
-        → cond p (Some (invalid (entries_of (names_out n (given y)).events) y)) (cond o None (Some (saturated (entries_of (names_out n (given y)).events) y))) ≡ Some (invalid log x) → IsInvalidRound f n budget log x
+        → cond p (Some (invalid (entries_of (names_out n (given y)).events) y)) (cond o None (Some (saturated (entries_of (names_out n (given y)).events) y))) ≡ Some (invalid log x) → IsInvalidRound f n left log x
     none y true o p t e =
         let y_is : y ≡ x = cc in
         let log_is : entries_of (names_out n (given y)).events ≡ log = cc in
@@ -228,12 +228,12 @@ invalid_ends f n budget log x l =
     none y false true p t e = absurd (cc)
     none y false false p t e = absurd (cc)
 
-    by : (y : Proof) (a : Option (List ℤ)) → HasTree f n l.limit y a → concluded f n y a ≡ Some (invalid log x) → IsInvalidRound f n budget log x
+    by : (y : Proof) (a : Option (List ℤ)) → HasTree f n l.limit y a → concluded f n y a ≡ Some (invalid log x) → IsInvalidRound f n left log x
     by y None t e = none y (is_pure f) (has_open_leaf (start f n) y) refl t e
     by y (Some us) t e = absurd (cc)
 
-pub valid_round : (f : Form) (n : ℕ) (g : Funds) (vs : List ℤ) (x : Proof) (b : At) → ending (canonical_run f n g.budget) (at g []) ≡ ends_with (valid vs x) b → IsValidRound f n g.budget vs x
-valid_round f n g vs x b e = valid_ends f n g.budget vs x (last_found f n g (valid vs x) b e (λ q. absurd (cc)))
+pub valid_round : (f : Form) (n : ℕ) (g : Funds) (vs : List ℤ) (x : Proof) (b : At) → ending (canonical_run f n g.budget) (at g []) ≡ ends_with (valid vs x) b → IsValidRound f n (g.budget - g.spent) vs x
+valid_round f n g vs x b e = valid_ends f n (g.budget - g.spent) vs x (last_found f n g (valid vs x) b e (λ q. absurd (cc)))
 
-pub invalid_round : (f : Form) (n : ℕ) (g : Funds) (log : List Entry) (x : Proof) (b : At) → ending (canonical_run f n g.budget) (at g []) ≡ ends_with (invalid log x) b → IsInvalidRound f n g.budget log x
-invalid_round f n g log x b e = invalid_ends f n g.budget log x (last_found f n g (invalid log x) b e (λ q. absurd (cc)))
+pub invalid_round : (f : Form) (n : ℕ) (g : Funds) (log : List Entry) (x : Proof) (b : At) → ending (canonical_run f n g.budget) (at g []) ≡ ends_with (invalid log x) b → IsInvalidRound f n (g.budget - g.spent) log x
+invalid_round f n g log x b e = invalid_ends f n (g.budget - g.spent) log x (last_found f n g (invalid log x) b e (λ q. absurd (cc)))

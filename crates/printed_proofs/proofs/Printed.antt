@@ -1,5 +1,5 @@
 -- What a run ends with is a proof that a text can hold.
-use Rattle.std.proofs.Common.{◌≡◌, ℕ, ◌≤◌, ℤ, List, [], sym, ap, subst, arith, Ok}
+use Rattle.std.proofs.Common.{◌≡◌, ℕ, ◌-◌, ◌≤◌, ℤ, List, [], sym, ap, subst, arith, Ok}
 use Rattle.purse.specs.declared.log.Entry.{Entry}
 use Rattle.purse.specs.declared.log.ElimLog.{ElimLog}
 use Rattle.clause_set.specs.declared.literal.Literal.{Literal}
@@ -28,7 +28,7 @@ use Rattle.printed_proofs.proofs.Built.{tree_shaped}
 use Rattle.printed_proofs.proofs.Ended.{valid_round, invalid_round}
 use Rattle.printed_proofs.proofs.Values.{solution_in}
 
-pub valid_shaped : (f : Form) (n : ℕ) (g : Funds) (vs : List ℤ) (x : Proof) (b : At) → IsSearched f n → g.budget ≤ 1000000000
+pub valid_shaped : (f : Form) (n : ℕ) (g : Funds) (vs : List ℤ) (x : Proof) (b : At) → IsSearched f n → g.budget - g.spent ≤ 1000000000
     → ending (canonical_run f n g.budget) (at g []) ≡ ends_with (valid vs x) b → IsTypedProof x → IsShaped (total (proof_walk f n x (Solution vs)).events) x (Solution vs)
 valid_shaped f n g vs x b inside most e t =
     let r = valid_round f n g vs x b e in
@@ -37,7 +37,7 @@ valid_shaped f n g vs x b inside most e t =
     let within = r.charges in
     record { charges = (omega arith, omega (arith, same, all, within, most)); root = tree_shaped f n r.limit x inside (r.tree).tree t; conclusion = solution_in n (given x) vs (built-given r.limit branch_limit 0 (start f n) x (start_formed f n inside.over) (inside.reduced, tt) (r.tree).tree) (r.tree).solution r.stay }
 
-pub invalid_shaped : (f : Form) (n : ℕ) (g : Funds) (log : ElimLog) (x : Proof) (b : At) → IsSearched f n → g.budget ≤ 1000000000
+pub invalid_shaped : (f : Form) (n : ℕ) (g : Funds) (log : ElimLog) (x : Proof) (b : At) → IsSearched f n → g.budget - g.spent ≤ 1000000000
     → ending (canonical_run f n g.budget) (at g []) ≡ ends_with (invalid log.entries x) b → IsTypedProof x → IsShaped (total (proof_walk f n x (Nothing log)).events) x (Nothing log)
 invalid_shaped f n g log x b inside most e t =
     let r = invalid_round f n g log.entries x b e in
@@ -55,7 +55,7 @@ tree_as t k x c root end charges h =
     (subst (λ (z : Proof). IsShaped k z t.conclusion) (sym root) (subst (λ (z : Conclusion). IsShaped k x z) (sym end) h))
 
 pub valid_outcome : (f : Form) (n : ℕ) (old new : Funds) (d : List (List Literal)) (vs : List ℤ) (t : Tree) → IsSearched f n
-    → old.budget ≤ 1000000000 → EndsAs f n old (Ok (Valid d vs t)) new → IsTypedProof (proof_of t.root) → IsShaped t.charges (proof_of t.root) t.conclusion
+    → old.budget - old.spent ≤ 1000000000 → EndsAs f n old (Ok (Valid d vs t)) new → IsTypedProof (proof_of t.root) → IsShaped t.charges (proof_of t.root) t.conclusion
 valid_outcome f n old new d vs t inside most e i =
     let x = e.1 in
     let tree : IsTree f n x (Solution vs) t = e.4 in
@@ -63,7 +63,7 @@ valid_outcome f n old new d vs t inside most e i =
     (valid_shaped f n old vs x (at new e.0) inside most e.2 (subst IsTypedProof tree.root i))
 
 pub invalid_outcome : (f : Form) (n : ℕ) (old new : Funds) (d : List (List Literal)) (t : Tree) → IsSearched f n
-    → old.budget ≤ 1000000000 → EndsAs f n old (Ok (Invalid d t)) new → IsTypedProof (proof_of t.root) → IsShaped t.charges (proof_of t.root) t.conclusion
+    → old.budget - old.spent ≤ 1000000000 → EndsAs f n old (Ok (Invalid d t)) new → IsTypedProof (proof_of t.root) → IsShaped t.charges (proof_of t.root) t.conclusion
 invalid_outcome f n old new d t inside most e i =
     let x = e.2 in
     let tree : IsTree f n x (Nothing e.1) t = e.5 in

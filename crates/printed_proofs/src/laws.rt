@@ -17,7 +17,7 @@ ghost use Rattle.search.specs.Building.{built};
 ghost use Rattle.search.specs.Outcomes.{EndsAs};
 ghost use Rattle.search.specs.declared.judge.Outcome.TheVariants.{Invalid, Valid};
 ghost use Rattle.search.specs.Run.{canonical_run, ending, ends_with, invalid, valid};
-ghost use Rattle.std.specs.Prelude.{◌≡◌, ◌≤◌, List, [], Ok, ℕ, ℤ, Some};
+ghost use Rattle.std.specs.Prelude.{◌≡◌, ◌-◌, ◌≤◌, List, [], Ok, ℕ, ℤ, Some};
 ghost use Rattle.tree_lines.specs.Owed.{Shallow};
 ghost use Rattle.tree_text.specs.Shaped.{IsShaped, IsShapedNode};
 
@@ -30,10 +30,10 @@ pub fn tree_law()
 
 /// What a canonical run ends with is, with the charges of its walk, a proof that a text can hold.
 pub fn shaped_law()
-    ensures valid { (f : Form) (n : ℕ) (g : Funds) (vs : List ℤ) (x : Proof) (b : At) → IsSearched f n → g.budget ≤ 1000000000
+    ensures valid { (f : Form) (n : ℕ) (g : Funds) (vs : List ℤ) (x : Proof) (b : At) → IsSearched f n → g.budget - g.spent ≤ 1000000000
         → ending (canonical_run f n g.budget) (at g []) ≡ ends_with (valid vs x) b → IsTypedProof x
         → IsShaped (total (proof_walk f n x (Solution vs)).events) x (Solution vs) }
-    ensures invalid { (f : Form) (n : ℕ) (g : Funds) (log : ElimLog) (x : Proof) (b : At) → IsSearched f n → g.budget ≤ 1000000000
+    ensures invalid { (f : Form) (n : ℕ) (g : Funds) (log : ElimLog) (x : Proof) (b : At) → IsSearched f n → g.budget - g.spent ≤ 1000000000
         → ending (canonical_run f n g.budget) (at g []) ≡ ends_with (invalid log.entries x) b → IsTypedProof x
         → IsShaped (total (proof_walk f n x (Nothing log)).events) x (Nothing log) }
 {}
@@ -41,7 +41,7 @@ pub fn shaped_law()
 /// The tree of an outcome of a search is, with its charges and its conclusion, a proof that a text can hold.
 pub fn outcome_law()
     ensures valid { (f : Form) (n : ℕ) (old new : Funds) (d : List (List Literal)) (vs : List ℤ) (t : Tree) → IsSearched f n
-        → old.budget ≤ 1000000000 → EndsAs f n old (Ok (Valid d vs t)) new → IsTypedProof (proof_of t.root) → IsShaped t.charges (proof_of t.root) t.conclusion }
+        → old.budget - old.spent ≤ 1000000000 → EndsAs f n old (Ok (Valid d vs t)) new → IsTypedProof (proof_of t.root) → IsShaped t.charges (proof_of t.root) t.conclusion }
     ensures invalid { (f : Form) (n : ℕ) (old new : Funds) (d : List (List Literal)) (t : Tree) → IsSearched f n
-        → old.budget ≤ 1000000000 → EndsAs f n old (Ok (Invalid d t)) new → IsTypedProof (proof_of t.root) → IsShaped t.charges (proof_of t.root) t.conclusion }
+        → old.budget - old.spent ≤ 1000000000 → EndsAs f n old (Ok (Invalid d t)) new → IsTypedProof (proof_of t.root) → IsShaped t.charges (proof_of t.root) t.conclusion }
 {}

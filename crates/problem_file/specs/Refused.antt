@@ -1,6 +1,7 @@
 -- Why a problem's file is refused.
-use Rattle.std.specs.Prelude.{ℕ, List}
+use Rattle.std.specs.Prelude.{◌≡◌, ℕ, List}
 use Rattle.problem_file.specs.Reads.{Refusal, FirstRefusal}
+use Rattle.problem_file.specs.Refusals.{refusal_name}
 use Rattle.problem_file.specs.Answers.{PosesOne, PosesUnsupported}
 use Rattle.problem_file.specs.Encoded.{IsLarge}
 
@@ -9,3 +10,7 @@ pub data IsRefused (bytes : List ℕ) : Type 0 where
   first : (r : Refusal) → FirstRefusal bytes r → IsRefused bytes
   special : (at : ℕ) → PosesUnsupported bytes at → IsRefused bytes
   too_large : PosesOne bytes IsLarge → IsRefused bytes
+
+-- the name of this refusal is that of the first refusal of the bytes
+abbrev pub ComesOf : List ℕ → Refusal → Type 0
+ComesOf bytes r = (q : Refusal) × FirstRefusal bytes q × (refusal_name q ≡ refusal_name r)

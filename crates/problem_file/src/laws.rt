@@ -2,6 +2,7 @@
 
 ghost use Rattle.problem_file.specs.Answers.{Poses, PosesUnsupported};
 ghost use Rattle.problem_file.specs.Reads.{AreSame, FirstRefusal, Reads, Refusal};
+ghost use Rattle.problem_file.specs.Refusals.{IsNamed, refusal_name};
 ghost use Rattle.problem_file.specs.Special.{HasPlainCuts};
 ghost use Rattle.encoding.specs.Problems.{problem_root};
 ghost use Rattle.formula.specs.Reduced.{HasReducedTerms};
@@ -34,6 +35,12 @@ pub fn unsupported_law()
     ensures place { (bytes : List ℕ) (m n : ℕ) → PosesUnsupported bytes m → PosesUnsupported bytes n → m ≡ n }
     ensures some { (bytes : List ℕ) (p : Problem) → Reads bytes p → Poses bytes p ⊎ ((at : ℕ) × PosesUnsupported bytes at) }
     ensures cuts { (bytes : List ℕ) (p : Problem) → Poses bytes p → HasPlainCuts p }
+{}
+
+/// Refusals with one name are one: the name has the cause and the place.
+#[tactic(auto, using(crate::proofs::Naming::names_apart))]
+pub fn names_law()
+    ensures { (r q : Refusal) → IsNamed r → IsNamed q → refusal_name r ≡ refusal_name q → r ≡ q }
 {}
 
 /// The terms of an encoded problem are reduced.

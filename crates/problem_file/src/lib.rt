@@ -11,6 +11,6 @@ mod special;
 
 pub use encoder::{encode_problem, refuse_encoding};
 pub use fault::FileFault;
-pub use laws::{encoding_law, one_problem_law, problem_law, unsupported_law};
+pub use laws::{encoding_law, names_law, one_problem_law, problem_law, unsupported_law};
 pub use reading::read_problem;
 pub use refusals::refuse;

@@ -1,6 +1,6 @@
 -- What a source over memory shows: its files, the calls so far and those at which it fails.
-use Rattle.std.specs.Prelude.{◌≡◌, ℕ, ◌+◌, ◌-◌, ◌^◌, ◌||◌, Bool, List, drop, min, nat_eq, find, option_map, Option, None, false, Vec, String, string_bytes, is_none, bytes_eq}
-use Rattle.std.specs.List.{list_any}
+use Rattle.std.specs.Prelude.{◌≡◌, ℕ, ◌+◌, ◌-◌, ◌^◌, ◌||◌, Bool, List, [], drop, map, min, nat_eq, find, option_map, Option, None, false, Vec, String, string_bytes, is_none, bytes_eq}
+use Rattle.std.specs.List.{last_or, list_any}
 use Rattle.std.specs.declared.alloc.Global.{Global}
 use Rattle.prover_io.specs.declared.memory_source.MemorySource.{MemorySource}
 
@@ -16,9 +16,17 @@ bytes_of s name = content_of s.files.items name
 abbrev pub rest_of : MemorySource → List ℕ
 rest_of s = drop s.position s.content.items
 
+-- the names begun, in their order
+abbrev pub names_of : MemorySource → List (List ℕ)
+names_of s = map string_bytes s.names
+
+-- how many bytes were moved, at most 2^64 − 1
+abbrev pub moved_of : MemorySource → ℕ
+moved_of s = s.moved
+
 -- the name begun last
 abbrev pub name_of : MemorySource → Option (List ℕ)
-name_of s = option_map string_bytes s.name
+name_of s = last_or None (names_of s)
 
 -- whether something failed since that name was begun, or that begin
 abbrev pub is_broken : MemorySource → Bool
@@ -61,7 +69,8 @@ pub record IsFresh (s : MemorySource) (files : List (String Global × Vec ℕ Gl
   pub piece : most_of s ≡ 2 ^ 64 - 1
   pub calls : calls_of s ≡ 0
   pub faults : faults_of s ≡ 0
-  pub idle : name_of s ≡ None
+  pub idle : names_of s ≡ []
+  pub unmoved : moved_of s ≡ 0
   pub whole : is_broken s ≡ false
 
 -- the second source is the first one, but gives at most so many bytes in a read
@@ -69,7 +78,8 @@ pub record Limits (old new : MemorySource) (most : ℕ) : Type 0 where
   pub piece : most_of new ≡ most
   pub bytes : (name : List ℕ) → bytes_of new name ≡ bytes_of old name
   pub rest : rest_of new ≡ rest_of old
-  pub begun : name_of new ≡ name_of old
+  pub names : names_of new ≡ names_of old
+  pub moved : moved_of new ≡ moved_of old
   pub broken : is_broken new ≡ is_broken old
   pub fails : failing_of new ≡ failing_of old
   pub calls : calls_of new ≡ calls_of old

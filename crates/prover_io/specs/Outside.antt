@@ -57,3 +57,11 @@ TakesAtMost None after n = after ≡ None
 -- at most n bytes of a name are read: what was left before is left still, or all bytes of the name but so many
 abbrev pub ReadsAtMost : Option (List ℕ) → Option (List ℕ) → Option (List ℕ) → ℕ → Type 0
 ReadsAtMost bytes before after n = (after ≡ before) ⊎ TakesAtMost bytes after n
+
+-- from one count to the other at most n are added, and none is taken back
+abbrev pub GrowsAtMost : ℕ → ℕ → ℕ → Type 0
+GrowsAtMost before after n = (before ≤ after) × (after ≤ before + n)
+
+-- of these names some from the front are begun behind those before, in their order
+abbrev pub BeginsFront : List (List ℕ) → List (List ℕ) → List (List ℕ) → Type 0
+BeginsFront names before after = (k : ℕ) × (after ≡ before ++ take k names)

@@ -1,9 +1,12 @@
 // Real files as a source. It tells no bytes, since no clause can say what the system gives.
 
 ghost use Rattle.std.specs.Io.KnownBytes.{ReadConsumes};
-ghost use Rattle.std.specs.Prelude.{◌≡◌, ◌≤◌, ◌&&◌, length, option_map, string_bytes, is_none, is_some, None, IfOk};
+ghost use Rattle.std.specs.List.{last_or};
+ghost use Rattle.std.specs.Prelude.{◌≡◌, ◌≤◌, ◌&&◌, [], length, map, string_bytes, is_none, is_some, None, IfOk};
 
+use crate::names::add_name;
 use crate::source::{BeginFault, Failed, Source};
+use sqlite_items::Items;
 use std::alloc::Global;
 use std::fs;
 use std::io::{self, ErrorKind, Read};
@@ -14,10 +17,12 @@ use std::rt::Files;
 pub struct FileSource<'a, R: Files> {
     rt: &'a R,
     alloc: Global,
-    name: Option<String>,
+    // The names begun, the last one last.
+    names: Items<String>,
     // The file begun, as long as nothing failed.
     file: Option<R::File>,
     faults: u64,
+    moved: u64,
 }
 
 impl<'a, R: Files> FileSource<'a, R> {
@@ -26,13 +31,16 @@ impl<'a, R: Files> FileSource<'a, R> {
     pub fn new(alloc: Global, rt: &'a R) -> FileSource<'a, R>
         ensures faults { ⟦<FileSource<'a, R> as Source>⟧.faults result ≡ 0 }
         ensures idle { ⟦<FileSource<'a, R> as Source>⟧.at result ≡ None }
+        ensures unlisted { ⟦<FileSource<'a, R> as Source>⟧.names result ≡ [] }
+        ensures unmoved { ⟦<FileSource<'a, R> as Source>⟧.moved result ≡ 0 }
     {
         FileSource {
             rt,
             alloc,
-            name: None,
+            names: Items::new(alloc),
             file: None,
             faults: 0,
+            moved: 0,
         }
     }
 }
@@ -44,15 +52,18 @@ impl<'a, R: Files> Source for FileSource<'a, R> {
 
     ghost faults = { λ s. s.faults };
 
-    ghost at = { λ s. option_map string_bytes s.name };
+    ghost at = { λ s. last_or None (map string_bytes s.names) };
 
-    ghost broken = { λ s. is_some s.name && is_none s.file };
+    ghost broken = { λ s. is_some (last_or None (map string_bytes s.names)) && is_none s.file };
+
+    ghost names = { λ s. map string_bytes s.names };
+
+    ghost moved = { λ s. s.moved };
 
     fn begin(&mut self, name: &str) -> Result<(), BeginFault> {
-        let Ok(begun) = String::from_str(self.alloc, name) else {
+        let Ok(()) = add_name(self.alloc, &mut self.names, name) else {
             return Err(BeginFault::Memory);
         };
-        self.name = Some(begun);
         let Ok(file) = open(self.rt, name) else {
             self.file = None;
             self.faults = self.faults.saturating_add(1);
@@ -71,6 +82,7 @@ impl<'a, R: Files> Source for FileSource<'a, R> {
             self.faults = self.faults.saturating_add(1);
             return Err(Failed);
         };
+        self.moved = self.moved.saturating_add(count as u64);
         Ok(count)
     }
 }

@@ -5,6 +5,7 @@
 mod file_source;
 mod memory_sink;
 mod memory_source;
+mod names;
 mod out_sink;
 mod sink;
 mod source;

@@ -1,9 +1,11 @@
 // A source over memory, which fails at the calls that it is told to.
 
 ghost use Rattle.std.specs.Option.{option_copied};
-ghost use Rattle.std.specs.Prelude.{◌≡◌, ℕ, ◌+◌, ◌-◌, ◌^◌, ◌<◌, ◌≤◌, ◌↔◌, true, false, List, length, drop, min, find, bytes_eq, option_map, string_bytes, vec_len, None, Some, IfOk, OnOk, OnErr, IsErr, IsErrOf, IsSome, IsTrue};
+ghost use Rattle.std.specs.Prelude.{◌≡◌, ℕ, ◌+◌, ◌-◌, ◌^◌, ◌<◌, ◌≤◌, ◌↔◌, ◌++◌, true, false, List, [], ◌∷◌, length, drop, min, find, bytes_eq, option_map, string_bytes, vec_len, None, Some, IfOk, OnOk, OnErr, IsErr, IsErrOf, IsSome, IsTrue};
 
+use crate::names::add_name;
 use crate::source::{BeginFault, Failed, Source};
+use sqlite_items::Items;
 use std::alloc::{AllocError, Global};
 
 /// A source of the files that it is given, by their names.
@@ -14,7 +16,9 @@ pub struct MemorySource {
     most: u64,
     calls: u64,
     faults: u64,
-    name: Option<String>,
+    moved: u64,
+    // The names begun, the last one last.
+    names: Items<String>,
     content: Vec<u8>,
     position: usize,
     broken: bool,
@@ -32,13 +36,15 @@ impl MemorySource {
         ensures { IsFresh result files.items failing.items }
     {
         let content = Vec::new(*files.allocator());
+        let names = Items::new(*files.allocator());
         MemorySource {
             files,
             failing,
             most: u64::MAX,
             calls: 0,
             faults: 0,
-            name: None,
+            moved: 0,
+            names,
             content,
             position: 0,
             broken: false,
@@ -97,7 +103,7 @@ fn find_file<'a>(files: &'a [(String, Vec<u8>)], name: &str) -> Option<&'a (Stri
 }
 
 impl Source for MemorySource {
-    ghost use Rattle.prover_io.specs.MemorySource.{begin_fails, bytes_of, fails_next, faults_of, is_broken, most_of, name_of, rest_of, Counts};
+    ghost use Rattle.prover_io.specs.MemorySource.{begin_fails, bytes_of, fails_next, faults_of, is_broken, most_of, moved_of, name_of, names_of, rest_of, Counts};
     ghost use Rattle.prover_io.specs.Outside.{Begun, Broke, Moves};
 
     ghost bytes_of = { λ s name. bytes_of s name };
@@ -110,6 +116,10 @@ impl Source for MemorySource {
 
     ghost broken = { λ s. is_broken s };
 
+    ghost names = { λ s. names_of s };
+
+    ghost moved = { λ s. moved_of s };
+
     fn begin(&mut self, name: &str) -> Result<(), BeginFault>
         ensures serves { OnOk result (begin_fails self.old name.now ≡ false) }
         ensures fails { IsErrOf result BeginFault.Failed → begin_fails self.old name.now ≡ true }
@@ -120,20 +130,21 @@ impl Source for MemorySource {
         ensures no_fault { OnOk result (faults_of self.new ≡ faults_of self.old) }
         ensures unread { IsErrOf result BeginFault.Failed → rest_of self.new ≡ rest_of self.old }
         ensures later { faults_of self.old ≤ faults_of self.new }
+        ensures listed { ¬ (IsErrOf result BeginFault.Memory) → names_of self.new ≡ names_of self.old ++ name.now ∷ [] }
+        ensures unmoved { moved_of self.new ≡ moved_of self.old }
         ensures counted { OnOk result (Counts self.old self.new) }
         ensures counted_too { IsErrOf result BeginFault.Failed → Counts self.old self.new }
         ensures same { (n : List ℕ) → bytes_of self.new n ≡ bytes_of self.old n }
     {
         let alloc = *self.files.allocator();
-        let Ok(begun) = String::from_str(alloc, name) else {
+        let Ok(found) = self.find_content(name) else {
             return Err(BeginFault::Memory);
         };
-        let Ok(found) = self.find_content(name) else {
+        let Ok(()) = add_name(alloc, &mut self.names, name) else {
             return Err(BeginFault::Memory);
         };
         let fails = self.fails_next();
         self.count_call();
-        self.name = Some(begun);
         if fails {
             self.count_fault();
             return Err(BeginFault::Failed);
@@ -162,6 +173,10 @@ impl Source for MemorySource {
         ensures fault { OnErr result (faults_of self.new ≡ min (faults_of self.old + 1) (2 ^ 64 - 1)) }
         ensures no_fault { OnOk result (faults_of self.new ≡ faults_of self.old) }
         ensures later { faults_of self.old ≤ faults_of self.new }
+        ensures unlisted { names_of self.new ≡ names_of self.old }
+        ensures moved { IfOk result (λ n. moved_of self.new ≡ min (moved_of self.old + n) (2 ^ 64 - 1)) }
+        ensures unmoved { OnErr result (moved_of self.new ≡ moved_of self.old) }
+        ensures more { moved_of self.old ≤ moved_of self.new }
         ensures counted { Counts self.old self.new }
         ensures same { (n : List ℕ) → bytes_of self.new n ≡ bytes_of self.old n }
     {
@@ -175,6 +190,7 @@ impl Source for MemorySource {
         let count = buffer.len().min(self.most as usize).min(rest.len());
         buffer[..count].copy_from_slice(&rest[..count]);
         self.position += count;
+        self.moved = self.moved.saturating_add(count as u64);
         Ok(count)
     }
 }

@@ -1,7 +1,7 @@
 // A source of named bytes, which is read one name after another.
 
 ghost use Rattle.prover_io.specs.Outside.{Begun, Broke, ReadGives, Rose};
-ghost use Rattle.std.specs.Prelude.{◌≡◌, ℕ, ◌<◌, ◌≤◌, Bool, true, false, List, length, Option, Some, IsSome, IfOk, OnOk, OnErr, IsErrOf};
+ghost use Rattle.std.specs.Prelude.{◌≡◌, ℕ, ◌+◌, ◌-◌, ◌^◌, ◌<◌, ◌≤◌, ◌++◌, Bool, true, false, List, [], ◌∷◌, length, min, Option, Some, IsSome, IfOk, OnOk, OnErr, IsErrOf};
 
 /// A call that the outside did not serve.
 #[derive(Clone, Copy, Debug, PartialEq, Eq)]
@@ -32,6 +32,12 @@ pub trait Source {
     // Whether that `begin` or a `read` after it answered Failed.
     ghost broken: { Self → Bool };
 
+    // The names of all begins that answered Ok or Failed, in their order.
+    ghost names: { Self → List (List ℕ) };
+
+    // How many bytes the reads moved, at most 2^64 − 1.
+    ghost moved: { Self → ℕ };
+
     /// Begins to read the bytes of a name, from their first on. A begin that fails reads nothing. Where memory is wanting
     /// nothing changes.
     fn begin(&mut self, name: &str) -> Result<(), BeginFault>
@@ -41,6 +47,8 @@ pub trait Source {
         ensures unread { IsErrOf result BeginFault.Failed → left self.new ≡ left self.old }
         ensures memory { IsErrOf result BeginFault.Memory → self.new ≡ self.old }
         ensures later { faults self.old ≤ faults self.new }
+        ensures listed { ¬ (IsErrOf result BeginFault.Memory) → names self.new ≡ names self.old ++ name.now ∷ [] }
+        ensures unmoved { moved self.new ≡ moved self.old }
         ensures same { (n : List ℕ) → bytes_of self.new n ≡ bytes_of self.old n };
 
     /// Moves the next bytes of the name begun to the front of the buffer, and answers how many; 0 is the end. A
@@ -57,5 +65,9 @@ pub trait Source {
         ensures named { at self.new ≡ at self.old }
         ensures cause { OnErr result (Rose (faults self.old) (faults self.new)) }
         ensures later { faults self.old ≤ faults self.new }
+        ensures unlisted { names self.new ≡ names self.old }
+        ensures counted { IfOk result (λ n. moved self.new ≡ min (moved self.old + n) (2 ^ 64 - 1)) }
+        ensures unmoved { OnErr result (moved self.new ≡ moved self.old) }
+        ensures more { moved self.old ≤ moved self.new }
         ensures same { (n : List ℕ) → bytes_of self.new n ≡ bytes_of self.old n };
 }

@@ -1,7 +1,7 @@
 // All bytes of a name, up to a limit.
 
-ghost use Rattle.prover_io.specs.Outside.{Broke, IsLonger, IsWhole, LeavesPast, ReadGives, ReadsAtMost, Rose, TakesAtMost};
-ghost use Rattle.std.specs.Prelude.{◌≡◌, ℕ, ◌+◌, ◌^◌, ◌<◌, ◌≤◌, ◌++◌, List, length, take, false, true, Some, vec_len, IfOk, OnOk, OnErr, IsErrOf, IsSome};
+ghost use Rattle.prover_io.specs.Outside.{BeginsFront, Broke, GrowsAtMost, IsLonger, IsWhole, LeavesPast, ReadGives, ReadsAtMost, Rose, TakesAtMost};
+ghost use Rattle.std.specs.Prelude.{◌≡◌, ℕ, ◌+◌, ◌^◌, ◌<◌, ◌≤◌, ◌++◌, List, [], ◌∷◌, length, take, false, true, Some, vec_len, IfOk, OnOk, OnErr, IsErrOf, IsSome};
 
 use crate::source::{BeginFault, Source};
 use std::alloc::Global;
@@ -22,7 +22,8 @@ pub enum ReadFault {
 }
 
 /// Reads all bytes of a name, in pieces of at most 65,536 bytes. Long where it has more than `most`; Failed where the source
-/// failed, which comes before Long. Whatever it answers, it reads at most one byte past `most`.
+/// failed, which comes before Long. Whatever it answers, it begins the name once at
+/// most, and moves at most one byte past `most`.
 pub fn read_all<S: Source>(
     alloc: Global,
     source: &mut S,
@@ -36,6 +37,9 @@ pub fn read_all<S: Source>(
     ensures stops { IsErrOf result ReadFault.Long → LeavesPast (S.bytes_of source.old name.now) (S.left source.new) most }
     ensures past { ReadsAtMost (S.bytes_of source.old name.now) (S.left source.old) (S.left source.new) (most + 1) }
     ensures named { ¬ (IsErrOf result ReadFault.Memory) → S.at source.new ≡ Some name.now }
+    ensures listed { ¬ (IsErrOf result ReadFault.Memory) → S.names source.new ≡ S.names source.old ++ name.now ∷ [] }
+    ensures begins { BeginsFront (name.now ∷ []) (S.names source.old) (S.names source.new) }
+    ensures moved { GrowsAtMost (S.moved source.old) (S.moved source.new) (most + 1) }
     ensures failed { IsErrOf result ReadFault.Failed → Rose (S.faults source.old) (S.faults source.new) }
     ensures broke { IsErrOf result ReadFault.Failed → Broke (Some name.now) (S.at source.new) (S.broken source.new) }
     ensures later { S.faults source.old ≤ S.faults source.new }
@@ -76,6 +80,9 @@ fn read_piece<S: Source>(
     ensures taken { TakesAtMost (S.left source.old) (S.left source.new) (length buffer.old) }
     ensures unbroken { OnOk result (S.broken source.new ≡ false) }
     ensures named { S.at source.new ≡ S.at source.old }
+    ensures unlisted { S.names source.new ≡ S.names source.old }
+    ensures counted { IfOk result (λ n. GrowsAtMost (S.moved source.old) (S.moved source.new) n) }
+    ensures moved { GrowsAtMost (S.moved source.old) (S.moved source.new) (length buffer.old) }
     ensures short { ¬ (IsErrOf result ReadFault.Long) }
     ensures failed { IsErrOf result ReadFault.Failed → Rose (S.faults source.old) (S.faults source.new) }
     ensures broke { IsErrOf result ReadFault.Failed → S.broken source.new ≡ true }

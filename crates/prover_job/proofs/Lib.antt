@@ -2,3 +2,4 @@ mod Telling
 mod Lines
 mod Printed
 mod Output
+mod Opening

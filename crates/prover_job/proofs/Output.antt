@@ -21,7 +21,7 @@ use Rattle.problem_file.proofs.Bytes.{reads_identifiers}
 use Rattle.search.specs.Run as run
 use Rattle.search.specs.Run.{Ending}
 use Rattle.solve_job.specs.Proved.{IsParted, IsSolvedAs, PrintsProofOf}
-use Rattle.solve_job.specs.declared.proving.ProofForm.{ProofForm}
+use Rattle.answers.specs.declared.form.ProofForm.{ProofForm}
 use Rattle.solve_job.specs.Solved.{AnswersEnd, IsSolved, closed, valid, invalid, saturated, branch, steps as cut_by_steps, overflow as out_of_range, run_end}
 use Rattle.solve_job.proofs.Printing.{parted}
 use Rattle.check_job.specs.Checked.{IsChecked}
@@ -115,7 +115,7 @@ accepted_by form budget bytes a b q is good = by good
     by : (a.status ≡ 0) ⊎ (a.status ≡ 1) → b.status ≡ 0
     by (inl z) =
         let zero : (q.plain).status ≡ 0 = sym (ap status_of q.whole) ∙ z in
-        let v = q.valid form refl zero in whole_accepted form bytes (q.plain).text q.part (Valid v.0) (solved_lines budget bytes q.plain q.solved (inl zero)) v.1 b checked
+        let v = q.valid form refl zero in whole_accepted form bytes (q.plain).text q.part (Valid v.values) (solved_lines budget bytes q.plain q.solved (inl zero)) v.prints b checked
     by (inr z) =
         let one : (q.plain).status ≡ 1 = sym (ap status_of q.whole) ∙ z in
         whole_accepted form bytes (q.plain).text q.part Invalid (solved_lines budget bytes q.plain q.solved (inr one)) (q.invalid form refl one) b checked

@@ -12,8 +12,8 @@ use Rattle.answers.specs.Files.{AnswersBytes, AnswersSource, most_of_file, most_
 use Rattle.answers.proofs.Meeting.{long_answered, meets_more, whole_answered}
 use Rattle.job_words.specs.Jobs.{Task, solve, eliminate, check, drill, IsBudget, NamesJob}
 use Rattle.problem_gen.specs.Drills.{drill_text}
-use Rattle.solve_job.specs.Proved.{IsSolvedAs, PrintsProofOf}
-use Rattle.solve_job.specs.declared.proving.ProofForm.{ProofForm}
+use Rattle.solve_job.specs.Proved.{IsSolvedAs, PrintsProofOf, ProvesValid}
+use Rattle.answers.specs.declared.form.ProofForm.{ProofForm}
 use Rattle.proof_tree.specs.declared.run.Verdict.TheVariants as verdict
 use Rattle.solve_job.specs.Solved.{IsSolved}
 use Rattle.solve_job.proofs.Printing.{parted}
@@ -38,7 +38,7 @@ use Rattle.elim_job.proofs.Causing as elim_causing
 use Rattle.elim_job.proofs.Exactly.{eliminated_status}
 use Rattle.elim_job.proofs.Meaning.{means}
 use Rattle.prover_job.specs.declared.tasks.Stop.{Stop}
-use Rattle.prover_job.specs.Runs.{AnswersTask, AnswersWithProof, IsWithin, SaysChecked, SaysConstraint, SaysValid, SaysRefuted, IsSolveCaused, IsSolveCausedAs, IsElimCaused, IsCheckCaused, IsDrillCaused, asked_form}
+use Rattle.prover_job.specs.Runs.{AnswersTask, AnswersWithProof, IsWithin, SaysChecked, SaysConstraint, SaysValid, SaysRefuted, IsSolveCaused, IsSolveCausedAs, IsElimCaused, IsCheckCaused, IsDrillCaused}
 
 -- ---- files
 
@@ -80,7 +80,7 @@ with_proof_status told bytes a h = bytes_status most_of_proof (λ proof. IsCheck
 
 -- each answer has a status of answers
 pub task_status : (bytes_of : List ℕ → Option (List ℕ)) (task : Task) (a : Answer) → AnswersTask bytes_of task a → IsAnswerStatus a.status
-task_status bytes_of (solve file budget proof short) a h = bytes_status most_of_file (IsSolvedAs (asked_form proof short) budget) (solved_as_status (asked_form proof short) budget) h.bytes a h.is
+task_status bytes_of (solve file budget asked) a h = bytes_status most_of_file (IsSolvedAs asked budget) (solved_as_status asked budget) h.bytes a h.is
 task_status bytes_of (eliminate file budget) a h = bytes_status most_of_file (IsEliminated budget) (eliminated_status budget) h.bytes a h.is
 task_status bytes_of (check file proof) a h = bytes_status most_of_file (AnswersWithProof (bytes_of proof)) (with_proof_status (bytes_of proof)) h.bytes a h.is
 task_status bytes_of (drill count budget) a h = subst (λ b. IsAnswerStatus b.status) (sym h.drilled) (solved_status budget (drill_text count) h.solved h.solves)
@@ -107,7 +107,7 @@ record Means (w : Meaning) (asked : Option ProofForm) (bytes : List ℕ) (a : An
   whole : a.text ≡ text ++ part
   none : asked ≡ None → part ≡ []
   headline : Headline w bytes (record { status = a.status; text = text })
-  valid : (form : ProofForm) → asked ≡ Some form → a.status ≡ 0 → (vs : List ℤ) × PrintsProofOf form bytes (verdict.Valid vs) part
+  valid : (form : ProofForm) → asked ≡ Some form → a.status ≡ 0 → ProvesValid form bytes text part
   invalid : (form : ProofForm) → asked ≡ Some form → a.status ≡ 1 → PrintsProofOf form bytes verdict.Invalid part
 
 bytes_headline : (w : Meaning) (asked : Option ProofForm) (budget : ℕ) (bytes : List ℕ) (a : Answer) → AnswersBytes most_of_file (IsSolvedAs asked budget) bytes a → Means w asked bytes a
@@ -254,7 +254,7 @@ budget_small (text ∷ more ∷ rest) n h = absurd h
 -- the numbers of a job that words name are small enough
 pub named_within : (words : List (List ℕ)) (task : Task) → NamesJob words task → IsWithin task
 named_within [] task h = absurd h
-named_within (command ∷ line) (solve file budget proof short) h = budget_small _ budget h.1.budget_is
+named_within (command ∷ line) (solve file budget asked) h = budget_small _ budget h.1.budget_is
 named_within (command ∷ line) (eliminate file budget) h = let small = budget_small _ budget h.1.budget_is in omega (arith, small)
 named_within (command ∷ line) (check file proof) h = tt
 named_within (command ∷ line) (drill count budget) h = (h.1.count_is.within, budget_small _ budget h.1.budget_is)

@@ -1,15 +1,14 @@
 -- What a run answers to its words over a source of named bytes, and what its end means.
-use Rattle.std.specs.Prelude.{◌≡◌, ◌≤◌, ◌<◌, ◌^◌, ℕ, ℤ, Bool, true, false, List, [], ◌++◌, Option, Some, None, Contains}
+use Rattle.std.specs.Prelude.{◌≡◌, ◌⊎◌, ◌+◌, ◌≤◌, ◌<◌, ◌^◌, ℕ, ℤ, Bool, true, false, List, [], ◌∷◌, ◌++◌, length, Option, Some, None, Contains}
 use Rattle.typed_formula.specs.Truth.{Meaning}
-use Rattle.prover_io.specs.Outside.{Broke, IsWhole}
+use Rattle.prover_io.specs.Outside.{Broke, IsLonger, IsWhole}
 use Rattle.answers.specs.Answer.{Answer}
 use Rattle.answers.specs.Files.{AnswersSource, most_of_file, most_of_proof}
 use Rattle.answers.specs.Outside.{PutsAll}
 use Rattle.job_words.specs.Jobs.{Task, solve, eliminate, check, drill, files_of, NamesJob}
 use Rattle.proof_tree.specs.declared.run.Verdict.TheVariants as verdict
-use Rattle.solve_job.specs.Proved.{IsSolvedAs, PrintsProofOf, extended}
-use Rattle.solve_job.specs.declared.proving.ProofForm.{ProofForm}
-use Rattle.solve_job.specs.declared.proving.ProofForm.TheVariants.{Whole, Short}
+use Rattle.solve_job.specs.Proved.{IsSolvedAs, PrintsProofOf, ProvesValid, extended}
+use Rattle.answers.specs.declared.form.ProofForm.{ProofForm}
 use Rattle.check_job.specs.Checked.{IsChecked}
 use Rattle.check_job.specs.Meaning.{Confirms}
 use Rattle.check_job.specs.Causes as check_causes
@@ -32,7 +31,7 @@ NameNoFile words = (task : Task) → NamesJob words task → files_of task ≡ [
 
 -- the numbers of a job are small enough for its work
 abbrev pub IsWithin : Task → Type 0
-IsWithin (solve file budget proof short) = budget ≤ 1000000000
+IsWithin (solve file budget asked) = budget ≤ 1000000000
 IsWithin (eliminate file budget) = budget < 2 ^ 32
 IsWithin (check file proof) = Unit {0}
 IsWithin (drill count budget) = (count ≤ 1000) × (budget ≤ 1000000000)
@@ -41,15 +40,9 @@ IsWithin (drill count budget) = (count ≤ 1000) × (budget ≤ 1000000000)
 abbrev pub AnswersWithProof : Option (List ℕ) → List ℕ → Answer → Type 0
 AnswersWithProof told bytes = AnswersSource most_of_proof (λ proof. IsChecked proof bytes) told
 
--- the form of the proof that the flags of `solve` ask for
-abbrev pub asked_form : Bool → Bool → Option ProofForm
-asked_form true short = Some Whole
-asked_form false true = Some Short
-asked_form false false = None
-
 -- the answer of each job
 abbrev pub AnswersTask : (List ℕ → Option (List ℕ)) → Task → Answer → Type 0
-AnswersTask bytes_of (solve file budget proof short) = AnswersSource most_of_file (IsSolvedAs (asked_form proof short) budget) (bytes_of file)
+AnswersTask bytes_of (solve file budget asked) = AnswersSource most_of_file (IsSolvedAs asked budget) (bytes_of file)
 AnswersTask bytes_of (eliminate file budget) = AnswersSource most_of_file (IsEliminated budget) (bytes_of file)
 AnswersTask bytes_of (check file proof) = AnswersSource most_of_file (AnswersWithProof (bytes_of proof)) (bytes_of file)
 AnswersTask bytes_of (drill count budget) = IsDrilled budget count
@@ -57,6 +50,24 @@ AnswersTask bytes_of (drill count budget) = IsDrilled budget count
 -- the name is that of a file of the job
 abbrev pub IsJobFile : Task → Option (List ℕ) → Type 0
 IsJobFile task name = (file : List ℕ) × Contains (files_of task) file × (name ≡ Some file)
+
+-- how many bytes a job moves at most: of each of its files one past what such a file has at most
+abbrev pub most_moved : Task → ℕ
+most_moved (solve file budget asked) = most_of_file + 1
+most_moved (eliminate file budget) = most_of_file + 1
+most_moved (check file proof) = (most_of_file + 1) + (most_of_proof + 1)
+most_moved (drill count budget) = 0
+
+-- a problem's file whose bytes are told so is not longer than such a file may be
+abbrev pub IsHeld : Option (List ℕ) → Type 0
+IsHeld told = (bytes : List ℕ) × IsWhole told bytes × (length bytes ≤ most_of_file)
+
+-- the names that a job begins which is answered: those of its files, in their order; but `check` begins the proof's file only where
+-- the problem's is held, and none where that is too long
+abbrev pub AreBegun : (List ℕ → Option (List ℕ)) → Task → List (List ℕ) → List (List ℕ) → Type 0
+AreBegun bytes_of (check file proof) before after =
+    (IsLonger (bytes_of file) most_of_file × (after ≡ before ++ file ∷ [])) ⊎ (IsHeld (bytes_of file) × (after ≡ before ++ file ∷ proof ∷ []))
+AreBegun bytes_of task before after = after ≡ before ++ files_of task
 
 -- the source is broken at a file of the job
 abbrev pub BrokeAt : Task → Option (List ℕ) → Bool → Type 0
@@ -72,7 +83,7 @@ pub record SaysValid (w : Meaning) (asked : Option ProofForm) (told before after
   pub put : PutsAll before after (text ++ part)
   pub valid : Validates w bytes text
   pub none : asked ≡ None → part ≡ []
-  pub proved : (form : ProofForm) → asked ≡ Some form → (vs : List ℤ) × PrintsProofOf form bytes (verdict.Valid vs) part
+  pub proved : (form : ProofForm) → asked ≡ Some form → ProvesValid form bytes text part
 
 -- the bytes of a file, where they are told, read as a problem of which the text put says what is so
 pub record SaysChecked (w : Meaning) (told before after : Option (List ℕ)) : Type 0 where

@@ -4,7 +4,7 @@ ghost use Rattle.answers.specs.Answer.{Answer};
 ghost use Rattle.check_job.specs.Checked.{IsChecked};
 ghost use Rattle.proof_tree.specs.declared.run.Verdict.{Verdict};
 ghost use Rattle.solve_job.specs.Proved.{IsSolvedAs, PrintsProofOf};
-ghost use Rattle.solve_job.specs.declared.proving.ProofForm.{ProofForm};
+ghost use Rattle.answers.specs.declared.form.ProofForm.{ProofForm};
 ghost use Rattle.std.specs.Prelude.{◌≡◌, ◌⊎◌, List, Some, ℕ};
 
 /// The proof that `solve` prints behind the line `proof:`, in whichever form, is accepted: `check` of the same file and of these

@@ -3,10 +3,11 @@
 ghost use Rattle.answers.specs.Answer.{IsStatus, words_answer};
 ghost use Rattle.answers.specs.Files.{AnswersSource, most_of_file};
 ghost use Rattle.answers.specs.Outside.{Meets};
+ghost use Rattle.answers.specs.declared.form.ProofForm.{ProofForm};
 ghost use Rattle.job_words.specs.Jobs.{NamesJob, Task, check, drill, eliminate, files_of, solve, task_of};
-ghost use Rattle.prover_io.specs.Outside.{Rose};
-ghost use Rattle.prover_job.specs.Runs.{AnswersTask, BrokeAt, IsCheckCaused, IsDrillCaused, IsElimCaused, IsJobFile, IsSolveCausedAs, IsWithin, NameNoFile, NameNoJob, SaysChecked, SaysConstraint, SaysRefuted, SaysValid, asked_form};
-ghost use Rattle.std.specs.Prelude.{◌≡◌, ◌≢◌, ◌⊎◌, ℕ, Bool, List, [], map, string_bytes};
+ghost use Rattle.prover_io.specs.Outside.{BeginsFront, GrowsAtMost, Rose};
+ghost use Rattle.prover_job.specs.Runs.{AnswersTask, AreBegun, BrokeAt, IsCheckCaused, IsDrillCaused, IsElimCaused, IsJobFile, IsSolveCausedAs, IsWithin, NameNoFile, NameNoJob, SaysChecked, SaysConstraint, SaysRefuted, SaysValid, most_moved};
+ghost use Rattle.std.specs.Prelude.{◌≡◌, ◌≢◌, ◌⊎◌, ℕ, List, [], Option, map, string_bytes};
 
 use crate::tasks::{Stop, job_output};
 use answers::put_answer;
@@ -30,16 +31,16 @@ pub fn run<S: Source, K: Sink, W: World>(
     ensures answered { (task : Task) → NamesJob (map string_bytes words.now) task
         → Meets (AnswersTask (S.bytes_of source.old) task) result (K.taken sink.old) (K.taken sink.new) }
     ensures no_job { NameNoJob (map string_bytes words.now) → Meets (λ answer. answer ≡ words_answer) result (K.taken sink.old) (K.taken sink.new) }
-    ensures valid { (file : List ℕ) (budget : ℕ) (proof short : Bool) → NamesJob (map string_bytes words.now) (solve file budget proof short) → result ≡ 0
-        → SaysValid (record { truth = W.truth world.now; value = W.value world.now }) (asked_form proof short) (S.bytes_of source.old file) (K.taken sink.old) (K.taken sink.new) }
-    ensures refuted { (file : List ℕ) (budget : ℕ) (proof short : Bool) → NamesJob (map string_bytes words.now) (solve file budget proof short) → result ≡ 1
-        → SaysRefuted (asked_form proof short) (S.bytes_of source.old file) (K.taken sink.old) (K.taken sink.new) }
+    ensures valid { (file : List ℕ) (budget : ℕ) (asked : Option ProofForm) → NamesJob (map string_bytes words.now) (solve file budget asked) → result ≡ 0
+        → SaysValid (record { truth = W.truth world.now; value = W.value world.now }) asked (S.bytes_of source.old file) (K.taken sink.old) (K.taken sink.new) }
+    ensures refuted { (file : List ℕ) (budget : ℕ) (asked : Option ProofForm) → NamesJob (map string_bytes words.now) (solve file budget asked) → result ≡ 1
+        → SaysRefuted asked (S.bytes_of source.old file) (K.taken sink.old) (K.taken sink.new) }
     ensures checked { (file proof : List ℕ) → NamesJob (map string_bytes words.now) (check file proof) → result ≡ 0
         → SaysChecked (record { truth = W.truth world.now; value = W.value world.now }) (S.bytes_of source.old file) (K.taken sink.old) (K.taken sink.new) }
     ensures constraint { (file : List ℕ) (budget : ℕ) → NamesJob (map string_bytes words.now) (eliminate file budget) → result ≡ 0
         → SaysConstraint (record { truth = W.truth world.now; value = W.value world.now }) (S.bytes_of source.old file) (K.taken sink.old) (K.taken sink.new) }
-    ensures solve_causes { (file : List ℕ) (budget : ℕ) (proof short : Bool) → NamesJob (map string_bytes words.now) (solve file budget proof short)
-        → Meets (AnswersSource most_of_file (IsSolveCausedAs (asked_form proof short) budget) (S.bytes_of source.old file)) result (K.taken sink.old) (K.taken sink.new) }
+    ensures solve_causes { (file : List ℕ) (budget : ℕ) (asked : Option ProofForm) → NamesJob (map string_bytes words.now) (solve file budget asked)
+        → Meets (AnswersSource most_of_file (IsSolveCausedAs asked budget) (S.bytes_of source.old file)) result (K.taken sink.old) (K.taken sink.new) }
     ensures elim_causes { (file : List ℕ) (budget : ℕ) → NamesJob (map string_bytes words.now) (eliminate file budget)
         → Meets (AnswersSource most_of_file (IsElimCaused budget) (S.bytes_of source.old file)) result (K.taken sink.old) (K.taken sink.new) }
     ensures check_causes { (file proof : List ℕ) → NamesJob (map string_bytes words.now) (check file proof)
@@ -48,6 +49,10 @@ pub fn run<S: Source, K: Sink, W: World>(
         → Meets (IsDrillCaused (record { truth = W.truth world.now; value = W.value world.now }) budget count) result (K.taken sink.old) (K.taken sink.new) }
     ensures unread { NameNoFile (map string_bytes words.now) → source.new ≡ source.old }
     ensures begun { (task : Task) → NamesJob (map string_bytes words.now) task → files_of task ≢ [] → result ≢ 8 → IsJobFile task (S.at source.new) }
+    ensures listed { (task : Task) → NamesJob (map string_bytes words.now) task → result ≢ 6 → result ≢ 8
+        → AreBegun (S.bytes_of source.old) task (S.names source.old) (S.names source.new) }
+    ensures front { (task : Task) → NamesJob (map string_bytes words.now) task → BeginsFront (files_of task) (S.names source.old) (S.names source.new) }
+    ensures moved { (task : Task) → NamesJob (map string_bytes words.now) task → GrowsAtMost (S.moved source.old) (S.moved source.new) (most_moved task) }
     ensures source_failed { result ≡ 6 → Rose (S.faults source.old) (S.faults source.new) }
     ensures named { result ≡ 6 → (task : Task) × NamesJob (map string_bytes words.now) task × BrokeAt task (S.at source.new) (S.broken source.new) }
     ensures sink_failed { result ≡ 7 → Rose (K.faults sink.old) (K.faults sink.new) }
@@ -67,6 +72,9 @@ fn do_job<S: Source, K: Sink>(alloc: Global, source: &mut S, sink: &mut K, job: 
     requires { IsWithin (task_of job.now) }
     ensures answered { Meets (AnswersTask (S.bytes_of source.old) (task_of job.now)) result (K.taken sink.old) (K.taken sink.new) }
     ensures begun { files_of (task_of job.now) ≢ [] → result ≢ 8 → IsJobFile (task_of job.now) (S.at source.new) }
+    ensures listed { result ≢ 6 → result ≢ 8 → AreBegun (S.bytes_of source.old) (task_of job.now) (S.names source.old) (S.names source.new) }
+    ensures front { BeginsFront (files_of (task_of job.now)) (S.names source.old) (S.names source.new) }
+    ensures moved { GrowsAtMost (S.moved source.old) (S.moved source.new) (most_moved (task_of job.now)) }
     ensures unread { files_of (task_of job.now) ≡ [] → source.new ≡ source.old }
     ensures source_failed { result ≡ 6 → Rose (S.faults source.old) (S.faults source.new) }
     ensures named { result ≡ 6 → BrokeAt (task_of job.now) (S.at source.new) (S.broken source.new) }

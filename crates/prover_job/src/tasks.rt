@@ -1,22 +1,21 @@
 // What each job answers, from its files; nothing is put yet.
 
 ghost use Rattle.answers.specs.Answer.{answer_of, long_answer};
-ghost use Rattle.answers.specs.Files.{AnswersSource, most_of_file};
+ghost use Rattle.answers.specs.Files.{AnswersSource, most_of_file, most_of_proof};
 ghost use Rattle.elim_job.specs.Eliminated.{IsEliminated};
 ghost use Rattle.job_words.specs.Jobs.{check, files_of, task_of};
-ghost use Rattle.prover_io.specs.Outside.{Broke, Rose};
+ghost use Rattle.prover_io.specs.Outside.{BeginsFront, Broke, GrowsAtMost, Rose};
 ghost use Rattle.prover_io.specs.declared.whole.ReadFault.{ReadFault};
-ghost use Rattle.prover_job.specs.Runs.{AnswersTask, AnswersWithProof, BrokeAt, IsJobFile, IsWithin, asked_form};
+ghost use Rattle.prover_job.specs.Runs.{AnswersTask, AnswersWithProof, AreBegun, BrokeAt, IsJobFile, IsWithin, most_moved};
 ghost use Rattle.prover_job.specs.declared.tasks.Stop.{Stop};
 ghost use Rattle.solve_job.specs.Proved.{IsSolvedAs};
-ghost use Rattle.std.specs.Prelude.{◌≡◌, ◌≢◌, ◌<◌, ◌≤◌, ◌^◌, length, IfOk, IsErrOf, Some, []};
+ghost use Rattle.std.specs.Prelude.{◌≡◌, ◌≢◌, ◌+◌, ◌<◌, ◌≤◌, ◌^◌, ◌++◌, length, IfOk, IsErrOf, OnOk, Some, [], ◌∷◌};
 
 use answers::status::FILE_TOO_LONG;
-use answers::{Output, say};
+use answers::{Output, ProofForm, say};
 use job_words::Job;
 use linear_term::Memory;
 use prover_io::{ReadFault, Source, read_all};
-use solve_job::ProofForm;
 use std::alloc::Global;
 
 // How many bytes a problem's file has at most.
@@ -54,35 +53,20 @@ pub(crate) fn job_output<S: Source>(
     ensures rose { IsErrOf result Stop.Source → Rose (S.faults source.old) (S.faults source.new) }
     ensures broke { IsErrOf result Stop.Source → BrokeAt (task_of job.now) (S.at source.new) (S.broken source.new) }
     ensures begun { files_of (task_of job.now) ≢ [] → ¬ (IsErrOf result Stop.Memory) → IsJobFile (task_of job.now) (S.at source.new) }
+    ensures listed { OnOk result (AreBegun (S.bytes_of source.old) (task_of job.now) (S.names source.old) (S.names source.new)) }
+    ensures front { BeginsFront (files_of (task_of job.now)) (S.names source.old) (S.names source.new) }
+    ensures moved { GrowsAtMost (S.moved source.old) (S.moved source.new) (most_moved (task_of job.now)) }
     ensures unread { files_of (task_of job.now) ≡ [] → source.new ≡ source.old }
 {
     match job {
         Job::Solve {
             file,
             budget,
-            proof,
-            short,
-        } => solve_output(
-            alloc,
-            source,
-            file.as_str(),
-            *budget,
-            proof_form(*proof, *short),
-        ),
+            asked,
+        } => solve_output(alloc, source, file.as_str(), *budget, *asked),
         Job::Check { file, proof } => check_output(alloc, source, file.as_str(), proof.as_str()),
         Job::Elim { file, budget } => elim_output(alloc, source, file.as_str(), *budget),
         Job::Drill { count, budget } => Ok(drill_job::answer(alloc, *count, *budget)?),
-    }
-}
-
-// The form of the proof that the flags of `solve` ask for, if they ask for one.
-fn proof_form(proof: bool, short: bool) -> Option<ProofForm>
-    ensures { result ≡ asked_form proof short }
-{
-    match (proof, short) {
-        (true, _) => Some(ProofForm::Whole),
-        (false, true) => Some(ProofForm::Short),
-        (false, false) => None,
     }
 }
 
@@ -99,6 +83,9 @@ fn solve_output<S: Source>(
     ensures rose { IsErrOf result Stop.Source → Rose (S.faults source.old) (S.faults source.new) }
     ensures broke { IsErrOf result Stop.Source → Broke (Some file.now) (S.at source.new) (S.broken source.new) }
     ensures begun { ¬ (IsErrOf result Stop.Memory) → S.at source.new ≡ Some file.now }
+    ensures listed { OnOk result (S.names source.new ≡ S.names source.old ++ file.now ∷ []) }
+    ensures front { BeginsFront (file.now ∷ []) (S.names source.old) (S.names source.new) }
+    ensures moved { GrowsAtMost (S.moved source.old) (S.moved source.new) (most_of_file + 1) }
 {
     match read_all(alloc, source, file, FILE) {
         Ok(bytes) => Ok(solve_job::answer(alloc, bytes.as_slice(), budget, asked)?),
@@ -118,6 +105,9 @@ fn elim_output<S: Source>(
     ensures rose { IsErrOf result Stop.Source → Rose (S.faults source.old) (S.faults source.new) }
     ensures broke { IsErrOf result Stop.Source → Broke (Some file.now) (S.at source.new) (S.broken source.new) }
     ensures begun { ¬ (IsErrOf result Stop.Memory) → S.at source.new ≡ Some file.now }
+    ensures listed { OnOk result (S.names source.new ≡ S.names source.old ++ file.now ∷ []) }
+    ensures front { BeginsFront (file.now ∷ []) (S.names source.old) (S.names source.new) }
+    ensures moved { GrowsAtMost (S.moved source.old) (S.moved source.new) (most_of_file + 1) }
 {
     match read_all(alloc, source, file, FILE) {
         Ok(bytes) => Ok(elim_job::answer(alloc, bytes.as_slice(), budget)?),
@@ -136,6 +126,9 @@ fn check_output<S: Source>(
     ensures rose { IsErrOf result Stop.Source → Rose (S.faults source.old) (S.faults source.new) }
     ensures broke { IsErrOf result Stop.Source → BrokeAt (check file.now proof.now) (S.at source.new) (S.broken source.new) }
     ensures begun { ¬ (IsErrOf result Stop.Memory) → IsJobFile (check file.now proof.now) (S.at source.new) }
+    ensures listed { OnOk result (AreBegun (S.bytes_of source.old) (check file.now proof.now) (S.names source.old) (S.names source.new)) }
+    ensures front { BeginsFront (file.now ∷ proof.now ∷ []) (S.names source.old) (S.names source.new) }
+    ensures moved { GrowsAtMost (S.moved source.old) (S.moved source.new) (most_moved (check file.now proof.now)) }
 {
     match read_all(alloc, source, file, FILE) {
         Ok(bytes) => proof_output(alloc, source, bytes.as_slice(), proof),
@@ -155,6 +148,9 @@ fn proof_output<S: Source>(
     ensures rose { IsErrOf result Stop.Source → Rose (S.faults source.old) (S.faults source.new) }
     ensures broke { IsErrOf result Stop.Source → Broke (Some proof.now) (S.at source.new) (S.broken source.new) }
     ensures begun { ¬ (IsErrOf result Stop.Memory) → S.at source.new ≡ Some proof.now }
+    ensures listed { OnOk result (S.names source.new ≡ S.names source.old ++ proof.now ∷ []) }
+    ensures front { BeginsFront (proof.now ∷ []) (S.names source.old) (S.names source.new) }
+    ensures moved { GrowsAtMost (S.moved source.old) (S.moved source.new) (most_of_proof + 1) }
 {
     match read_all(alloc, source, proof, PROOF) {
         Ok(text) => Ok(check_job::answer(alloc, bytes, text.as_slice())?),

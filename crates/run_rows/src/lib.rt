@@ -24,4 +24,6 @@ mod solved;
 #[cfg(test)]
 mod strangers;
 #[cfg(test)]
+mod typed;
+#[cfg(test)]
 mod words;

@@ -45,6 +45,57 @@ fn two_hundred_levels_are_read(rt: HostRuntime) -> Result<(), Fail> {
     Ok(())
 }
 
+// The bytes of a problem before whose formula stands `head`, which ends with this many names of one binder or block.
+fn named(alloc: Global, head: &str, count: usize, tail: &str) -> Result<Vec<u8>, Fail> {
+    let mut bytes = Vec::from_slice(alloc, head.as_bytes())?;
+    for number in 0..count {
+        if number > 0 {
+            bytes.push(b',')?;
+        }
+        bytes.push(b'n')?;
+        bytes.extend_from_slice(number.to_string(alloc)?.as_bytes())?;
+    }
+    bytes.extend_from_slice(tail.as_bytes())?;
+    Ok(bytes)
+}
+
+#[test]
+fn many_symbols_and_long_branches_have_a_name(rt: HostRuntime) -> Result<(), Fail> {
+    let rows: [(&str, usize, &str, (u8, &str)); 4] = [
+        (
+            "\\universalConstants { int ",
+            1_000,
+            "; } \\problem { n0 = n0 }",
+            (0, "VALID\n"),
+        ),
+        (
+            "\\universalConstants { int ",
+            1_001,
+            "; } \\problem { n0 = n0 }",
+            (3, "refused: Many at 4916\n"),
+        ),
+        (
+            "\\predicates { p(int); } \\problem { \\exists int x; \\forall int ",
+            150,
+            "; p(n0) }",
+            (2, "UNKNOWN: branch\n"),
+        ),
+        (
+            "\\predicates { p; } \\universalConstants { int ",
+            1,
+            "; } \\problem { p<->p<->p<->p<->p<->p<->p<->p<->p<->p<->p<->p<->p<->p<->p<->p<->p<->p<->p<->p<->p<->p<->p<->p<->p<->p<->p<->p<->p<->p }",
+            (3, "refused: Large\n"),
+        ),
+    ];
+    for (head, count, tail, (status, text)) in rows {
+        let bytes = named(rt.alloc(), head, count, tail)?;
+        let (ended, taken) = ends(rt.alloc(), &["solve", "f"], bytes.as_slice(), &[], &[])?;
+        assert_eq!(rt; ended, status, "at {head} with {count}");
+        assert_eq!(rt; taken.as_slice(), text.as_bytes(), "at {head} with {count}");
+    }
+    Ok(())
+}
+
 #[test]
 fn long_chains_are_read(rt: HostRuntime) -> Result<(), Fail> {
     for (formula, filling, status) in [

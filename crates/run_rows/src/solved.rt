@@ -123,6 +123,14 @@ fn predicates_and_functions_are_searched(rt: HostRuntime) -> Result<(), Fail> {
                 "\\predicates { p; } \\problem { p }",
                 (2, "UNKNOWN: saturated\n"),
             ),
+            (
+                "\\existentialConstants { int a; } \\functions { int f(int); } \\problem { a = f(0) }",
+                (2, "UNKNOWN: saturated\n"),
+            ),
+            (
+                "\\predicates { p(int); } \\problem { p(0) -> p(0) & p(1) }",
+                (2, "UNKNOWN: saturated\n"),
+            ),
         ],
     )
 }

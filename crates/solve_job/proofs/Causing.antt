@@ -6,16 +6,19 @@ use Rattle.proof_tree.specs.Proof.{Proof}
 use Rattle.search.specs.Run as run
 use Rattle.search.specs.Run.{Ending, ends_with, out_of_steps, overflows}
 use Rattle.encoding.specs.Problems.{problem_root}
-use Rattle.encoding.proofs.Problems.{pure_is}
+use Rattle.encoding.proofs.Problems.{pure_is, root_over}
+use Rattle.problem_file.proofs.Bytes.{reads_formed}
 use Rattle.pri_typing.specs.declared.problem.Problem.{Problem}
 use Rattle.answers.specs.Answer.{Answer, line, placed, refused_answer, unknown_answer}
+use Rattle.problem_file.specs.Reads.{Refusal}
 use Rattle.problem_file.specs.Refusals.{refusal_name}
+use Rattle.problem_file.proofs.Naming.{comes_of, not_large, not_unsupported}
 use Rattle.problem_file.specs.Answers.{Poses, PosesOne, refused, unsupported, posed}
 use Rattle.problem_file.specs.Encoded.{Fits, LeavesRange, large, leaves, runs}
 use Rattle.interpolant_lines.specs.Blocks.{AreBlockLines}
 use Rattle.interpolant_lines.proofs.Listing.{blocks_caused}
 use Rattle.solve_job.specs.Solved.{AnswersEnd, closed, valid, invalid, saturated, branch, steps, overflow, run_end, IsSolved}
-use Rattle.problem_file.specs.Refused.{IsRefused, first, special, too_large}
+use Rattle.problem_file.specs.Refused.{ComesOf, IsRefused, first, special, too_large}
 use Rattle.solve_job.specs.Causes.{Ends, IsValid, IsInvalid, IsSaturated, IsTooLong, IsOutOfSteps, IsOutOfRange, TellsBlocks, Causes, Decides}
 use Rattle.solve_job.proofs.Exactly.{by_end, end_answer, found_answer, one_answer, run_answered}
 use Rattle.solve_job.proofs.Meaning.{tells}
@@ -135,6 +138,12 @@ refused_status budget bytes a solved (first r h) = ap status_of (one_answer budg
 refused_status budget bytes a solved (special at h) = ap status_of (one_answer budget bytes a _ solved (unsupported at h refl))
 refused_status budget bytes a solved (too_large h) = ap status_of (one_answer budget bytes a _ solved (posed h.0 h.1 (large h.2 refl)))
 
+-- the text of a refusal comes of that refusal alone
+only_first : (budget : ℕ) (bytes : List ℕ) (a : Answer) → IsSolved budget bytes a → (r : Refusal) → a ≡ refused_answer (refusal_name r) → IsRefused bytes → ComesOf bytes r
+only_first budget bytes a solved r e (first q h) = comes_of bytes a r q e h (one_answer budget bytes a _ solved (refused q h refl))
+only_first budget bytes a solved r e (special at h) = absurd (not_unsupported a r at e (one_answer budget bytes a _ solved (unsupported at h refl)))
+only_first budget bytes a solved r e (too_large h) = absurd (not_large a r e (one_answer budget bytes a _ solved (posed h.0 h.1 (large h.2 refl))))
+
 out_of_range : (budget : ℕ) (bytes : List ℕ) (a : Answer) → IsSolved budget bytes a → PosesOne bytes LeavesRange ⊎ Ends budget bytes IsOutOfRange → a ≡ unknown_answer (codes "overflow")
 out_of_range budget bytes a solved (inl h) = one_answer budget bytes a _ solved (posed h.0 h.1 (leaves h.2 refl))
 out_of_range budget bytes a solved (inr h) = ended budget bytes a h.0 _ solved h.1 h.2.0 h.2.1.2
@@ -187,6 +196,7 @@ causes budget bytes a solved = record {
   );
   refuses = (refused_by budget bytes a solved, refused_status budget bytes a solved);
   refused = λ r h. one_answer budget bytes a _ solved (refused r h refl);
+  only = λ r e. only_first budget bytes a solved r e (refused_by budget bytes a solved (ap status_of e));
   unsupported = λ at h. one_answer budget bytes a _ solved (unsupported at h refl);
   large = λ h. one_answer budget bytes a _ solved (posed h.0 h.1 (large h.2 refl));
   blocks = λ p vs x stands poses fits alone is. blocks_told p (run_end budget p) a (run_answered budget bytes a p solved poses fits) vs x stands alone is;
@@ -206,7 +216,7 @@ decides budget bytes a solved p poses fits pure no_steps no_overflow = by (run_e
     by : (end : Ending run.Answer) → run_end budget p ≡ end → (a.status ≡ 0) ⊎ (a.status ≡ 1)
     by (ends_with (run.valid vs x) stands) is = inl (valid_status budget bytes a p solved poses fits (vs, x, stands, is))
     by (ends_with (run.invalid log x) stands) is = inr (ap status_of (ended budget bytes a p _ solved poses fits is))
-    by (ends_with (run.saturated log x) stands) is = absurd (not_both (is_pure (problem_root p).value) is_so (tells budget p _ stands is))
-    by (ends_with run.too_long stands) is = absurd (not_both (is_pure (problem_root p).value) is_so (tells budget p _ stands is))
+    by (ends_with (run.saturated log x) stands) is = absurd (not_both (is_pure (problem_root p).value) is_so (tells budget p (root_over p (reads_formed bytes p poses.reads)) _ stands is))
+    by (ends_with run.too_long stands) is = absurd (not_both (is_pure (problem_root p).value) is_so (tells budget p (root_over p (reads_formed bytes p poses.reads)) _ stands is))
     by (out_of_steps stands) is = absurd (no_steps (stands, is))
     by (overflows numbers stands) is = absurd (no_overflow (numbers, stands, is))

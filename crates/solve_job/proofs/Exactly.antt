@@ -1,9 +1,13 @@
 -- A file has at most one answer of `solve`, and it has a status of answers.
-use Rattle.std.proofs.Common.{◌≡◌, ◌≢◌, ℕ, ℤ, List, [], ◌∷◌, ◌++◌, length, refl, sym, ◌∙◌, ap, subst, codes}
+use Rattle.std.proofs.Common.{◌≡◌, ◌≢◌, ℕ, ℤ, List, [], ◌∷◌, ◌++◌, length, Option, Some, None, refl, sym, ◌∙◌, ap, subst, codes}
 use Rattle.std.specs.List.{concat}
+use Rattle.purse.specs.Runs.{total}
 use Rattle.purse.specs.Trace.{Funds, at}
 use Rattle.formula.specs.Form.{Form}
+use Rattle.proof_tree.specs.declared.node.Conclusion.{Conclusion}
+use Rattle.proof_tree.specs.declared.node.Conclusion.TheVariants.{Solution, Nothing}
 use Rattle.proof_tree.specs.Proof.{Proof, given}
+use Rattle.proof_tree.specs.Proves.{proof_walk}
 use Rattle.search.specs.Run as run
 use Rattle.search.specs.Run.{Ending, ending, ends_with, out_of_steps, overflows, canonical_run}
 use Rattle.pri_typing.specs.declared.problem.Problem.{Problem}
@@ -19,6 +23,8 @@ use Rattle.problem_file.specs.Encoded.{AnswersEncoded, Fits, large, leaves, runs
 use Rattle.problem_file.proofs.Answering.{one_of_file, posed_answered}
 use Rattle.problem_file.proofs.Encoded.{fitting_answered, one_of_encoded, root_same, same_encoded}
 use Rattle.interpolant_lines.proofs.Listing.{block_lines, lines_are, same_list}
+use Rattle.answers.specs.declared.form.ProofForm.{ProofForm}
+use Rattle.solve_job.specs.Proved.{AnswersRunAs, IsPart, IsSolvedAs, PrintsEnd, PrintsProof, charges_of, extended}
 use Rattle.solve_job.specs.Solved.{closed_answer, valid_answer, AnswersEnd, closed, valid, invalid, saturated, branch, steps, overflow, run_end, AnswersRun, IsSolved}
 
 -- ---- one answer to each end
@@ -109,3 +115,58 @@ solved_status budget bytes a (unsupported at h e) = subst (λ b. IsAnswerStatus 
 solved_status budget bytes a (posed p h (large l e)) = subst (λ b. IsAnswerStatus b.status) (sym e) refl
 solved_status budget bytes a (posed p h (leaves l e)) = subst (λ b. IsAnswerStatus b.status) (sym e) refl
 solved_status budget bytes a (posed p h (runs f k)) = end_status p (run_end budget p) a k
+
+-- ---- with the proof
+
+one_text : (form : ProofForm) (n : ℕ) (x : Proof) (c : Conclusion) (a b : List ℕ) → PrintsProof form n x c a → PrintsProof form n x c b → a ≡ b
+one_text form n x c a b h k = h.line ∙ ap (λ t. line (codes "proof:") ++ t) (h.is ∙ sym k.is) ∙ sym k.line
+
+one_part : (form : ProofForm) (p : Problem) (end : Ending run.Answer) (a b : List ℕ) → PrintsEnd form p end a → PrintsEnd form p end b → a ≡ b
+one_part form p (ends_with (run.valid vs x) stands) a b h k = one_text form (charges_of p x (Solution vs)) x (Solution vs) a b h k
+one_part form p (ends_with (run.invalid log x) stands) a b h k =
+    one_text form (charges_of p x (Nothing (record { entries = log }))) x (Nothing (record { entries = log })) a b h k
+one_part form p (ends_with (run.saturated log x) stands) a b h k = h ∙ sym k
+one_part form p (ends_with run.too_long stands) a b h k = h ∙ sym k
+one_part form p (out_of_steps stands) a b h k = h ∙ sym k
+one_part form p (overflows numbers stands) a b h k = h ∙ sym k
+
+one_asked : (asked : Option ProofForm) (p : Problem) (end : Ending run.Answer) (a b : List ℕ) → IsPart asked p end a → IsPart asked p end b → a ≡ b
+one_asked (Some form) p end a b h k = one_part form p end a b h k
+one_asked None p end a b h k = h ∙ sym k
+
+one_as : (asked : Option ProofForm) (budget : ℕ) (p : Problem) (a b : Answer) → AnswersRunAs asked budget p a → AnswersRunAs asked budget p b → a ≡ b
+one_as asked budget p a b h k =
+    h.whole ∙ ap (λ z. extended z h.part) (one_of_end p (run_end budget p) h.plain k.plain h.answers k.answers)
+    ∙ ap (extended k.plain) (one_asked asked p (run_end budget p) h.part k.part h.is_part k.is_part) ∙ sym k.whole
+
+charges_same : (p q : Problem) (x : Proof) (c : Conclusion) → AreSame p q → charges_of p x c ≡ charges_of q x c
+charges_same p q x c same =
+    let of : Form → ℕ → ℕ = λ f n. total (proof_walk f n x c).events in
+    ap (λ w. of w.value (length p.existentials)) (root_same p q same) ∙ ap (λ names. of (problem_root q).value (length names)) same.existentials
+
+part_same : (form : ProofForm) (p q : Problem) (end : Ending run.Answer) (part : List ℕ) → AreSame p q → PrintsEnd form p end part → PrintsEnd form q end part
+part_same form p q (ends_with (run.valid vs x) stands) part same h = subst (λ n. PrintsProof form n x (Solution vs) part) (charges_same p q x (Solution vs) same) h
+part_same form p q (ends_with (run.invalid log x) stands) part same h =
+    let c : Conclusion = Nothing (record { entries = log }) in subst (λ n. PrintsProof form n x c part) (charges_same p q x c same) h
+part_same form p q (ends_with (run.saturated log x) stands) part same h = h
+part_same form p q (ends_with run.too_long stands) part same h = h
+part_same form p q (out_of_steps stands) part same h = h
+part_same form p q (overflows numbers stands) part same h = h
+
+asked_same : (asked : Option ProofForm) (p q : Problem) (end : Ending run.Answer) (part : List ℕ) → AreSame p q → IsPart asked p end part → IsPart asked q end part
+asked_same (Some form) p q end part same h = part_same form p q end part same h
+asked_same None p q end part same h = h
+
+same_as : (asked : Option ProofForm) (budget : ℕ) (p q : Problem) (a : Answer) → AreSame p q → AnswersRunAs asked budget p a → AnswersRunAs asked budget q a
+same_as asked budget p q a same h = record {
+  plain = h.plain;
+  answers = same_run budget p q h.plain same h.answers;
+  part = h.part;
+  is_part = subst (λ end. IsPart asked q end h.part) (run_end_same budget p q same) (asked_same asked p q (run_end budget p) h.part same h.is_part);
+  whole = h.whole;
+}
+
+-- a file has at most one answer with its proof
+pub one_answer_as : (asked : Option ProofForm) (budget : ℕ) (bytes : List ℕ) (a b : Answer) → IsSolvedAs asked budget bytes a → IsSolvedAs asked budget bytes b → a ≡ b
+one_answer_as asked budget =
+    one_of_file (AnswersEncoded (AnswersRunAs asked budget)) (same_encoded (AnswersRunAs asked budget) (same_as asked budget)) (one_of_encoded (AnswersRunAs asked budget) (one_as asked budget))

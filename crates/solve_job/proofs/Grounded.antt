@@ -1,5 +1,5 @@
 -- The encoding of a formula of numbers is one.
-use Rattle.std.proofs.Common.{◌≡◌, ℕ, zero, suc, pos, negsuc, Bool, true, false, not, List, [], length, subst, arith}
+use Rattle.std.proofs.Common.{◌≡◌, ℕ, pos, negsuc, Bool, true, false, not, List, [], ◌∷◌, length, subst, arith}
 use Rattle.std.specs.Bool.{beq}
 use Rattle.linear_term.specs.Linear as linear
 use Rattle.linear_term.specs.Linear.{Linear}
@@ -11,10 +11,12 @@ use Rattle.formula.specs.Form.{Form, Forms, IsFormOver, no_form}
 use Rattle.pri_typing.specs.declared.problem.Problem.{Problem}
 use Rattle.pri_typing.specs.Everywhere.{Property, Everywhere, AllEverywhere, TermEverywhere, TermsEverywhere}
 use Rattle.pri_typing.specs.Problems.{IsNoCall}
-use Rattle.pri_typing.specs.WellFormed.{is_numeric}
+use Rattle.pri_typing.specs.WellFormed.{is_numeric, IsWellFormed}
 use Rattle.encoding.specs.Encoding.{named, multiple, related, signed_relation, product_of, junction, cases, encoded, all_encoded, with_value, with_sum, with_more}
-use Rattle.encoding.specs.Problems.{constants, problem_root}
-use Rattle.encoding.specs.Root.{names_from, for_last}
+use Rattle.typed_formula.specs.declared.typed.Sort.{Sort}
+use Rattle.encoding.specs.Problems.{body, constants, problem_root}
+use Rattle.encoding.specs.Root.{names_from, root}
+use Rattle.problem_file.proofs.Bytes.{reads_formed}
 use Rattle.encoding.proofs.Problems.{root_over}
 use Rattle.search.specs.Closed.{IsClosed, AreClosed}
 use Rattle.search.specs.Run.{canonical_run, ending, out_of_steps}
@@ -55,8 +57,8 @@ mutual
   encoded_closed k (implies f g) at n plus h = junction_closed (not plus) _ (encoded_closed k f at n (not plus) h.1, (encoded_closed k g at n plus h.2, tt))
   encoded_closed k (iff f g) at n plus h =
       ((encoded_closed k f at n (not plus) h.1, (encoded_closed k g at n true h.2, tt)), ((encoded_closed k f at n plus h.1, (encoded_closed k g at n false h.2, tt)), tt))
-  encoded_closed k (for_all f) at n plus h = absurd h.0
-  encoded_closed k (for_some f) at n plus h = absurd h.0
+  encoded_closed k (for_all sort f) at n plus h = absurd h.0
+  encoded_closed k (for_some sort f) at n plus h = absurd h.0
   encoded_closed k (part j f) at n plus h = encoded_closed k f at n plus h.1
 
   all_closed : (k : ℕ) (fs : Formulas) (at : List ℕ) (n : ℕ) (plus : Bool) → AllEverywhere plain k fs → AreClosed (all_encoded at n plus fs).value
@@ -99,20 +101,26 @@ mutual
   more_closed k (and_expression t ts) at n s rest h r =
       value_closed k t at n (λ m a. next (combining (pos 1) s (pos 1) a) (λ z. with_more at ts m z rest)) h.0 (λ m a. more_closed k ts at m _ rest h.1 r)
 
-last_closed : (k : ℕ) (f : Form) → k ≡ 0 → IsClosed f → IsClosed (for_last k f)
-last_closed zero f e h = h
-last_closed (suc k) f e h = absurd (omega (arith, e))
+no_constants : (es us : List Sort) (work : Traced Form) → length es ≡ 0 → length us ≡ 0 → IsClosed work.value → IsClosed (root es us work).value
+unfolding next just
+no_constants [] [] work e u h = h
+no_constants [] (s ∷ us) work e u h = absurd (omega (arith, u))
+no_constants (s ∷ es) us work e u h = absurd (omega (arith, e))
 
-root_closed : (p : Problem) → IsGround p → IsClosed (problem_root p).value
-unfolding next just plain
-root_closed p h =
+root_closed : (p : Problem) → IsWellFormed p → IsGround p → IsClosed (problem_root p).value
+unfolding plain
+root_closed p formed h =
     let none = h.alone in
-    last_closed (length p.universals) _ (omega (arith, none)) (encoded_closed 0 (formula p.formula) (names_from 0 (constants p)) (constants p) true h.plain)
+    let m = formed.existential_types.many in
+    let k = formed.universal_types.many in
+    no_constants p.existential_types p.universal_types (body p) (omega (arith, none, m)) (omega (arith, none, k))
+    (encoded_closed 0 (formula p.formula) (names_from 0 (constants p)) (constants p) true h.plain)
 
 pub ground_enough : (budget : ℕ) (bytes : List ℕ) → IsEnough budget bytes
 ground_enough budget bytes p poses fits ground enough out =
     let none = ground.alone in
+    let formed = reads_formed bytes p poses.reads in
     let m : length p.existentials ≡ 0 = omega (arith, none) in
-    let over : IsFormOver 0 (problem_root p).value = subst (λ n. IsFormOver n (problem_root p).value) m (root_over p) in
-    closed_enough (problem_root p).value (record { budget = budget; spent = 0 }) out.0 (root_closed p ground) over (omega (arith, enough))
+    let over : IsFormOver 0 (problem_root p).value = subst (λ n. IsFormOver n (problem_root p).value) m (root_over p formed) in
+    closed_enough (problem_root p).value (record { budget = budget; spent = 0 }) out.0 (root_closed p formed ground) over (omega (arith, enough))
     (subst (λ n. ending (canonical_run (problem_root p).value n budget) (at (record { budget = budget; spent = 0 }) []) ≡ out_of_steps out.0) m out.1)

@@ -14,11 +14,12 @@ use Rattle.answers.specs.Answer.{Answer, line}
 use Rattle.constraint_text.specs.Constraint.{IsTextOf}
 use Rattle.constraint_lines.specs.Meaning.{CoversRoot}
 use Rattle.constraint_lines.proofs.Losing.{lost_refuted}
-use Rattle.constraint_lines.proofs.Supporting.{closed_holds, supports, true_there}
+use Rattle.constraint_lines.proofs.Supporting.{closed_holds, constraint_there, supports, true_there}
 use Rattle.problem_file.specs.Answers.{Poses, refused, unsupported, posed}
 use Rattle.problem_file.specs.Special.{HasPlainCuts}
 use Rattle.problem_file.specs.Encoded.{large, leaves, runs}
 use Rattle.problem_file.proofs.Bytes.{reads_formed}
+use Rattle.formula.specs.Form.{IsFormOver}
 use Rattle.problem_file.proofs.Supported.{poses_plain}
 use Rattle.interpolant_lines.proofs.Meaning.{blocks_mean}
 use Rattle.pri_typing.specs.declared.problem.Cut.{Cut}
@@ -29,9 +30,9 @@ use Rattle.solve_job.specs.Headline.{Constrains, Headline}
 use Rattle.search.proofs.Telling.{answer_tells}
 
 -- what the answer of a run on the encoded problem says of it
-pub tells : (budget : ℕ) (p : Problem) (a : run.Answer) (stands : At) → run_end budget p ≡ ends_with a stands → Tells (problem_root p).value (length p.existentials) a
-tells budget p a stands is =
-    answer_tells (problem_root p).value (length p.existentials) (record { budget = budget; spent = 0 }) a stands (root_over p) (problem_reduced p) is
+pub tells : (budget : ℕ) (p : Problem) → IsFormOver (length p.existentials) (problem_root p).value → (a : run.Answer) (stands : At) → run_end budget p ≡ ends_with a stands → Tells (problem_root p).value (length p.existentials) a
+tells budget p over a stands is =
+    answer_tells (problem_root p).value (length p.existentials) (record { budget = budget; spent = 0 }) a stands over (problem_reduced p) is
 
 -- ---- VALID
 
@@ -44,6 +45,7 @@ found_constrains : (w : Meaning) (p : Problem) (x : Proof) (vs : List ℤ) (text
     → Constrains w p text vs
 found_constrains w p x vs text formed found printed = record {
   supports = supports w p (given x) vs text formed (covers p x vs found) printed;
+  best = λ e t j below same. found.best.best e t.many (constraint_there w p (given x) vs text formed (covers p x vs found) printed e t) j below same;
   exact = λ pure e h. true_there w p (given x) vs text formed (covers p x vs found) printed e h.many (found.exact ((pure_is p).1 pure) w e h.many ((holds_is w p e formed h.many).1 h));
 }
 
@@ -64,7 +66,7 @@ no_blocks p plain some = by p.cuts refl
 end_means : (w : Meaning) (budget : ℕ) (bytes : List ℕ) (p : Problem) (a : Answer) → Poses bytes p → AnswersEnd p (run_end budget p) a → Headline w bytes a
 end_means w budget bytes p a poses (closed vs x stands text is none told e) =
     let formed = reads_formed bytes p poses.reads in
-    let holds = closed_holds w p (given x) vs formed (covers p x vs (tells budget p _ stands is)) none in
+    let holds = closed_holds w p (given x) vs formed (covers p x vs (tells budget p (root_over p formed) _ stands is)) none in
     record {
       valid = λ z. record {
         problem = p;
@@ -78,13 +80,13 @@ end_means w budget bytes p a poses (valid vs x stands text is some printed e) = 
   valid = λ z. record {
     problem = p;
     reads = poses.reads;
-    valid = headline_words.constrained text vs some (no_blocks p (poses_plain bytes p poses) some) (ap (λ b. b.text) e) (found_constrains w p x vs text (reads_formed bytes p poses.reads) (tells budget p _ stands is) printed);
+    valid = headline_words.constrained text vs some (no_blocks p (poses_plain bytes p poses) some) (ap (λ b. b.text) e) (found_constrains w p x vs text (reads_formed bytes p poses.reads) (tells budget p (root_over p (reads_formed bytes p poses.reads)) _ stands is) printed);
   };
   invalid = λ z. let bad = sym z ∙ ap (λ b. b.status) e in absurd cc;
 }
 end_means w budget bytes p a poses (invalid log x stands is e) = record {
   valid = λ z. let bad = sym z ∙ ap (λ b. b.status) e in absurd cc;
-  invalid = λ z. record { problem = p; reads = poses.reads; refuted = (let lost = tells budget p _ stands is in lost_refuted p (reads_formed bytes p poses.reads) lost.pure lost.fails) };
+  invalid = λ z. record { problem = p; reads = poses.reads; refuted = (let lost = tells budget p (root_over p (reads_formed bytes p poses.reads)) _ stands is in lost_refuted p (reads_formed bytes p poses.reads) lost.pure lost.fails) };
 }
 end_means w budget bytes p a poses (saturated log x stands is e) = silent w bytes a 2 (ap (λ b. b.status) e) (λ z. cc) (λ z. cc)
 end_means w budget bytes p a poses (branch stands is e) = silent w bytes a 2 (ap (λ b. b.status) e) (λ z. cc) (λ z. cc)

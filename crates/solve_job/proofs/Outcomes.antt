@@ -2,13 +2,14 @@
 use Rattle.std.proofs.Common.{◌≡◌, ℕ, ◌<◌, [], length, Result, Ok, Err, IfOk, refl, sym, ◌∙◌, ap, subst}
 use Rattle.linear_term.specs.declared.range.Memory.{Memory}
 use Rattle.purse.specs.Trace.{Funds, At, at, End, done, refused, out_of_range, cut, stand}
-use Rattle.formula.specs.Form.{Form}
+use Rattle.formula.specs.Form.{Form, IsFormOver}
 use Rattle.formula.specs.Tree.{form}
 use Rattle.elim_rules.specs.Whole.{AreOver}
 use Rattle.proof_tree.specs.declared.run.Why.TheVariants as why
 use Rattle.search.specs.declared.judge.Outcome.{Outcome}
 use Rattle.search.specs.declared.judge.Outcome.TheVariants.{Valid, Invalid, Unknown}
-use Rattle.search.specs.Outcomes.{EndsAs}
+use Rattle.search.specs.declared.judge.Decided.{Decided}
+use Rattle.search.specs.Outcomes.{DecidesAs, EndsAs, bare}
 use Rattle.search.specs.Run as run
 use Rattle.search.specs.Run.{Ending, ended, ending, ends_with, out_of_steps, overflows, canonical_run}
 use Rattle.encoding.specs.Problems.{problem_root}
@@ -33,14 +34,24 @@ run_is budget p e h =
     let from : Form → ℕ → Ending run.Answer = λ f n. ending (canonical_run f n budget) (at (start budget) []) in
     ap (λ f. from f e.constants) h.root ∙ ap (from (problem_root p).value) h.constants
 
+-- an outcome of the run, of which this is what is told
+pub record IsOf (f : Form) (n : ℕ) (old : Funds) (d : Decided) (new : Funds) : Type 0 where
+  pub outcome : Outcome
+  pub ends : EndsAs f n old (Ok outcome) new
+  pub told : bare outcome ≡ d
+
+pub decided_of : (f : Form) (n : ℕ) (old : Funds) (d : Decided) (new : Funds) → DecidesAs f n old (Ok d) new → IsOf f n old d new
+decided_of f n old d new (Ok o, k, e) = record { outcome = o; ends = k; told = let same : d ≡ bare o = cc in sym same }
+decided_of f n old d new (Err m, k, e) = absurd cc
+
 -- a constraint that was found is one of the problem
-pub fitting : (budget : ℕ) (p : Problem) (e : Encoded) → IsEncoded p e → (o : Outcome) (new : Funds) → EndsAs (form e.root) e.constants (start budget) (Ok o) new → IsFitting p o
+pub fitting : (budget : ℕ) (p : Problem) (e : Encoded) → IsEncoded p e → (o : Outcome) (new : Funds) → EndsAs (form e.root) e.constants (start budget) (Ok o) new → IsFitting p (bare o)
 fitting budget p e h (Valid d vs t) new k =
-    let found = tells budget p (run.valid vs k.1) (at new k.0) (sym (run_is budget p e h) ∙ k.2) in (subst (AreOver (length p.existentials)) (sym k.3) found.over, found.best.names)
+    let found = tells budget p (subst (IsFormOver (length p.existentials)) h.root h.over) (run.valid vs k.1) (at new k.0) (sym (run_is budget p e h) ∙ k.2) in (subst (AreOver (length p.existentials)) (sym k.3) found.over, found.best.names)
 fitting budget p e h (Invalid d t) new k = tt
 fitting budget p e h (Unknown y r) new k = tt
 
-told : (budget : ℕ) (p : Problem) (e : Encoded) → IsEncoded p e → (o : Outcome) (new : Funds) (a : Answer) → EndsAs (form e.root) e.constants (start budget) (Ok o) new → TellsOutcome p new o a
+told : (budget : ℕ) (p : Problem) (e : Encoded) → IsEncoded p e → (o : Outcome) (new : Funds) (a : Answer) → EndsAs (form e.root) e.constants (start budget) (Ok o) new → TellsOutcome p new (bare o) a
     → AnswersRun budget p a
 told budget p e h (Valid d vs t) new a k (alone none ls) = closed vs k.1 (at new k.0) ls.0 (sym (run_is budget p e h) ∙ k.2) none ls.1 ls.2
 told budget p e h (Valid d vs t) new a k (lines text some ls is) =
@@ -53,7 +64,7 @@ told budget p e h (Unknown (why.Overflow place) r) new a k is = overflow k.1 (at
 
 -- what is told of the outcome is the answer to the problem
 pub told_so : (budget : ℕ) (p : Problem) (e : Encoded) → IsEncoded p e → (o : Outcome) (new : Funds) → EndsAs (form e.root) e.constants (start budget) (Ok o) new → (r : Result Output Memory)
-    → IfOk r (λ out. TellsOutcome p new o (answer_of out)) → IfOk r (λ out. AnswersRun budget p (answer_of out))
+    → IfOk r (λ out. TellsOutcome p new (bare o) (answer_of out)) → IfOk r (λ out. AnswersRun budget p (answer_of out))
 told_so budget p e h o new k (Ok out) is = told budget p e h o new (answer_of out) k is
 told_so budget p e h o new k (Err m) is = tt
 

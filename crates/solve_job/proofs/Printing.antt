@@ -1,5 +1,5 @@
 -- An answer with a proof behind it, and the answer without it.
-use Rattle.std.proofs.Common.{◌≡◌, ◌≢◌, ◌∙◌, ◌≤◌, ℕ, ℤ, List, [], ◌++◌, length, Option, Some, None, Result, Ok, Err, IfOk, refl, sym, ap, subst, append_assoc, append-nil, codes}
+use Rattle.std.proofs.Common.{◌≡◌, ◌≢◌, ◌∙◌, ◌≤◌, ℕ, ℤ, List, [], ◌++◌, length, Option, Some, None, Result, Ok, Err, IfOk, refl, sym, ap, subst, append_assoc, append-nil, codes, arith}
 use Rattle.linear_term.specs.declared.range.Memory.{Memory}
 use Rattle.purse.specs.Runs.{total}
 use Rattle.purse.specs.Trace.{Funds, At, at}
@@ -13,9 +13,10 @@ use Rattle.proof_tree.specs.declared.run.Why.TheVariants as why
 use Rattle.proof_tree.specs.Proof.{Proof}
 use Rattle.proof_tree.specs.Proves.{proof_walk}
 use Rattle.proof_tree.specs.Views.{proof_of}
+use Rattle.search.specs.declared.judge.Decided.{Decided}
 use Rattle.search.specs.declared.judge.Outcome.{Outcome}
 use Rattle.search.specs.declared.judge.Outcome.TheVariants.{Valid, Invalid, Unknown}
-use Rattle.search.specs.Outcomes.{EndsAs, IsTree}
+use Rattle.search.specs.Outcomes.{EndsAs, IsTree, bare}
 use Rattle.search.specs.Run as run
 use Rattle.search.specs.Run.{Ending, ends_with, out_of_steps, overflows}
 use Rattle.proof_text.specs.Spellings.{spelled}
@@ -31,14 +32,15 @@ use Rattle.answers.specs.Answer.{Answer, answer_of}
 use Rattle.answers.specs.declared.output.Output.{Output}
 use Rattle.problem_file.specs.Answers.{Poses, refused, unsupported, posed}
 use Rattle.problem_file.specs.Encoded.{Fits, IsEncoded, large, leaves, runs}
-use Rattle.solve_job.specs.Proved.{AnswersRunAs, IsPart, IsParted, IsProofTold, IsSolvedAs, PrintsEnd, PrintsOutcome, PrintsProof, PrintsProofOf, PrintsTree, charges_of, extended, form_text}
-use Rattle.solve_job.specs.declared.proving.ProofForm.{ProofForm}
+use Rattle.solve_job.specs.Proved.{AnswersRunAs, IsPart, IsParted, IsProofTold, IsSolvedAs, PrintsEnd, PrintsIfAny, PrintsProof, PrintsProofOf, PrintsTree, ProvesValid, charges_of, extended, form_text, tree_of}
+use Rattle.answers.specs.declared.form.ProofForm.{ProofForm}
 use Rattle.solve_job.specs.Solved.{AnswersEnd, IsSolved, branch, closed, invalid, overflow, run_end, saturated, steps, valid}
 use Rattle.solve_job.specs.Shaping.{CanBePrinted}
 use Rattle.solve_job.specs.Told.{TellsOutcome}
 use Rattle.constraint_lines.proofs.Sizes.{small_depth, small_size}
 use Rattle.printed_proofs.specs.Bounds.{IsSearched}
 use Rattle.printed_proofs.proofs.Printed.{invalid_outcome, valid_outcome}
+use Rattle.problem_file.proofs.Bytes.{reads_formed}
 use Rattle.problem_file.proofs.Reduced.{problem_reduced}
 use Rattle.solve_job.proofs.Outcomes.{run_is, start, told_so}
 use Rattle.solve_job.proofs.Own.{own_text}
@@ -56,9 +58,9 @@ searched p e h few = record {
   constants = subst (λ n. n ≤ 1000) (sym h.constants) few;
 }
 
-pub printable : (budget : ℕ) (p : Problem) (e : Encoded) → IsEncoded p e → length p.existentials ≤ 1000 → budget ≤ 1000000000 → (o : Outcome) (new : Funds) → EndsAs (form e.root) e.constants (start budget) (Ok o) new → CanBePrinted o
-printable budget p e h few most (Valid d vs t) new k = λ typed conclusion. valid_outcome (form e.root) e.constants (start budget) new d vs t (searched p e h few) most k typed
-printable budget p e h few most (Invalid d t) new k = λ typed conclusion. invalid_outcome (form e.root) e.constants (start budget) new d t (searched p e h few) most k typed
+pub printable : (budget : ℕ) (p : Problem) (e : Encoded) → IsEncoded p e → length p.existentials ≤ 1000 → budget ≤ 1000000000 → (o : Outcome) (new : Funds) → EndsAs (form e.root) e.constants (start budget) (Ok o) new → CanBePrinted (tree_of o)
+printable budget p e h few most (Valid d vs t) new k = λ typed conclusion. valid_outcome (form e.root) e.constants (start budget) new d vs t (searched p e h few) (omega (arith, most)) k typed
+printable budget p e h few most (Invalid d t) new k = λ typed conclusion. invalid_outcome (form e.root) e.constants (start budget) new d t (searched p e h few) (omega (arith, most)) k typed
 printable budget p e h few most (Unknown y r) new k = tt
 
 -- ---- the text of the proof behind an answer
@@ -95,7 +97,7 @@ tree_prints wanted p e h x c t part is prints =
       own = prints.own;
     }
 
-end_prints : (wanted : ProofForm) (budget : ℕ) (p : Problem) (e : Encoded) → IsEncoded p e → (o : Outcome) (new : Funds) (part : List ℕ) → EndsAs (form e.root) e.constants (start budget) (Ok o) new → PrintsOutcome wanted o part
+end_prints : (wanted : ProofForm) (budget : ℕ) (p : Problem) (e : Encoded) → IsEncoded p e → (o : Outcome) (new : Funds) (part : List ℕ) → EndsAs (form e.root) e.constants (start budget) (Ok o) new → PrintsIfAny wanted (tree_of o) part
     → PrintsEnd wanted p (run_end budget p) part
 end_prints wanted budget p e h (Valid d vs t) new part k prints =
     subst (λ end. PrintsEnd wanted p end part) (sym k.2 ∙ run_is budget p e h) (tree_prints wanted p e h k.1 (Solution vs) t part k.4 prints)
@@ -108,7 +110,7 @@ end_prints wanted budget p e h (Unknown (why.Overflow place) r) new part k print
 
 -- the answer without a proof
 pub told_plain : (budget : ℕ) (p : Problem) (e : Encoded) → IsEncoded p e → (o : Outcome) (new : Funds) → EndsAs (form e.root) e.constants (start budget) (Ok o) new → (asked : Option ProofForm) → asked ≡ None → (out : Output)
-    → TellsOutcome p new o (answer_of out) → AnswersRunAs asked budget p (answer_of out)
+    → TellsOutcome p new (bare o) (answer_of out) → AnswersRunAs asked budget p (answer_of out)
 told_plain budget p e h o new k asked off out told = record {
   plain = answer_of out;
   answers = told_so budget p e h o new k (Ok out) told;
@@ -119,7 +121,7 @@ told_plain budget p e h o new k asked off out told = record {
 
 -- the answer with its proof
 pub told_proved : (budget : ℕ) (p : Problem) (e : Encoded) → IsEncoded p e → (o : Outcome) (new : Funds) → EndsAs (form e.root) e.constants (start budget) (Ok o) new → (asked : Option ProofForm) (wanted : ProofForm) → asked ≡ Some wanted
-    → (plain : Output) → TellsOutcome p new o (answer_of plain) → (r : Result Output Memory) → IfOk r (λ out. IsProofTold wanted o (answer_of plain) (answer_of out)) → IfOk r (λ out. AnswersRunAs asked budget p (answer_of out))
+    → (plain : Output) → TellsOutcome p new (bare o) (answer_of plain) → (r : Result Output Memory) → IfOk r (λ out. IsProofTold wanted (tree_of o) (answer_of plain) (answer_of out)) → IfOk r (λ out. AnswersRunAs asked budget p (answer_of out))
 told_proved budget p e h o new k asked wanted on plain told (Ok out) is = record {
   plain = answer_of plain;
   answers = told_so budget p e h o new k (Ok plain) told;
@@ -128,6 +130,16 @@ told_proved budget p e h o new k asked wanted on plain told (Ok out) is = record
   whole = is.whole;
 }
 told_proved budget p e h o new k asked wanted on plain told (Err m) is = tt
+
+-- what is told of the tree is told of the outcome
+pub proof_told : (wanted : ProofForm) (t u : Option Tree) (plain : Answer) (r : Result Output Memory) → t ≡ u → IfOk r (λ out. IsProofTold wanted t plain (answer_of out)) → IfOk r (λ out. IsProofTold wanted u plain (answer_of out))
+proof_told wanted t u plain r same h = subst (λ x. IfOk r (λ out. IsProofTold wanted x plain (answer_of out))) same h
+
+-- the answer without a proof, of what is told of the outcome
+pub decided_told : (budget : ℕ) (p : Problem) (e : Encoded) → IsEncoded p e → (o : Outcome) (new : Funds) (d : Decided) → EndsAs (form e.root) e.constants (start budget) (Ok o) new → bare o ≡ d → (r : Result Output Memory)
+    → IfOk r (λ out. TellsOutcome p new d (answer_of out)) → IfOk r (λ out. AnswersRunAs None budget p (answer_of out))
+decided_told budget p e h o new d k same (Ok out) told = told_plain budget p e h o new k None refl out (subst (λ x. TellsOutcome p new x (answer_of out)) (sym same) told)
+decided_told budget p e h o new d k same (Err m) told = tt
 
 -- ---- the answer without its proof
 not_asked : (budget : ℕ) (bytes : List ℕ) (a : Answer) (asked : Option ProofForm) → IsSolved budget bytes a → a.status ≢ 0 → a.status ≢ 1 → IsParted asked budget bytes a
@@ -162,7 +174,7 @@ valid_part wanted budget bytes p vs x stands part poses fits is prints = record 
   conclusion = Solution vs;
   charges = charges_of p x (Solution vs);
   prints = subst (λ end. PrintsEnd wanted p end part) is prints;
-  proves = proved_valid (problem_root p).value (length p.existentials) (funds budget) vs x stands (root_over p) (problem_reduced p) is;
+  proves = proved_valid (problem_root p).value (length p.existentials) (funds budget) vs x stands (root_over p (reads_formed bytes p poses.reads)) (problem_reduced p) is;
 }
 
 invalid_part : (wanted : ProofForm) (budget : ℕ) (bytes : List ℕ) (p : Problem) (log : List Entry) (x : Proof) (stands : At) (part : List ℕ) → Poses bytes p → Fits p → run_end budget p ≡ ends_with (run.invalid log x) stands → PrintsEnd wanted p (run_end budget p) part
@@ -176,13 +188,22 @@ invalid_part wanted budget bytes p log x stands part poses fits is prints = reco
   conclusion = Nothing (record { entries = log });
   charges = charges_of p x (Nothing (record { entries = log }));
   prints = subst (λ end. PrintsEnd wanted p end part) is prints;
-  proves = proved_invalid (problem_root p).value (length p.existentials) (funds budget) (record { entries = log }) x stands (root_over p) (problem_reduced p) is;
+  proves = proved_invalid (problem_root p).value (length p.existentials) (funds budget) (record { entries = log }) x stands (root_over p (reads_formed bytes p poses.reads)) (problem_reduced p) is;
 }
 
 end_valid : (wanted : ProofForm) (budget : ℕ) (bytes : List ℕ) (p : Problem) (a : Answer) (part : List ℕ) → Poses bytes p → Fits p → AnswersEnd p (run_end budget p) a → PrintsEnd wanted p (run_end budget p) part → a.status ≡ 0
-    → (vs : List ℤ) × PrintsProofOf wanted bytes (verdict.Valid vs) part
-end_valid wanted budget bytes p a part poses fits (closed vs x stands text is none told e) prints z = (vs, valid_part wanted budget bytes p vs x stands part poses fits is prints)
-end_valid wanted budget bytes p a part poses fits (valid vs x stands text is some printed e) prints z = (vs, valid_part wanted budget bytes p vs x stands part poses fits is prints)
+    → ProvesValid wanted bytes a.text part
+unfolding valid_part
+end_valid wanted budget bytes p a part poses fits (closed vs x stands text is none told e) prints z = record {
+  values = vs;
+  prints = valid_part wanted budget bytes p vs x stands part poses fits is prints;
+  told = λ some. absurd (some none);
+}
+end_valid wanted budget bytes p a part poses fits (valid vs x stands text is some printed e) prints z = record {
+  values = vs;
+  prints = valid_part wanted budget bytes p vs x stands part poses fits is prints;
+  told = λ _. (text, printed, ap (λ b. b.text) e);
+}
 end_valid wanted budget bytes p a part poses fits (invalid log x stands is e) prints z = let bad = sym z ∙ ap (λ b. b.status) e in absurd cc
 end_valid wanted budget bytes p a part poses fits (saturated log x stands is e) prints z = let bad = sym z ∙ ap (λ b. b.status) e in absurd cc
 end_valid wanted budget bytes p a part poses fits (branch stands is e) prints z = let bad = sym z ∙ ap (λ b. b.status) e in absurd cc

@@ -14,7 +14,7 @@ use Rattle.problem_file.specs.Reads.{Refusal, FirstRefusal}
 use Rattle.problem_file.specs.Refusals.{refusal_name}
 use Rattle.problem_file.specs.Answers.{Poses, PosesOne, PosesUnsupported}
 use Rattle.problem_file.specs.Encoded.{Fits, IsLarge, LeavesRange}
-use Rattle.problem_file.specs.Refused.{IsRefused}
+use Rattle.problem_file.specs.Refused.{ComesOf, IsRefused}
 use Rattle.interpolant_lines.specs.Causes.{AreBlocksCaused}
 use Rattle.solve_job.specs.Solved.{run_end}
 
@@ -58,6 +58,7 @@ pub record Causes (budget : ℕ) (bytes : List ℕ) (answer : Answer) : Type 0 w
   pub saturated : (answer ≡ unknown_answer (codes "saturated")) ↔ Ends budget bytes IsSaturated
   pub refuses : (answer.status ≡ 3) ↔ IsRefused bytes
   pub refused : (r : Refusal) → FirstRefusal bytes r → answer ≡ refused_answer (refusal_name r)
+  pub only : (r : Refusal) → answer ≡ refused_answer (refusal_name r) → ComesOf bytes r
   pub unsupported : (at : ℕ) → PosesUnsupported bytes at → answer ≡ refused_answer (placed (codes "Unsupported") at)
   pub large : PosesOne bytes IsLarge → answer ≡ refused_answer (codes "Large")
   pub blocks : (p : Problem) (vs : List ℤ) (x : Proof) (stands : At) → Poses bytes p → Fits p → p.existentials ≡ [] → run_end budget p ≡ ends_with (run.valid vs x) stands

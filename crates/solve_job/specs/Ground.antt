@@ -14,8 +14,8 @@ use Rattle.solve_job.specs.Solved.{run_end}
 -- neither a predicate nor a quantifier
 abbrev pub IsPlain : ℕ → Formula → Type 0
 IsPlain n (applies p ts) = ⊥
-IsPlain n (for_all f) = ⊥
-IsPlain n (for_some f) = ⊥
+IsPlain n (for_all s f) = ⊥
+IsPlain n (for_some s f) = ⊥
 IsPlain n _ = Unit {0}
 
 -- the problem has no constant, quantifier, predicate or function

@@ -1,7 +1,9 @@
 -- What the answers of `solve` mean.
-use Rattle.std.specs.Prelude.{◌≡◌, ◌≢◌, ℕ, ℤ, List, [], ◌++◌, codes}
+use Rattle.std.specs.Prelude.{◌≡◌, ◌≢◌, ◌<◌, ℕ, ℤ, List, [], ◌++◌, length, take, codes}
 use Rattle.std.specs.List.{concat}
+use Rattle.integers.specs.Entry.{entry}
 use Rattle.typed_formula.specs.Truth.{Meaning}
+use Rattle.solution_rules.specs.Best.{IsNearer}
 use Rattle.pri_typing.specs.declared.problem.Problem.{Problem}
 use Rattle.pri_typing.specs.Problems.{Holds, IsPure, IsRefuted, IsTrueAt}
 use Rattle.answers.specs.Answer.{Answer, line}
@@ -11,9 +13,11 @@ use Rattle.interpolant_lines.specs.Meaning.{AreInterpolantLines}
 use Rattle.solve_job.specs.Solved.{valid_answer}
 
 -- the printed constraint x and values vs of a problem: at each value of the existential constants satisfying the constraint the
--- problem holds; the printed values satisfy it; without predicates and functions it is exact
+-- problem holds; the printed values satisfy it, and are the best that do: constant by constant, none that satisfy it and agree with
+-- them before have a value nearer to 0; without predicates and functions the constraint is exact
 pub record Constrains (w : Meaning) (p : Problem) (x : List ℕ) (vs : List ℤ) : Type 0 where
   pub supports : Supports w p x vs
+  pub best : (e : List ℤ) → IsTrueAt w p supports.constraint e → (j : ℕ) → j < length p.existentials → take j e ≡ take j vs → ¬ (IsNearer (entry e j) (entry vs j))
   pub exact : IsPure p → (e : List ℤ) → Holds w p e → IsTrueAt w p supports.constraint e
 
 -- the text says that the problem is valid: without existential constants it holds, and there is a line for each `\interpolant`

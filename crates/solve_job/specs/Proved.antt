@@ -1,10 +1,10 @@
 -- What `solve` answers where the proof is asked for: the same, and behind it the text of the proof in the form that is asked for.
-use Rattle.std.specs.Prelude.{◌≡◌, ℕ, ℤ, List, [], ◌++◌, length, codes, Option, Some, None}
+use Rattle.std.specs.Prelude.{◌≡◌, ◌≢◌, ℕ, ℤ, List, [], ◌++◌, length, codes, Option, Some, None}
 use Rattle.purse.specs.Runs.{total}
 use Rattle.proof_tree.specs.declared.node.Conclusion.{Conclusion}
 use Rattle.proof_tree.specs.declared.node.Conclusion.TheVariants.{Solution, Nothing}
 use Rattle.proof_tree.specs.declared.node.Tree.{Tree}
-use Rattle.proof_tree.specs.Proof.{Proof}
+use Rattle.proof_tree.specs.Proof.{Proof, given}
 use Rattle.proof_tree.specs.declared.run.Verdict.{Verdict}
 use Rattle.proof_tree.specs.declared.run.Verdict.TheVariants as verdict
 use Rattle.proof_tree.specs.Proves.{Proves, proof_walk}
@@ -24,9 +24,10 @@ use Rattle.pri_typing.specs.declared.problem.Problem.{Problem}
 use Rattle.answers.specs.Answer.{Answer, line}
 use Rattle.problem_file.specs.Answers.{AnswersFile, Poses}
 use Rattle.problem_file.specs.Encoded.{AnswersEncoded, Fits}
-use Rattle.solve_job.specs.declared.proving.ProofForm.{ProofForm}
-use Rattle.solve_job.specs.declared.proving.ProofForm.TheVariants.{Whole, Short}
-use Rattle.solve_job.specs.Solved.{AnswersRun, IsSolved, run_end}
+use Rattle.answers.specs.declared.form.ProofForm.{ProofForm}
+use Rattle.answers.specs.declared.form.ProofForm.TheVariants.{Whole, Short}
+use Rattle.constraint_text.specs.Constraint.{IsTextOf}
+use Rattle.solve_job.specs.Solved.{AnswersRun, IsSolved, run_end, valid_answer}
 
 -- the text of a proof in a form
 abbrev pub form_text : ProofForm → ℕ → Proof → Conclusion → List Token
@@ -83,6 +84,13 @@ pub record PrintsProofOf (form : ProofForm) (bytes : List ℕ) (v : Verdict) (pa
   pub prints : PrintsProof form charges tree conclusion part
   pub proves : Proves (problem_root problem).value (length problem.existentials) tree conclusion charges v
 
+-- the part has a proof of just what the text says: of the values vs, by a tree whose constraint is the one that is printed with them,
+-- where the problem has existential constants
+pub record ProvesValid (form : ProofForm) (bytes text part : List ℕ) : Type 0 where
+  pub values : List ℤ
+  pub prints : PrintsProofOf form bytes (verdict.Valid values) part
+  pub told : prints.problem.existentials ≢ [] → (x : List ℕ) × IsTextOf prints.problem (given prints.tree) x × (text ≡ (valid_answer prints.problem x values).text)
+
 -- an answer is one of `solve` with a part behind it; where the proof is asked for the part has it, at each answer that the problem is
 -- valid or invalid, and else there is none
 pub record IsParted (asked : Option ProofForm) (budget : ℕ) (bytes : List ℕ) (answer : Answer) : Type 0 where
@@ -91,20 +99,25 @@ pub record IsParted (asked : Option ProofForm) (budget : ℕ) (bytes : List ℕ)
   pub part : List ℕ
   pub whole : answer ≡ extended plain part
   pub none : asked ≡ None → part ≡ []
-  pub valid : (form : ProofForm) → asked ≡ Some form → plain.status ≡ 0 → (vs : List ℤ) × PrintsProofOf form bytes (verdict.Valid vs) part
+  pub valid : (form : ProofForm) → asked ≡ Some form → plain.status ≡ 0 → ProvesValid form bytes plain.text part
   pub invalid : (form : ProofForm) → asked ≡ Some form → plain.status ≡ 1 → PrintsProofOf form bytes verdict.Invalid part
 
 -- ---- as the code prints it
 abbrev pub PrintsTree : ProofForm → Tree → List ℕ → Type 0
 PrintsTree form t part = PrintsProof form t.charges (proof_of t.root) t.conclusion part
 
-abbrev pub PrintsOutcome : ProofForm → Outcome → List ℕ → Type 0
-PrintsOutcome form (Valid d vs t) part = PrintsTree form t part
-PrintsOutcome form (Invalid d t) part = PrintsTree form t part
-PrintsOutcome form (Unknown y r) part = part ≡ []
+-- the tree of an outcome, if it has one
+abbrev pub tree_of : Outcome → Option Tree
+tree_of (Valid d vs t) = Some t
+tree_of (Invalid d t) = Some t
+tree_of (Unknown y r) = None
 
--- the answer with the proof of the outcome behind it
-pub record IsProofTold (form : ProofForm) (outcome : Outcome) (plain answer : Answer) : Type 0 where
+abbrev pub PrintsIfAny : ProofForm → Option Tree → List ℕ → Type 0
+PrintsIfAny form (Some t) part = PrintsTree form t part
+PrintsIfAny form None part = part ≡ []
+
+-- the answer with the tree's proof behind it, if there is a tree
+pub record IsProofTold (form : ProofForm) (tree : Option Tree) (plain answer : Answer) : Type 0 where
   pub part : List ℕ
-  pub prints : PrintsOutcome form outcome part
+  pub prints : PrintsIfAny form tree part
   pub whole : answer ≡ extended plain part

@@ -4,13 +4,16 @@ ghost use Rattle.answers.specs.Answer.{Answer};
 ghost use Rattle.solve_job.specs.Causes.{Causes, Decides};
 ghost use Rattle.solve_job.specs.Ground.{IsEnough};
 ghost use Rattle.solve_job.specs.Headline.{Headline};
+ghost use Rattle.solve_job.specs.Proved.{IsSolvedAs};
 ghost use Rattle.solve_job.specs.Solved.{IsSolved};
+ghost use Rattle.answers.specs.declared.form.ProofForm.{ProofForm};
 ghost use Rattle.typed_formula.specs.Truth.{Meaning};
-ghost use Rattle.std.specs.Prelude.{◌≡◌, ℕ, List};
+ghost use Rattle.std.specs.Prelude.{◌≡◌, ℕ, List, Option};
 
-/// A file has at most one answer.
+/// A file has at most one answer, and at most one with its proof in a form.
 pub fn one_answer_law()
-    ensures { (budget : ℕ) (bytes : List ℕ) (a b : Answer) → IsSolved budget bytes a → IsSolved budget bytes b → a ≡ b }
+    ensures plain { (budget : ℕ) (bytes : List ℕ) (a b : Answer) → IsSolved budget bytes a → IsSolved budget bytes b → a ≡ b }
+    ensures proved { (asked : Option ProofForm) (budget : ℕ) (bytes : List ℕ) (a b : Answer) → IsSolvedAs asked budget bytes a → IsSolvedAs asked budget bytes b → a ≡ b }
 {}
 
 /// At VALID the bytes read as a problem that holds, in whatever interpretation, at each value of the existential constants

@@ -7,5 +7,4 @@ mod solving;
 mod telling;
 
 pub use laws::{causes_law, decided_law, enough_law, headline_law, one_answer_law};
-pub use proving::ProofForm;
 pub use solving::answer;

@@ -3,48 +3,54 @@
 ghost use Rattle.answers.specs.Answer.{answer_of};
 ghost use Rattle.proof_text.specs.Spellings.{spelled};
 ghost use Rattle.proof_tree.specs.Views.{proof_of};
-ghost use Rattle.solve_job.specs.Proved.{IsProofTold, PrintsTree, extended, form_text};
+ghost use Rattle.search.specs.Outcomes.{bare};
+ghost use Rattle.solve_job.specs.Proved.{IsProofTold, PrintsTree, extended, form_text, tree_of};
 ghost use Rattle.solve_job.specs.Shaping.{CanBePrinted, IsPrintable};
 ghost use Rattle.std.specs.Prelude.{◌≡◌, ◌++◌, IfOk, OnOk, List, ℕ};
 ghost use Rattle.tree_text.specs.Shaped.{Holds, IsShaped};
 
-use answers::Output;
+use answers::{Output, ProofForm};
 use linear_term::Memory;
 use proof_tree::Tree;
 use proof_writing::{know_typed, write_short, write_tree};
-use search::Outcome;
+use search::{Decided, Outcome};
 use std::alloc::Global;
 
-/// In what form a proof is printed.
-#[derive(Clone, Copy, Debug, PartialEq, Eq)]
-pub enum ProofForm {
-    /// As a text of the first format, with each log where it stands.
-    Whole,
-    /// As a text of the second format, with a log that stands on several lines once.
-    Short,
-}
-
-/// The answer with the proof of an outcome behind it, if that has one.
-pub fn tell_proof(
-    alloc: Global,
-    plain: Output,
-    outcome: &Outcome,
-    form: ProofForm,
-) -> Result<Output, Memory>
-    requires { CanBePrinted outcome.now }
-    ensures { IfOk result (λ output. IsProofTold form outcome.now (answer_of plain) (answer_of output)) }
+/// An outcome without its tree, and the tree, if it has one.
+pub fn split(outcome: Outcome) -> (Decided, Option<Tree>)
+    ensures told { result.0 ≡ bare outcome }
+    ensures tree { result.1 ≡ tree_of outcome }
 {
     match outcome {
         Outcome::Valid {
-            constraint: _,
-            solution: _,
+            constraint,
+            solution,
             tree,
-        } => print_proof(alloc, plain, tree, form),
-        Outcome::Invalid {
-            constraint: _,
-            tree,
-        } => print_proof(alloc, plain, tree, form),
-        Outcome::Unknown { why: _, run: _ } => Ok(plain),
+        } => (
+            Decided::Valid {
+                constraint,
+                solution,
+            },
+            Some(tree),
+        ),
+        Outcome::Invalid { constraint, tree } => (Decided::Invalid { constraint }, Some(tree)),
+        Outcome::Unknown { why, run } => (Decided::Unknown { why, run }, None),
+    }
+}
+
+/// The answer with the proof behind it that the tree is, if there is one.
+pub fn tell_proof(
+    alloc: Global,
+    plain: Output,
+    tree: &Option<Tree>,
+    form: ProofForm,
+) -> Result<Output, Memory>
+    requires { CanBePrinted tree.now }
+    ensures { IfOk result (λ output. IsProofTold form tree.now (answer_of plain) (answer_of output)) }
+{
+    match tree {
+        Some(tree) => print_proof(alloc, plain, tree, form),
+        None => Ok(plain),
     }
 }
 

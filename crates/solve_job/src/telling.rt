@@ -17,14 +17,14 @@ use linear_term::Memory;
 use pri_typing::Problem;
 use proof_tree::Why;
 use purse::Purse;
-use search::Outcome;
+use search::Decided;
 use std::alloc::Global;
 
 /// The answer that tells an outcome of a run which left the purse so; the lines of `\interpolant` blocks have the rest of it.
 pub fn tell(
     alloc: Global,
     problem: &Problem,
-    outcome: &Outcome,
+    outcome: &Decided,
     purse: &mut Purse,
 ) -> Result<Output, Memory>
     requires well_formed { IsWellFormed problem.now }
@@ -37,16 +37,12 @@ pub fn tell(
     ensures { IfOk result (λ output. TellsOutcome problem.now purse.old outcome.now (answer_of output)) }
 {
     match outcome {
-        Outcome::Valid {
+        Decided::Valid {
             constraint,
             solution,
-            tree: _,
         } => { valid(alloc, problem, constraint, solution.as_slice(), purse) }
-        Outcome::Invalid {
-            constraint: _,
-            tree: _,
-        } => say(alloc, INVALID, b"INVALID"),
-        Outcome::Unknown { why, run: _ } => unknown(alloc, cause(why)),
+        Decided::Invalid { constraint: _ } => say(alloc, INVALID, b"INVALID"),
+        Decided::Unknown { why, run: _ } => unknown(alloc, cause(why)),
     }
 }
 

@@ -1,5 +1,6 @@
 // Each rule of the words, with a row on each side of it.
 
+use answers::ProofForm;
 use job_words::{Job, WordsFault, job};
 use std::alloc::Global;
 use std::process::Abort;
@@ -16,15 +17,23 @@ fn named(alloc: Global, words: &[&str]) -> Result<String, Fail> {
             Job::Solve {
                 file,
                 budget,
-                proof,
-                short,
+                asked,
             },
-        ) => Ok(format!(in alloc; "solve {file} {budget} {proof} {short}")?),
+        ) => Ok(format!(in alloc; "solve {file} {budget} {}", form(asked))?),
         Ok(Job::Elim { file, budget }) => Ok(format!(in alloc; "elim {file} {budget}")?),
         Ok(Job::Drill { count, budget }) => Ok(format!(in alloc; "drill {count} {budget}")?),
         Ok(Job::Check { file, proof }) => Ok(format!(in alloc; "check {file} {proof}")?),
         Err(WordsFault::Words) => Ok(String::from_str(alloc, "no job")?),
         Err(WordsFault::Memory) => Ok(String::from_str(alloc, "no memory")?),
+    }
+}
+
+// The form of the proof that is asked for.
+fn form(asked: Option<ProofForm>) -> &'static str {
+    match asked {
+        None => "plain",
+        Some(ProofForm::Whole) => "whole",
+        Some(ProofForm::Short) => "short",
     }
 }
 
@@ -39,54 +48,42 @@ fn check(rt: &impl Abort, alloc: Global, rows: &[(&[&str], &str)]) -> Result<(),
 #[test]
 fn words_name_jobs(rt: HostRuntime) -> Result<(), Fail> {
     let rows: [(&[&str], &str); 27] = [
-        (&["solve", "f"], "solve f 50000000 false false"),
+        (&["solve", "f"], "solve f 50000000 plain"),
         (&["elim", "f"], "elim f 50000000"),
-        (&["solve", "f", "--budget", "1"], "solve f 1 false false"),
+        (&["solve", "f", "--budget", "1"], "solve f 1 plain"),
         (
             &["elim", "--budget", "1000000000", "f"],
             "elim f 1000000000",
         ),
-        (
-            &["solve", "--budget=0000000007", "f"],
-            "solve f 7 false false",
-        ),
-        (&["solve", "-"], "solve - 50000000 false false"),
-        (&["solve", ""], "solve  50000000 false false"),
-        (&["solve", "solve"], "solve solve 50000000 false false"),
-        (&["solve", "--", "f"], "solve f 50000000 false false"),
-        (&["solve", "f", "--"], "solve f 50000000 false false"),
-        (&["solve", "--", "--"], "solve -- 50000000 false false"),
-        (&["solve", "--", "-x"], "solve -x 50000000 false false"),
+        (&["solve", "--budget=0000000007", "f"], "solve f 7 plain"),
+        (&["solve", "-"], "solve - 50000000 plain"),
+        (&["solve", ""], "solve  50000000 plain"),
+        (&["solve", "solve"], "solve solve 50000000 plain"),
+        (&["solve", "--", "f"], "solve f 50000000 plain"),
+        (&["solve", "f", "--"], "solve f 50000000 plain"),
+        (&["solve", "--", "--"], "solve -- 50000000 plain"),
+        (&["solve", "--", "-x"], "solve -x 50000000 plain"),
         (&["elim", "--", "--budget"], "elim --budget 50000000"),
         (
             &["elim", "--budget", "5", "--", "--budget=6"],
             "elim --budget=6 5",
         ),
-        (&["solve", "f=g", "--budget=5"], "solve f=g 5 false false"),
-        (&["solve", "--proof", "f"], "solve f 50000000 true false"),
+        (&["solve", "f=g", "--budget=5"], "solve f=g 5 plain"),
+        (&["solve", "--proof", "f"], "solve f 50000000 whole"),
         (
             &["solve", "--budget", "5", "f", "--proof", "--"],
-            "solve f 5 true false",
+            "solve f 5 whole",
         ),
-        (
-            &["solve", "--", "--proof"],
-            "solve --proof 50000000 false false",
-        ),
-        (&["solve", "--short", "f"], "solve f 50000000 false true"),
-        (
-            &["solve", "f", "--short", "--budget=5"],
-            "solve f 5 false true",
-        ),
-        (
-            &["solve", "--", "--short"],
-            "solve --short 50000000 false false",
-        ),
+        (&["solve", "--", "--proof"], "solve --proof 50000000 plain"),
+        (&["solve", "--short", "f"], "solve f 50000000 short"),
+        (&["solve", "f", "--short", "--budget=5"], "solve f 5 short"),
+        (&["solve", "--", "--short"], "solve --short 50000000 plain"),
         (&["check", "f", "g"], "check f g"),
         (&["check", "--", "g", "-f"], "check g -f"),
         (&["check", "-", "-"], "check - -"),
         (&["drill", "1"], "drill 1 50000000"),
         (&["drill", "--budget", "7", "0000001000"], "drill 1000 7"),
-        (&["solve", "ä", "--budget=5"], "solve ä 5 false false"),
+        (&["solve", "ä", "--budget=5"], "solve ä 5 plain"),
     ];
     check(&rt, rt.alloc(), &rows)
 }

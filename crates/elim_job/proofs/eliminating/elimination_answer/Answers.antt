@@ -1,9 +1,17 @@
-use Rattle.std.proofs.Common.{ℕ, List, ap}
+use Rattle.std.proofs.Common.{ℕ, List, length, ap, subst}
+use Rattle.formula.specs.Form.{IsFormOver}
+use Rattle.pri_typing.specs.declared.problem.Problem.{Problem}
+use Rattle.encoding.specs.Problems.{problem_root}
+use Rattle.function_encoding.specs.declared.answer.Encoded.{Encoded}
+use Rattle.problem_file.specs.Encoded.{IsEncoded}
 use Rattle.answers.specs.Answer.{Answer}
 use Rattle.elim_job.specs.Eliminated.{made}
 use Rattle.elim_job.proofs.Meaning.{made_over}
 use Rattle.elim_job.proofs.Telling.{made_value, ends_made, ends_out_of_steps, ends_out_of_range, steps_so, overflow_so}
 use Rattle.elim_job.proofs.eliminating.elimination_answer.Goals as goal
+
+own_over : (p : Problem) (e : Encoded) → IsEncoded p e → IsFormOver (length p.existentials) (problem_root p).value
+own_over p e h = subst (IsFormOver (length p.existentials)) h.root h.over
 
 -- the answer with this text
 abbrev made_with : List ℕ → Answer
@@ -11,7 +19,7 @@ made_with text = record { status = 0; text = text }
 
 pub constraint_line-requires-clause-over : goal.constraint_line-requires-clause-over
 constraint_line-requires-clause-over c =
-    made_over c.args.problem.now _ c.requires.pure (made_value c.args.budget c.args.problem.now c.args.encoded.now c.requires.encoded c.in-Ok.constraint c.in-Ok._log _ _ c.new-purse.ensures c.in-Ok.ensures.charged)
+    made_over c.args.problem.now (own_over c.args.problem.now c.args.encoded.now c.requires.encoded) _ c.requires.pure (made_value c.args.budget c.args.problem.now c.args.encoded.now c.requires.encoded c.in-Ok.constraint c.in-Ok._log _ _ c.new-purse.ensures c.in-Ok.ensures.charged)
 
 pub returns-in_ok-text-in-Ok : goal.returns-in_ok-text-in-Ok
 returns-in_ok-text-in-Ok c =

@@ -1,6 +1,5 @@
 -- What is answered of the job that was read is answered of each job that the words name.
 use Rattle.job_words.specs.Jobs.{check, drill, eliminate, solve, task_of}
-use Rattle.prover_job.specs.Runs.{asked_form}
 use Rattle.prover_job.proofs.Telling.{named_within, met_as, says_checked, says_valid, says_refuted, says_constraint, solve_caused, elim_caused, check_caused, drill_caused}
 use Rattle.prover_job.proofs.runs.run.Goals as goal
 
@@ -8,12 +7,12 @@ pub do_job-requires : goal.do_job-requires
 do_job-requires g c = named_within _ _ c.in-Ok.ensures.named
 
 pub returns-in-Ok-clause-valid : goal.returns-in-Ok-clause-valid
-returns-in-Ok-clause-valid g c = λ file budget proof short names zero. says_valid _ (asked_form proof short) budget (g.S.Source.bytes_of c.args.source.now file) _ _ _
-    (met_as (g.S.Source.bytes_of c.args.source.now) _ (task_of c.in-Ok.job) (solve file budget proof short) _ _ _ c.words_law.ensures c.in-Ok.ensures.named names c.do_job.ensures.answered) zero
+returns-in-Ok-clause-valid g c = λ file budget asked names zero. says_valid _ asked budget (g.S.Source.bytes_of c.args.source.now file) _ _ _
+    (met_as (g.S.Source.bytes_of c.args.source.now) _ (task_of c.in-Ok.job) (solve file budget asked) _ _ _ c.words_law.ensures c.in-Ok.ensures.named names c.do_job.ensures.answered) zero
 
 pub returns-in-Ok-clause-refuted : goal.returns-in-Ok-clause-refuted
-returns-in-Ok-clause-refuted g c = λ file budget proof short names zero. says_refuted (asked_form proof short) budget (g.S.Source.bytes_of c.args.source.now file) _ _ _
-    (met_as (g.S.Source.bytes_of c.args.source.now) _ (task_of c.in-Ok.job) (solve file budget proof short) _ _ _ c.words_law.ensures c.in-Ok.ensures.named names c.do_job.ensures.answered) zero
+returns-in-Ok-clause-refuted g c = λ file budget asked names zero. says_refuted asked budget (g.S.Source.bytes_of c.args.source.now file) _ _ _
+    (met_as (g.S.Source.bytes_of c.args.source.now) _ (task_of c.in-Ok.job) (solve file budget asked) _ _ _ c.words_law.ensures c.in-Ok.ensures.named names c.do_job.ensures.answered) zero
 
 pub returns-in-Ok-clause-checked : goal.returns-in-Ok-clause-checked
 returns-in-Ok-clause-checked g c = λ file proof names zero. says_checked _ (g.S.Source.bytes_of c.args.source.now proof) (g.S.Source.bytes_of c.args.source.now file) _ _ _
@@ -24,8 +23,8 @@ returns-in-Ok-clause-constraint g c = λ file budget names zero. says_constraint
     (met_as (g.S.Source.bytes_of c.args.source.now) _ (task_of c.in-Ok.job) (eliminate file budget) _ _ _ c.words_law.ensures c.in-Ok.ensures.named names c.do_job.ensures.answered) zero
 
 pub returns-in-Ok-clause-solve_causes : goal.returns-in-Ok-clause-solve_causes
-returns-in-Ok-clause-solve_causes g c = λ file budget proof short names. solve_caused (asked_form proof short) budget (g.S.Source.bytes_of c.args.source.now file) _ _ _
-    (met_as (g.S.Source.bytes_of c.args.source.now) _ (task_of c.in-Ok.job) (solve file budget proof short) _ _ _ c.words_law.ensures c.in-Ok.ensures.named names c.do_job.ensures.answered)
+returns-in-Ok-clause-solve_causes g c = λ file budget asked names. solve_caused asked budget (g.S.Source.bytes_of c.args.source.now file) _ _ _
+    (met_as (g.S.Source.bytes_of c.args.source.now) _ (task_of c.in-Ok.job) (solve file budget asked) _ _ _ c.words_law.ensures c.in-Ok.ensures.named names c.do_job.ensures.answered)
 
 pub returns-in-Ok-clause-elim_causes : goal.returns-in-Ok-clause-elim_causes
 returns-in-Ok-clause-elim_causes g c = λ file budget names. elim_caused budget (g.S.Source.bytes_of c.args.source.now file) _ _ _
