@@ -1,4 +1,5 @@
 // What holds at 0, and goes on from each x to x + 2, holds at 4.
-// Answer: VALID, in 534 steps.
+// $ ./princess solve examples/chain.pri
+// VALID
 \predicates { p(int); }
 \problem { p(0) & \forall int x; (p(x) -> p(x + 2)) -> p(4) }

@@ -1,3 +1,4 @@
-/* A comparison that fails. */
-// Answer: INVALID.
+// A comparison that fails.
+// $ ./princess solve examples/invalid.pri
+// INVALID
 \problem { 2 = 3 }

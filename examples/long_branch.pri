@@ -1,5 +1,6 @@
 // A use of the outer quantifier brings 150 more nodes, and some use is always left: a branch would pass 2,000 nodes.
-// Answer: UNKNOWN: branch.
+// $ ./princess solve examples/long_branch.pri
+// UNKNOWN: branch
 \predicates { p(int); }
 \problem {
     \exists int x; \forall int

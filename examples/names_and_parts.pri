@@ -1,5 +1,7 @@
-/* Two parts that speak of a constant, and the question what lies between them.
-   Answer: VALID, interpolant: -speed + 50 >= 0. */
+// Two parts that speak of a constant, and the question what lies between them.
+// $ ./princess solve examples/names_and_parts.pri
+// VALID
+// interpolant: -speed + 50 >= 0
 \universalConstants {
     int speed;
 }

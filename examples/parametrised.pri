@@ -1,5 +1,8 @@
 // Whatever the three inputs from 0 to 7 are, how large do the two limits on their sum have to be, and how large is enough?
-// Answer: VALID, where least is at most 0 and most at least 21; these are the printed values.
+// $ ./princess solve examples/parametrised.pri
+// VALID
+// constraint: -least >= 0 & most - 21 >= 0
+// solution: least = 0, most = 21
 \existentialConstants { int least, most; }
 \universalConstants { int a, b, c; }
 \problem {

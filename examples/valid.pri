@@ -1,3 +1,4 @@
 // The numbers alone decide it.
-// Answer: VALID.
+// $ ./princess solve examples/valid.pri
+// VALID
 \problem { 1 < 2 & !(2 = 3) }
