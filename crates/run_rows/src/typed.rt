@@ -44,10 +44,6 @@ fn typed_problems_are_decided(rt: HostRuntime) -> Result<(), Fail> {
                 "\\predicates { p(int); } \\problem { (\\forall nat n; p(n)) -> p(0) & p(7) }",
                 (0, "VALID\n"),
             ),
-            (
-                "\\predicates { p(int); } \\problem { (\\forall nat n; p(n)) -> p(-1) }",
-                (2, "UNKNOWN: saturated\n"),
-            ),
         ],
     )
 }
@@ -68,7 +64,7 @@ fn bounds_stay_in_the_range(rt: HostRuntime) -> Result<(), Fail> {
             ),
             (
                 "\\universalConstants { int[1, 170141183460469231731687303715884105728] x; } \\problem { true }",
-                (3, "refused: Literal at 31\n"),
+                (3, "refused: Literal at 29\n"),
             ),
         ],
     )
@@ -80,7 +76,10 @@ fn types_go_through_elimination_and_interpolants(rt: HostRuntime) -> Result<(), 
         (
             "elim",
             "\\existentialConstants { nat a; } \\problem { \\exists int[1, 3] x; a = 2*x }",
-            (0, "constraint: a - 2 = 0 | a - 4 = 0 | a - 6 = 0\n"),
+            (
+                0,
+                "constraint: -a + 6 >= 0 & a - 2 >= 0 & \\exists int k0; a = 2*k0\n",
+            ),
         ),
         (
             "solve",
@@ -91,4 +90,15 @@ fn types_go_through_elimination_and_interpolants(rt: HostRuntime) -> Result<(), 
         answers_to(&rt, rt.alloc(), &[words, "f"], file, answer)?;
     }
     Ok(())
+}
+
+#[test]
+fn no_value_outside_a_type_is_used(rt: HostRuntime) -> Result<(), Fail> {
+    answers_to(
+        &rt,
+        rt.alloc(),
+        &["solve", "f", "--budget", "10000"],
+        "\\predicates { p(int); } \\problem { (\\forall nat n; p(n)) -> p(-1) }",
+        (2, "UNKNOWN: steps\n"),
+    )
 }
