@@ -124,7 +124,7 @@ function words_key(words, count,    i, files, seen, is_over) {
     A = words[1]
     if (count == 0) return "none"
     if (A ~ /^-/) return "first"
-    if (A !~ /^(solve|check|elim|drill)$/) return "command"
+    if (A !~ /^(solve|check|elim|drill|least)$/) return "command"
     for (i = 2; i <= count; i++) {
         B = words[i]
         if (is_over || B == "-" || B !~ /^-/) { files++; continue }
@@ -133,14 +133,15 @@ function words_key(words, count,    i, files, seen, is_over) {
             B = "--budget"
             if (B in seen) return "twice"
             if ((words[i] ~ /^--budget=/ ? substr(words[i], 10) : words[++i]) !~ /^[0-9]+$/) return "budget"
-        } else if (A != "solve" || B !~ /^--(proof|short)$/) return "option"
+        } else if (A != "solve" || B !~ /^--(proof|short)$/) return A == "least" ? "term-dash" : "option"
         if (B in seen) return "twice"
         seen[B] = 1
     }
     if (("--proof" in seen) && ("--short" in seen)) return "both"
     if (!files) return A == "drill" ? "count-missing" : "file-missing"
     if (A == "check" && files == 1) return "proof-missing"
-    if (files > (A == "check" ? 2 : 1)) return "too-many"
+    if (A == "least" && files == 1) return "term-missing"
+    if (files > (A ~ /^(check|least)$/ ? 2 : 1)) return A == "least" ? "term-many" : "too-many"
     if ("--budget" in seen && (ENVIRON["BUDGET"] < 1 || ENVIRON["BUDGET"] + 0 > 1000000000 || length(ENVIRON["BUDGET"]) > 10)) return "budget"
     return A == "drill" ? "count" : "other"
 }

@@ -3,7 +3,7 @@
 function tell_refusal(    words, name, place, k, key) {
     split(answer, words, " ")
     name = words[2]; place = words[4]
-    if (place == "") { print FILE ": error: " name ": " sentence(name, "formula"); return }
+    if (place == "") { print FILE ": error: " name ": " sentence(name, name == "Large" ? "formula" : "term"); return }
     if (!read_lines(FILE) && place != 0) return
     scan()
     for (k = 1; k <= n && P[k] < place; k++) ;

@@ -6,7 +6,7 @@ use Rattle.clap.specs.declared.parser.matches.Found.{Found}
 use Rattle.answers.specs.declared.form.ProofForm.{ProofForm}
 use Rattle.answers.specs.declared.form.ProofForm.TheVariants.{Whole, Short}
 use Rattle.job_words.specs.Uses.{Text, listed, operands, tally, times, values_of}
-use Rattle.job_words.specs.Jobs.{IsBudget, IsNumber, NamesCheck, NamesDrill, NamesElim, NamesSolve, asks_short, asks_whole, budget_option, solve_options}
+use Rattle.job_words.specs.Jobs.{IsBudget, IsNumber, NamesCheck, NamesDrill, NamesElim, NamesLeast, NamesSolve, asks_short, asks_whole, budget_option, solve_options}
 use Rattle.job_words.specs.Shapes.{command_app}
 use Rattle.job_words.proofs.Accepted.{IsCommand}
 use Rattle.job_words.proofs.Answering.{budget_is, budget_once, flag_is, flag_once, one_flag, operand_is, operands_are}
@@ -17,6 +17,9 @@ solve_is = record { is_built = refl; whole = refl; places = (refl, refl); strang
 
 pub elim_is : IsCommand (command_app (codes "elim") (codes "FILE" ∷ []) budget_option) (codes "elim") (codes "FILE" ∷ []) budget_option
 elim_is = record { is_built = refl; whole = refl; places = (refl, refl); strange = (refl, tt); distinct_rules = refl; distinct_ids = refl; distinct_names = refl; named = refl }
+
+pub least_is : IsCommand (command_app (codes "least") (codes "FILE" ∷ codes "TERM" ∷ []) budget_option) (codes "least") (codes "FILE" ∷ codes "TERM" ∷ []) budget_option
+least_is = record { is_built = refl; whole = refl; places = (refl, (refl, refl)); strange = (refl, (refl, tt)); distinct_rules = refl; distinct_ids = refl; distinct_names = refl; named = refl }
 
 pub check_is : IsCommand (command_app (codes "check") (codes "FILE" ∷ codes "PROOF" ∷ []) []) (codes "check") (codes "FILE" ∷ codes "PROOF" ∷ []) []
 check_is = record { is_built = refl; whole = refl; places = (refl, (refl, refl)); strange = (refl, (refl, tt)); distinct_rules = refl; distinct_ids = refl; distinct_names = refl; named = refl }
@@ -31,6 +34,9 @@ solve_once line file n a names = (
 
 pub elim_once : (line : List Text) (file : Text) (n : ℕ) (names : NamesElim line file n) → OnceEach budget_option names.us
 elim_once line file n names = (budget_once (values_of (codes "budget") names.us) n names.budget_is, tt)
+
+pub least_once : (line : List Text) (file term : Text) (n : ℕ) (names : NamesLeast line file term n) → OnceEach budget_option names.us
+least_once line file term n names = (budget_once (values_of (codes "budget") names.us) n names.budget_is, tt)
 
 -- ---- what is found names the job
 
@@ -71,6 +77,15 @@ elim_named line f file n found is budget = record {
   spells = found.spells;
   file_is = operand_is (codes "FILE") file budget_option line f found is;
   budget_is = budget_is (codes "FILE" ∷ []) budget_option line f n refl found budget;
+}
+
+pub least_named : (line : List Text) (f : Found) (file term : Text) (n : ℕ) → Finds (codes "FILE" ∷ codes "TERM" ∷ []) budget_option line f → Some file ≡ first_value f (codes "FILE") → Some term ≡ first_value f (codes "TERM")
+    → IsBudget (listed (first_value f (codes "budget"))) n → NamesLeast line file term n
+least_named line f file term n found first second budget = record {
+  us = found.us;
+  spells = found.spells;
+  words_are = operands_are (codes "FILE") (codes "TERM") file term budget_option line f found first second;
+  budget_is = budget_is (codes "FILE" ∷ codes "TERM" ∷ []) budget_option line f n refl found budget;
 }
 
 pub check_named : (line : List Text) (f : Found) (file proof : Text) → Finds (codes "FILE" ∷ codes "PROOF" ∷ []) [] line f → Some file ≡ first_value f (codes "FILE") → Some proof ≡ first_value f (codes "PROOF")

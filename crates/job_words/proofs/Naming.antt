@@ -6,15 +6,16 @@ use Rattle.std.specs.Str.Parse.{digits_value}
 use Rattle.answers.specs.declared.form.ProofForm.{ProofForm}
 use Rattle.answers.specs.declared.form.ProofForm.TheVariants.{Whole, Short}
 use Rattle.job_words.specs.Uses.{Text, operands, times, values_of}
-use Rattle.job_words.specs.Jobs.{IsBudget, NamesCheck, NamesDrill, NamesElim, NamesJob, NamesSolve, Task, asks_short, asks_whole, solve, eliminate, check, drill}
+use Rattle.job_words.specs.Jobs.{IsBudget, NamesCheck, NamesDrill, NamesElim, NamesJob, NamesLeast, NamesSolve, Task, asks_short, asks_whole, solve, eliminate, minimise, check, drill}
 use Rattle.job_words.proofs.Answering.{one_flag}
-use Rattle.job_words.proofs.Commanding.{check_is, drill_is, elim_is, solve_is}
+use Rattle.job_words.proofs.Commanding.{check_is, drill_is, elim_is, least_is, solve_is}
 use Rattle.job_words.proofs.Finds.{same_uses}
 
 -- the command of a job
 abbrev command_of : Task → Text
 command_of (solve file budget asked) = codes "solve"
 command_of (eliminate file budget) = codes "elim"
+command_of (minimise file term budget) = codes "least"
 command_of (check file proof) = codes "check"
 command_of (drill count budget) = codes "drill"
 
@@ -28,6 +29,11 @@ pub only_elim : (line : List Text) → ((f : Text) (n : ℕ) → NamesElim line 
 only_elim line none (eliminate f n) names = none f n names.1
 only_elim line none task names =
     let bad : true ≡ false = ap (bytes_eq (codes "elim")) names.0 in cc
+
+pub only_least : (line : List Text) → ((f t : Text) (n : ℕ) → NamesLeast line f t n → ⊥) → (task : Task) → NamesJob (codes "least" ∷ line) task → ⊥
+only_least line none (minimise f t n) names = none f t n names.1
+only_least line none task names =
+    let bad : true ≡ false = ap (bytes_eq (codes "least")) names.0 in cc
 
 pub only_drill : (line : List Text) → ((n m : ℕ) → NamesDrill line n m → ⊥) → (task : Task) → NamesJob (codes "drill" ∷ line) task → ⊥
 only_drill line none (drill n m) names = none n m names.1
@@ -72,6 +78,13 @@ one_elim line f g n m a b =
     let file : f ≡ g = ap (λ l. slice_index_or l 0 []) (sym a.file_is ∙ ap operands us ∙ b.file_is) in
     let budget = one_budget (values_of (codes "budget") b.us) n m (subst (λ vs. IsBudget (values_of (codes "budget") vs) n) us a.budget_is) b.budget_is in λ i. eliminate (file i) (budget i)
 
+one_least : (line : List Text) (f g t u : Text) (n m : ℕ) → NamesLeast line f t n → NamesLeast line g u m → minimise f t n ≡ minimise g u m
+one_least line f g t u n m a b =
+    let us = same_uses _ _ _ _ least_is line a.us b.us a.spells b.spells in
+    let words = sym a.words_are ∙ ap operands us ∙ b.words_are in
+    let budget = one_budget (values_of (codes "budget") b.us) n m (subst (λ vs. IsBudget (values_of (codes "budget") vs) n) us a.budget_is) b.budget_is in
+    λ i. minimise (slice_index_or (words i) 0 []) (slice_index_or (words i) 1 []) (budget i)
+
 one_check : (line : List Text) (f g p q : Text) → NamesCheck line f p → NamesCheck line g q → check f p ≡ check g q
 one_check line f g p q a b =
     let us = same_uses _ _ _ _ check_is line a.us b.us a.spells b.spells in
@@ -89,6 +102,7 @@ pub one_job : (words : List Text) (a b : Task) → NamesJob words a → NamesJob
 one_job [] a b x y = absurd x
 one_job (command ∷ line) (solve f n p) (solve g m q) x y = one_solve line f g n m p q x.1 y.1
 one_job (command ∷ line) (eliminate f n) (eliminate g m) x y = one_elim line f g n m x.1 y.1
+one_job (command ∷ line) (minimise f t n) (minimise g u m) x y = one_least line f g t u n m x.1 y.1
 one_job (command ∷ line) (check f p) (check g q) x y = one_check line f g p q x.1 y.1
 one_job (command ∷ line) (drill n k) (drill m l) x y =
     let same = one_drill line n m k l x.1 y.1 in λ i. drill (same.0 i) (same.1 i)

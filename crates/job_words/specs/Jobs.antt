@@ -7,11 +7,13 @@ use Rattle.job_words.specs.declared.jobs.Job.{Job}
 use Rattle.job_words.specs.declared.jobs.Job.TheVariants as job
 use Rattle.job_words.specs.Uses.{Text, Use, Options, Spells, operands, tally, times, values_of}
 
--- a job by the bytes of its words: to solve the problem in a file, with its proof in a form or without, or to give its constraint,
--- within a budget, or to check the proof in a file, or to solve the problem of a size that the program makes, within a budget
+-- a job by the bytes of its words: to solve the problem in a file, with its proof in a form or without, to give
+-- its constraint, or the least value of a term where it holds, each within a budget, to check the proof in a file, or to solve the
+-- problem of a size that the program makes, within a budget
 pub data Task : Type 0 where
   solve : (file : Text) → (budget : ℕ) → (asked : Option ProofForm) → Task
   eliminate : (file : Text) → (budget : ℕ) → Task
+  minimise : (file term : Text) → (budget : ℕ) → Task
   check : (file proof : Text) → Task
   drill : (count budget : ℕ) → Task
 
@@ -19,6 +21,7 @@ pub data Task : Type 0 where
 abbrev pub task_of : Job → Task
 task_of (job.Solve file budget asked) = solve (string_bytes file) budget asked
 task_of (job.Elim file budget) = eliminate (string_bytes file) budget
+task_of (job.Least file term budget) = minimise (string_bytes file) (string_bytes term) budget
 task_of (job.Check file proof) = check (string_bytes file) (string_bytes proof)
 task_of (job.Drill count budget) = drill count budget
 
@@ -26,6 +29,7 @@ task_of (job.Drill count budget) = drill count budget
 abbrev pub files_of : Task → List Text
 files_of (solve file budget asked) = file ∷ []
 files_of (eliminate file budget) = file ∷ []
+files_of (minimise file term budget) = file ∷ []
 files_of (check file proof) = file ∷ proof ∷ []
 files_of (drill count budget) = []
 
@@ -79,6 +83,13 @@ pub record NamesElim (line : List Text) (file : Text) (budget : ℕ) : Type 0 wh
   pub file_is : operands us ≡ file ∷ []
   pub budget_is : IsBudget (values_of (codes "budget") us) budget
 
+-- the words behind `least` name a file, a term and a budget
+pub record NamesLeast (line : List Text) (file term : Text) (budget : ℕ) : Type 0 where
+  pub us : List Use
+  pub spells : Spells budget_option line us
+  pub words_are : operands us ≡ file ∷ term ∷ []
+  pub budget_is : IsBudget (values_of (codes "budget") us) budget
+
 -- the words behind `check` name two files
 pub record NamesCheck (line : List Text) (file proof : Text) : Type 0 where
   pub us : List Use
@@ -99,5 +110,6 @@ abbrev pub NamesJob : List Text → Task → Type 0
 NamesJob [] task = ⊥
 NamesJob (command ∷ line) (solve file budget asked) = (command ≡ codes "solve") × NamesSolve line file budget asked
 NamesJob (command ∷ line) (eliminate file budget) = (command ≡ codes "elim") × NamesElim line file budget
+NamesJob (command ∷ line) (minimise file term budget) = (command ≡ codes "least") × NamesLeast line file term budget
 NamesJob (command ∷ line) (check file proof) = (command ≡ codes "check") × NamesCheck line file proof
 NamesJob (command ∷ line) (drill count budget) = (command ≡ codes "drill") × NamesDrill line count budget

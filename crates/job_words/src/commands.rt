@@ -60,6 +60,22 @@ pub(crate) fn elim_command<'a>(alloc: Global) -> Result<Command<'a>, AllocError>
         .arg(budget)
 }
 
+// `least FILE TERM [--budget N]`
+pub(crate) fn least_command<'a>(alloc: Global) -> Result<Command<'a>, AllocError>
+    ensures { IfOk result (λ c. app_of c ≡ command_app (codes "least") (codes "FILE" ∷ codes "TERM" ∷ []) budget_option) }
+{
+    let file = Arg::new(alloc, "FILE").required(true);
+    let term = Arg::new(alloc, "TERM").required(true);
+    let budget = Arg::new(alloc, "budget").long("budget");
+    Command::new(alloc, "least")
+        .no_binary_name(true)
+        .disable_help_flag(true)
+        .disable_version_flag(true)
+        .arg(file)?
+        .arg(term)?
+        .arg(budget)
+}
+
 // `drill COUNT [--budget N]`
 pub(crate) fn drill_command<'a>(alloc: Global) -> Result<Command<'a>, AllocError>
     ensures { IfOk result (λ c. app_of c ≡ command_app (codes "drill") (codes "COUNT" ∷ []) budget_option) }

@@ -19,6 +19,12 @@ pub enum Job {
         file: String,
         budget: u64,
     },
+    /// To give the least value of this term where the problem in this file holds, within a budget.
+    Least {
+        file: String,
+        term: String,
+        budget: u64,
+    },
     /// To check the proof in the second file against the problem in the first.
     Check {
         file: String,

@@ -5,7 +5,9 @@ ghost use Rattle.job_words.specs.Jobs.{IsBudget, IsNumber, NamesJob, Task, asks_
 ghost use Rattle.job_words.specs.Uses.{listed, Text};
 ghost use Rattle.std.specs.Prelude.{◌≡◌, ◌∷◌, ◌&&◌, ℕ, List, map, codes, string_bytes, true, false, None, Some, IfOk, IfErr, MatchResult};
 
-use crate::commands::{check_command, drill_command, elim_command, read, solve_command};
+use crate::commands::{
+    check_command, drill_command, elim_command, least_command, read, solve_command,
+};
 use crate::jobs::{Job, WordsFault};
 use crate::numbers::number;
 use answers::ProofForm;
@@ -32,6 +34,7 @@ pub fn job(alloc: Global, words: &[String]) -> Result<Job, WordsFault>
     match command.as_str() {
         "solve" => solve_job(alloc, line),
         "elim" => elim_job(alloc, line),
+        "least" => least_job(alloc, line),
         "check" => check_job(alloc, line),
         "drill" => drill_job(alloc, line),
         _ => Err(WordsFault::Words),
@@ -71,6 +74,18 @@ fn elim_job(alloc: Global, line: &[String]) -> Result<Job, WordsFault>
     let file = text_in(alloc, &matches, "FILE")?;
     let budget = budget_in(&matches)?;
     Ok(Job::Elim { file, budget })
+}
+
+// `least FILE TERM [--budget N]`
+fn least_job(alloc: Global, line: &[String]) -> Result<Job, WordsFault>
+    ensures named { IfOk result (λ job. NamesJob (codes "least" ∷ map string_bytes line.now) (task_of job)) }
+    ensures refused { IfErr result (λ e. e ≡ WordsFault.Words → (task : Task) → NamesJob (codes "least" ∷ map string_bytes line.now) task → ⊥) }
+{
+    let matches = read(least_command(alloc)?, line)?;
+    let file = text_in(alloc, &matches, "FILE")?;
+    let term = text_in(alloc, &matches, "TERM")?;
+    let budget = budget_in(&matches)?;
+    Ok(Job::Least { file, term, budget })
 }
 
 // `drill COUNT [--budget N]`

@@ -10,7 +10,7 @@ use Rattle.answers.specs.declared.output.Output.{Output}
 use Rattle.answers.specs.Outside.{Gives, Meets, PutsAll}
 use Rattle.answers.specs.Files.{AnswersBytes, AnswersSource, most_of_file, most_of_proof, too_long, within}
 use Rattle.answers.proofs.Meeting.{long_answered, meets_more, whole_answered}
-use Rattle.job_words.specs.Jobs.{Task, solve, eliminate, check, drill, IsBudget, NamesJob}
+use Rattle.job_words.specs.Jobs.{Task, solve, eliminate, minimise, check, drill, IsBudget, NamesJob}
 use Rattle.problem_gen.specs.Drills.{drill_text}
 use Rattle.solve_job.specs.Proved.{IsSolvedAs, PrintsProofOf, ProvesValid}
 use Rattle.answers.specs.declared.form.ProofForm.{ProofForm}
@@ -37,8 +37,14 @@ use Rattle.elim_job.specs.Meaning.{ElimMeans}
 use Rattle.elim_job.proofs.Causing as elim_causing
 use Rattle.elim_job.proofs.Exactly.{eliminated_status}
 use Rattle.elim_job.proofs.Meaning.{means}
+use Rattle.least_job.specs.Leasts.{IsLeastAnswer}
+use Rattle.least_job.specs.Meaning.{LeastAnswers}
+use Rattle.least_job.proofs.Causing as least_causing
+use Rattle.least_job.proofs.Deciding as least_deciding
+use Rattle.least_job.proofs.Exactly.{least_status}
+use Rattle.least_job.proofs.Meaning as least_meaning
 use Rattle.prover_job.specs.declared.tasks.Stop.{Stop}
-use Rattle.prover_job.specs.Runs.{AnswersTask, AnswersWithProof, IsWithin, SaysChecked, SaysConstraint, SaysValid, SaysRefuted, IsSolveCaused, IsSolveCausedAs, IsElimCaused, IsCheckCaused, IsDrillCaused}
+use Rattle.prover_job.specs.Runs.{AnswersTask, AnswersWithProof, IsWithin, SaysChecked, SaysConstraint, SaysLeast, SaysNowhere, SaysValid, SaysRefuted, IsSolveCaused, IsSolveCausedAs, IsElimCaused, IsLeastCaused, IsCheckCaused, IsDrillCaused}
 
 -- ---- files
 
@@ -82,6 +88,7 @@ with_proof_status told bytes a h = bytes_status most_of_proof (λ proof. IsCheck
 pub task_status : (bytes_of : List ℕ → Option (List ℕ)) (task : Task) (a : Answer) → AnswersTask bytes_of task a → IsAnswerStatus a.status
 task_status bytes_of (solve file budget asked) a h = bytes_status most_of_file (IsSolvedAs asked budget) (solved_as_status asked budget) h.bytes a h.is
 task_status bytes_of (eliminate file budget) a h = bytes_status most_of_file (IsEliminated budget) (eliminated_status budget) h.bytes a h.is
+task_status bytes_of (minimise file term budget) a h = bytes_status most_of_file (IsLeastAnswer term budget) (least_status term budget) h.bytes a h.is
 task_status bytes_of (check file proof) a h = bytes_status most_of_file (AnswersWithProof (bytes_of proof)) (with_proof_status (bytes_of proof)) h.bytes a h.is
 task_status bytes_of (drill count budget) a h = subst (λ b. IsAnswerStatus b.status) (sym h.drilled) (solved_status budget (drill_text count) h.solved h.solves)
 
@@ -212,6 +219,38 @@ says_constraint w budget told ends before after met z =
       constrained = bytes_means w budget (given.is).bytes given.answer (given.is).is (sym given.status ∙ z);
     }
 
+-- an answer of `least` to the bytes of a file means what it does, where a long file's means nothing
+bytes_least : (w : Meaning) (term : List ℕ) (budget : ℕ) (bytes : List ℕ) (a : Answer) → AnswersBytes most_of_file (IsLeastAnswer term budget) bytes a → LeastAnswers w term bytes a
+bytes_least w term budget bytes a (too_long l e) = record {
+  found = λ z. let bad = sym z ∙ ap (λ b. b.status) e in absurd cc;
+  none = λ z. let bad = sym z ∙ ap (λ b. b.status) e in absurd cc;
+}
+bytes_least w term budget bytes a (within l is) = least_meaning.means w term budget bytes a is
+
+-- at status 0 of `least` a text tells the least value
+pub says_least : (w : Meaning) (term : List ℕ) (budget : ℕ) (told : Option (List ℕ)) (ends : ℕ) (before after : Option (List ℕ)) → Meets (AnswersSource most_of_file (IsLeastAnswer term budget) told) ends before after
+    → ends ≡ 0 → SaysLeast w term told before after
+says_least w term budget told ends before after met z =
+    let given = given_to _ ends 0 before after met z (λ e. cc) (λ e. cc) (λ e. cc) in
+    record {
+      bytes = (given.is).bytes;
+      whole = (given.is).whole;
+      text = (given.answer).text;
+      put = given.put;
+      minimised = (bytes_least w term budget (given.is).bytes given.answer (given.is).is).found (sym given.status ∙ z);
+    }
+
+-- at status 1 of `least` the problem holds nowhere
+pub says_nowhere : (w : Meaning) (term : List ℕ) (budget : ℕ) (told : Option (List ℕ)) (ends : ℕ) (before after : Option (List ℕ)) → Meets (AnswersSource most_of_file (IsLeastAnswer term budget) told) ends before after
+    → ends ≡ 1 → SaysNowhere w told
+says_nowhere w term budget told ends before after met z =
+    let given = given_to _ ends 1 before after met z (λ e. cc) (λ e. cc) (λ e. cc) in
+    record {
+      bytes = (given.is).bytes;
+      whole = (given.is).whole;
+      unsatisfied = (bytes_least w term budget (given.is).bytes given.answer (given.is).is).none (sym given.status ∙ z);
+    }
+
 -- the answer comes exactly where its row says
 solve_so : (budget : ℕ) (bytes : List ℕ) (a : Answer) → IsSolved budget bytes a → IsSolveCaused budget bytes a
 solve_so budget bytes a is = record { causes = solve_causing.causes budget bytes a is; decides = solve_causing.decides budget bytes a is; enough = ground_enough budget bytes }
@@ -230,6 +269,11 @@ pub elim_caused : (budget : ℕ) (told : Option (List ℕ)) (ends : ℕ) (before
     → Meets (AnswersSource most_of_file (IsElimCaused budget) told) ends before after
 elim_caused budget told ends before after met = meets_more _ _ ends before after (source_more most_of_file (IsEliminated budget) (IsElimCaused budget)
     (λ bytes a is. record { causes = elim_causing.causes budget bytes a is; decides = elim_causing.decides budget bytes a is }) told) met
+
+pub least_caused : (w : Meaning) (term : List ℕ) (budget : ℕ) (told : Option (List ℕ)) (ends : ℕ) (before after : Option (List ℕ)) → Meets (AnswersSource most_of_file (IsLeastAnswer term budget) told) ends before after
+    → Meets (AnswersSource most_of_file (IsLeastCaused w term budget) told) ends before after
+least_caused w term budget told ends before after met = meets_more _ _ ends before after (source_more most_of_file (IsLeastAnswer term budget) (IsLeastCaused w term budget)
+    (λ bytes a is. record { causes = least_causing.causes term budget bytes a is; decides = λ p x decided. least_deciding.decides w term budget bytes a p x is decided }) told) met
 
 pub check_caused : (proof told : Option (List ℕ)) (ends : ℕ) (before after : Option (List ℕ)) → Meets (AnswersSource most_of_file (AnswersWithProof proof) told) ends before after
     → Meets (AnswersSource most_of_file (IsCheckCaused proof) told) ends before after
@@ -256,6 +300,7 @@ pub named_within : (words : List (List ℕ)) (task : Task) → NamesJob words ta
 named_within [] task h = absurd h
 named_within (command ∷ line) (solve file budget asked) h = budget_small _ budget h.1.budget_is
 named_within (command ∷ line) (eliminate file budget) h = let small = budget_small _ budget h.1.budget_is in omega (arith, small)
+named_within (command ∷ line) (minimise file term budget) h = let small = budget_small _ budget h.1.budget_is in omega (arith, small)
 named_within (command ∷ line) (check file proof) h = tt
 named_within (command ∷ line) (drill count budget) h = (h.1.count_is.within, budget_small _ budget h.1.budget_is)
 

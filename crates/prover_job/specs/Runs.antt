@@ -1,11 +1,13 @@
 -- What a run answers to its words over a source of named bytes, and what its end means.
 use Rattle.std.specs.Prelude.{◌≡◌, ◌⊎◌, ◌+◌, ◌≤◌, ◌<◌, ◌^◌, ℕ, ℤ, Bool, true, false, List, [], ◌∷◌, ◌++◌, length, Option, Some, None, Contains}
 use Rattle.typed_formula.specs.Truth.{Meaning}
+use Rattle.typed_formula.specs.Formula.{Expression}
+use Rattle.pri_typing.specs.declared.problem.Problem.{Problem}
 use Rattle.prover_io.specs.Outside.{Broke, IsLonger, IsWhole}
 use Rattle.answers.specs.Answer.{Answer}
 use Rattle.answers.specs.Files.{AnswersSource, most_of_file, most_of_proof}
 use Rattle.answers.specs.Outside.{PutsAll}
-use Rattle.job_words.specs.Jobs.{Task, solve, eliminate, check, drill, files_of, NamesJob}
+use Rattle.job_words.specs.Jobs.{Task, solve, eliminate, minimise, check, drill, files_of, NamesJob}
 use Rattle.proof_tree.specs.declared.run.Verdict.TheVariants as verdict
 use Rattle.solve_job.specs.Proved.{IsSolvedAs, PrintsProofOf, ProvesValid, extended}
 use Rattle.answers.specs.declared.form.ProofForm.{ProofForm}
@@ -20,6 +22,10 @@ use Rattle.drill_job.specs.Drilled.{IsDrilled, drill_answer}
 use Rattle.elim_job.specs.Eliminated.{IsEliminated}
 use Rattle.elim_job.specs.Causes as elim_causes
 use Rattle.elim_job.specs.Meaning.{Constrained}
+use Rattle.least_job.specs.Causes as least_causes
+use Rattle.least_job.specs.Decides as least_decides
+use Rattle.least_job.specs.Leasts.{IsLeastAnswer}
+use Rattle.least_job.specs.Meaning.{Minimised, Unsatisfied}
 
 -- the words name no job
 abbrev pub NameNoJob : List (List ℕ) → Type 0
@@ -33,6 +39,7 @@ NameNoFile words = (task : Task) → NamesJob words task → files_of task ≡ [
 abbrev pub IsWithin : Task → Type 0
 IsWithin (solve file budget asked) = budget ≤ 1000000000
 IsWithin (eliminate file budget) = budget < 2 ^ 32
+IsWithin (minimise file term budget) = budget < 2 ^ 32
 IsWithin (check file proof) = Unit {0}
 IsWithin (drill count budget) = (count ≤ 1000) × (budget ≤ 1000000000)
 
@@ -44,6 +51,7 @@ AnswersWithProof told bytes = AnswersSource most_of_proof (λ proof. IsChecked p
 abbrev pub AnswersTask : (List ℕ → Option (List ℕ)) → Task → Answer → Type 0
 AnswersTask bytes_of (solve file budget asked) = AnswersSource most_of_file (IsSolvedAs asked budget) (bytes_of file)
 AnswersTask bytes_of (eliminate file budget) = AnswersSource most_of_file (IsEliminated budget) (bytes_of file)
+AnswersTask bytes_of (minimise file term budget) = AnswersSource most_of_file (IsLeastAnswer term budget) (bytes_of file)
 AnswersTask bytes_of (check file proof) = AnswersSource most_of_file (AnswersWithProof (bytes_of proof)) (bytes_of file)
 AnswersTask bytes_of (drill count budget) = IsDrilled budget count
 
@@ -55,6 +63,7 @@ IsJobFile task name = (file : List ℕ) × Contains (files_of task) file × (nam
 abbrev pub most_moved : Task → ℕ
 most_moved (solve file budget asked) = most_of_file + 1
 most_moved (eliminate file budget) = most_of_file + 1
+most_moved (minimise file term budget) = most_of_file + 1
 most_moved (check file proof) = (most_of_file + 1) + (most_of_proof + 1)
 most_moved (drill count budget) = 0
 
@@ -113,6 +122,20 @@ pub record SaysConstraint (w : Meaning) (told before after : Option (List ℕ)) 
   pub put : PutsAll before after text
   pub constrained : Constrained w bytes text
 
+-- the bytes of a file, where they are told, read as a problem, and the text put tells the least value of the term where it holds
+pub record SaysLeast (w : Meaning) (term : List ℕ) (told before after : Option (List ℕ)) : Type 0 where
+  pub bytes : List ℕ
+  pub whole : IsWhole told bytes
+  pub text : List ℕ
+  pub put : PutsAll before after text
+  pub minimised : Minimised w term bytes text
+
+-- the bytes of a file, where they are told, read as a problem that holds at no values of its existential constants
+pub record SaysNowhere (w : Meaning) (told : Option (List ℕ)) : Type 0 where
+  pub bytes : List ℕ
+  pub whole : IsWhole told bytes
+  pub unsatisfied : Unsatisfied w bytes
+
 -- an answer of `solve` that comes exactly where its row says, and decides what it has to, with seven steps a node where
 -- a problem is one of numbers
 pub record IsSolveCaused (budget : ℕ) (bytes : List ℕ) (answer : Answer) : Type 0 where
@@ -132,6 +155,11 @@ pub record IsSolveCausedAs (asked : Option ProofForm) (budget : ℕ) (bytes : Li
 pub record IsElimCaused (budget : ℕ) (bytes : List ℕ) (answer : Answer) : Type 0 where
   pub causes : elim_causes.Causes budget bytes answer
   pub decides : elim_causes.Decides budget bytes answer
+
+-- the same of `least`; with its values in an interpretation
+pub record IsLeastCaused (w : Meaning) (term : List ℕ) (budget : ℕ) (bytes : List ℕ) (answer : Answer) : Type 0 where
+  pub causes : least_causes.Causes term budget bytes answer
+  pub decides : (p : Problem) (x : Expression) → least_decides.IsDecided term budget bytes p x → least_decides.Decides w p x answer
 
 -- an answer of `check`, to the bytes of a problem's file and the proof's file of the bytes that are told, that comes exactly where its
 -- row says

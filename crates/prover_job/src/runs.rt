@@ -4,9 +4,9 @@ ghost use Rattle.answers.specs.Answer.{IsStatus, words_answer};
 ghost use Rattle.answers.specs.Files.{AnswersSource, most_of_file};
 ghost use Rattle.answers.specs.Outside.{Meets};
 ghost use Rattle.answers.specs.declared.form.ProofForm.{ProofForm};
-ghost use Rattle.job_words.specs.Jobs.{NamesJob, Task, check, drill, eliminate, files_of, solve, task_of};
+ghost use Rattle.job_words.specs.Jobs.{NamesJob, Task, check, drill, eliminate, files_of, minimise, solve, task_of};
 ghost use Rattle.prover_io.specs.Outside.{BeginsFront, GrowsAtMost, Rose};
-ghost use Rattle.prover_job.specs.Runs.{AnswersTask, AreBegun, BrokeAt, IsCheckCaused, IsDrillCaused, IsElimCaused, IsJobFile, IsSolveCausedAs, IsWithin, NameNoFile, NameNoJob, SaysChecked, SaysConstraint, SaysRefuted, SaysValid, most_moved};
+ghost use Rattle.prover_job.specs.Runs.{AnswersTask, AreBegun, BrokeAt, IsCheckCaused, IsDrillCaused, IsElimCaused, IsJobFile, IsLeastCaused, IsSolveCausedAs, IsWithin, NameNoFile, NameNoJob, SaysChecked, SaysConstraint, SaysLeast, SaysNowhere, SaysRefuted, SaysValid, most_moved};
 ghost use Rattle.std.specs.Prelude.{◌≡◌, ◌≢◌, ◌⊎◌, ℕ, List, [], Option, map, string_bytes};
 
 use crate::tasks::{Stop, job_output};
@@ -17,8 +17,8 @@ use prover_io::{Sink, Source};
 use std::alloc::Global;
 use typed_formula::World;
 
-/// Does the job that the words name, and answers the exit status: 0 valid, or the constraint is made, or the proof is accepted,
-/// 1 invalid, 2 unknown, 3 the file is refused, 4 the proof is refused, 5 the words name no job, 6 the source failed, 7 the sink
+/// Does the job that the words name, and answers the exit status: 0 valid, or the constraint is made, or the proof is accepted, or
+/// the least value is found or there is none, 1 invalid, or the problem holds nowhere, 2 unknown, 3 the file is refused, 4 the proof is refused, 5 the words name no job, 6 the source failed, 7 the sink
 /// failed, 8 no memory, 9 the file or the proof's file is too long. `drill` answers as `solve` does to the problem that it makes.
 /// The interpretation has no call, so what is promised in it is promised in every one.
 pub fn run<S: Source, K: Sink, W: World>(
@@ -39,10 +39,16 @@ pub fn run<S: Source, K: Sink, W: World>(
         → SaysChecked (record { truth = W.truth world.now; value = W.value world.now }) (S.bytes_of source.old file) (K.taken sink.old) (K.taken sink.new) }
     ensures constraint { (file : List ℕ) (budget : ℕ) → NamesJob (map string_bytes words.now) (eliminate file budget) → result ≡ 0
         → SaysConstraint (record { truth = W.truth world.now; value = W.value world.now }) (S.bytes_of source.old file) (K.taken sink.old) (K.taken sink.new) }
+    ensures minimised { (file term : List ℕ) (budget : ℕ) → NamesJob (map string_bytes words.now) (minimise file term budget) → result ≡ 0
+        → SaysLeast (record { truth = W.truth world.now; value = W.value world.now }) term (S.bytes_of source.old file) (K.taken sink.old) (K.taken sink.new) }
+    ensures nowhere { (file term : List ℕ) (budget : ℕ) → NamesJob (map string_bytes words.now) (minimise file term budget) → result ≡ 1
+        → SaysNowhere (record { truth = W.truth world.now; value = W.value world.now }) (S.bytes_of source.old file) }
     ensures solve_causes { (file : List ℕ) (budget : ℕ) (asked : Option ProofForm) → NamesJob (map string_bytes words.now) (solve file budget asked)
         → Meets (AnswersSource most_of_file (IsSolveCausedAs asked budget) (S.bytes_of source.old file)) result (K.taken sink.old) (K.taken sink.new) }
     ensures elim_causes { (file : List ℕ) (budget : ℕ) → NamesJob (map string_bytes words.now) (eliminate file budget)
         → Meets (AnswersSource most_of_file (IsElimCaused budget) (S.bytes_of source.old file)) result (K.taken sink.old) (K.taken sink.new) }
+    ensures least_causes { (file term : List ℕ) (budget : ℕ) → NamesJob (map string_bytes words.now) (minimise file term budget)
+        → Meets (AnswersSource most_of_file (IsLeastCaused (record { truth = W.truth world.now; value = W.value world.now }) term budget) (S.bytes_of source.old file)) result (K.taken sink.old) (K.taken sink.new) }
     ensures check_causes { (file proof : List ℕ) → NamesJob (map string_bytes words.now) (check file proof)
         → Meets (AnswersSource most_of_file (IsCheckCaused (S.bytes_of source.old proof)) (S.bytes_of source.old file)) result (K.taken sink.old) (K.taken sink.new) }
     ensures drilled { (count budget : ℕ) → NamesJob (map string_bytes words.now) (drill count budget)

@@ -4,6 +4,7 @@ ghost use Rattle.answers.specs.Answer.{answer_of, long_answer};
 ghost use Rattle.answers.specs.Files.{AnswersSource, most_of_file, most_of_proof};
 ghost use Rattle.elim_job.specs.Eliminated.{IsEliminated};
 ghost use Rattle.job_words.specs.Jobs.{check, files_of, task_of};
+ghost use Rattle.least_job.specs.Leasts.{IsLeastAnswer};
 ghost use Rattle.prover_io.specs.Outside.{BeginsFront, Broke, GrowsAtMost, Rose};
 ghost use Rattle.prover_io.specs.declared.whole.ReadFault.{ReadFault};
 ghost use Rattle.prover_job.specs.Runs.{AnswersTask, AnswersWithProof, AreBegun, BrokeAt, IsJobFile, IsWithin, most_moved};
@@ -66,6 +67,13 @@ pub(crate) fn job_output<S: Source>(
         } => solve_output(alloc, source, file.as_str(), *budget, *asked),
         Job::Check { file, proof } => check_output(alloc, source, file.as_str(), proof.as_str()),
         Job::Elim { file, budget } => elim_output(alloc, source, file.as_str(), *budget),
+        Job::Least { file, term, budget } => least_output(
+            alloc,
+            source,
+            file.as_str(),
+            term.as_str(),
+            *budget,
+        ),
         Job::Drill { count, budget } => Ok(drill_job::answer(alloc, *count, *budget)?),
     }
 }
@@ -111,6 +119,29 @@ fn elim_output<S: Source>(
 {
     match read_all(alloc, source, file, FILE) {
         Ok(bytes) => Ok(elim_job::answer(alloc, bytes.as_slice(), budget)?),
+        Err(fault) => unread(alloc, fault),
+    }
+}
+
+// What `least` answers to a file and a term.
+fn least_output<S: Source>(
+    alloc: Global,
+    source: &mut S,
+    file: &str,
+    term: &str,
+    budget: u64,
+) -> Result<Output, Stop>
+    requires { budget < 2 ^ 32 }
+    ensures answered { IfOk result (λ output. AnswersSource most_of_file (IsLeastAnswer term.now budget) (S.bytes_of source.old file.now) (answer_of output)) }
+    ensures rose { IsErrOf result Stop.Source → Rose (S.faults source.old) (S.faults source.new) }
+    ensures broke { IsErrOf result Stop.Source → Broke (Some file.now) (S.at source.new) (S.broken source.new) }
+    ensures begun { ¬ (IsErrOf result Stop.Memory) → S.at source.new ≡ Some file.now }
+    ensures listed { OnOk result (S.names source.new ≡ S.names source.old ++ file.now ∷ []) }
+    ensures front { BeginsFront (file.now ∷ []) (S.names source.old) (S.names source.new) }
+    ensures moved { GrowsAtMost (S.moved source.old) (S.moved source.new) (most_of_file + 1) }
+{
+    match read_all(alloc, source, file, FILE) {
+        Ok(bytes) => Ok(least_job::answer(alloc, bytes.as_slice(), term.as_bytes(), budget)?),
         Err(fault) => unread(alloc, fault),
     }
 }

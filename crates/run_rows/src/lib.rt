@@ -10,6 +10,8 @@ mod faults;
 #[cfg(test)]
 mod interpolants;
 #[cfg(test)]
+mod least;
+#[cfg(test)]
 mod limits;
 #[cfg(test)]
 mod proofs;

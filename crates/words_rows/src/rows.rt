@@ -21,6 +21,9 @@ fn named(alloc: Global, words: &[&str]) -> Result<String, Fail> {
             },
         ) => Ok(format!(in alloc; "solve {file} {budget} {}", form(asked))?),
         Ok(Job::Elim { file, budget }) => Ok(format!(in alloc; "elim {file} {budget}")?),
+        Ok(Job::Least { file, term, budget }) => Ok(format!(in alloc;
+            "least {file} {term} {budget}"
+        )?),
         Ok(Job::Drill { count, budget }) => Ok(format!(in alloc; "drill {count} {budget}")?),
         Ok(Job::Check { file, proof }) => Ok(format!(in alloc; "check {file} {proof}")?),
         Err(WordsFault::Words) => Ok(String::from_str(alloc, "no job")?),
@@ -47,7 +50,7 @@ fn check(rt: &impl Abort, alloc: Global, rows: &[(&[&str], &str)]) -> Result<(),
 
 #[test]
 fn words_name_jobs(rt: HostRuntime) -> Result<(), Fail> {
-    let rows: [(&[&str], &str); 27] = [
+    let rows: [(&[&str], &str); 32] = [
         (&["solve", "f"], "solve f 50000000 plain"),
         (&["elim", "f"], "elim f 50000000"),
         (&["solve", "f", "--budget", "1"], "solve f 1 plain"),
@@ -78,6 +81,11 @@ fn words_name_jobs(rt: HostRuntime) -> Result<(), Fail> {
         (&["solve", "--short", "f"], "solve f 50000000 short"),
         (&["solve", "f", "--short", "--budget=5"], "solve f 5 short"),
         (&["solve", "--", "--short"], "solve --short 50000000 plain"),
+        (&["least", "f", "a + 2*b"], "least f a + 2*b 50000000"),
+        (&["least", "f", "--", "-a"], "least f -a 50000000"),
+        (&["least", "--", "f", "-a"], "least f -a 50000000"),
+        (&["least", "f", "--budget=9", "a"], "least f a 9"),
+        (&["least", "--budget", "9", "f", ""], "least f  9"),
         (&["check", "f", "g"], "check f g"),
         (&["check", "--", "g", "-f"], "check g -f"),
         (&["check", "-", "-"], "check - -"),
@@ -90,7 +98,7 @@ fn words_name_jobs(rt: HostRuntime) -> Result<(), Fail> {
 
 #[test]
 fn words_name_none(rt: HostRuntime) -> Result<(), Fail> {
-    let rows: [&[&str]; 55] = [
+    let rows: [&[&str]; 61] = [
         &[],
         &["f"],
         &["f", "solve"],
@@ -141,6 +149,12 @@ fn words_name_none(rt: HostRuntime) -> Result<(), Fail> {
         &["solve", "f", "--short=true"],
         &["elim", "f", "--proof"],
         &["elim", "f", "--short"],
+        &["least", "f"],
+        &["least", "f", "-a"],
+        &["least", "f", "a", "b"],
+        &["least", "f", "a", "--budget", "0"],
+        &["least", "f", "a", "--budget=1", "--budget=1"],
+        &["least", "f", "a", "--proof"],
         &["check", "f"],
         &["check", "f", "g", "h"],
         &["check", "f", "g", "--budget", "1"],

@@ -1,6 +1,6 @@
 -- What is answered of the job that was read is answered of each job that the words name.
-use Rattle.job_words.specs.Jobs.{check, drill, eliminate, solve, task_of}
-use Rattle.prover_job.proofs.Telling.{named_within, met_as, says_checked, says_valid, says_refuted, says_constraint, solve_caused, elim_caused, check_caused, drill_caused}
+use Rattle.job_words.specs.Jobs.{check, drill, eliminate, minimise, solve, task_of}
+use Rattle.prover_job.proofs.Telling.{named_within, met_as, says_checked, says_valid, says_refuted, says_constraint, says_least, says_nowhere, solve_caused, elim_caused, least_caused, check_caused, drill_caused}
 use Rattle.prover_job.proofs.runs.run.Goals as goal
 
 pub do_job-requires : goal.do_job-requires
@@ -22,6 +22,14 @@ pub returns-in-Ok-clause-constraint : goal.returns-in-Ok-clause-constraint
 returns-in-Ok-clause-constraint g c = λ file budget names zero. says_constraint _ budget (g.S.Source.bytes_of c.args.source.now file) _ _ _
     (met_as (g.S.Source.bytes_of c.args.source.now) _ (task_of c.in-Ok.job) (eliminate file budget) _ _ _ c.words_law.ensures c.in-Ok.ensures.named names c.do_job.ensures.answered) zero
 
+pub returns-in-Ok-clause-minimised : goal.returns-in-Ok-clause-minimised
+returns-in-Ok-clause-minimised g c = λ file term budget names zero. says_least _ term budget (g.S.Source.bytes_of c.args.source.now file) _ _ _
+    (met_as (g.S.Source.bytes_of c.args.source.now) _ (task_of c.in-Ok.job) (minimise file term budget) _ _ _ c.words_law.ensures c.in-Ok.ensures.named names c.do_job.ensures.answered) zero
+
+pub returns-in-Ok-clause-nowhere : goal.returns-in-Ok-clause-nowhere
+returns-in-Ok-clause-nowhere g c = λ file term budget names one. says_nowhere _ term budget (g.S.Source.bytes_of c.args.source.now file) _ _ _
+    (met_as (g.S.Source.bytes_of c.args.source.now) _ (task_of c.in-Ok.job) (minimise file term budget) _ _ _ c.words_law.ensures c.in-Ok.ensures.named names c.do_job.ensures.answered) one
+
 pub returns-in-Ok-clause-solve_causes : goal.returns-in-Ok-clause-solve_causes
 returns-in-Ok-clause-solve_causes g c = λ file budget asked names. solve_caused asked budget (g.S.Source.bytes_of c.args.source.now file) _ _ _
     (met_as (g.S.Source.bytes_of c.args.source.now) _ (task_of c.in-Ok.job) (solve file budget asked) _ _ _ c.words_law.ensures c.in-Ok.ensures.named names c.do_job.ensures.answered)
@@ -29,6 +37,10 @@ returns-in-Ok-clause-solve_causes g c = λ file budget asked names. solve_caused
 pub returns-in-Ok-clause-elim_causes : goal.returns-in-Ok-clause-elim_causes
 returns-in-Ok-clause-elim_causes g c = λ file budget names. elim_caused budget (g.S.Source.bytes_of c.args.source.now file) _ _ _
     (met_as (g.S.Source.bytes_of c.args.source.now) _ (task_of c.in-Ok.job) (eliminate file budget) _ _ _ c.words_law.ensures c.in-Ok.ensures.named names c.do_job.ensures.answered)
+
+pub returns-in-Ok-clause-least_causes : goal.returns-in-Ok-clause-least_causes
+returns-in-Ok-clause-least_causes g c = λ file term budget names. least_caused _ term budget (g.S.Source.bytes_of c.args.source.now file) _ _ _
+    (met_as (g.S.Source.bytes_of c.args.source.now) _ (task_of c.in-Ok.job) (minimise file term budget) _ _ _ c.words_law.ensures c.in-Ok.ensures.named names c.do_job.ensures.answered)
 
 pub returns-in-Ok-clause-check_causes : goal.returns-in-Ok-clause-check_causes
 returns-in-Ok-clause-check_causes g c = λ file proof names. check_caused (g.S.Source.bytes_of c.args.source.now proof) (g.S.Source.bytes_of c.args.source.now file) _ _ _

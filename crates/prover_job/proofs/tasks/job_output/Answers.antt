@@ -1,5 +1,5 @@
 use Rattle.std.proofs.Common.{◌≡◌, rules}
-use Rattle.job_words.specs.Jobs.{check, drill, eliminate, solve, task_of}
+use Rattle.job_words.specs.Jobs.{check, drill, eliminate, minimise, solve, task_of}
 use Rattle.prover_job.proofs.tasks.job_output.Goals as goal
 
 pub returns-in-Solve-clause-answered : goal.returns-in-Solve-clause-answered
@@ -7,6 +7,10 @@ returns-in-Solve-clause-answered g c = let is : task_of c.args.job.now ≡ solve
 
 pub returns-in-Elim-clause-answered : goal.returns-in-Elim-clause-answered
 returns-in-Elim-clause-answered g c = let is : task_of c.args.job.now ≡ eliminate c.as_str-in-Elim.result.now c.in-Elim.budget = search rules in rw is c.elim_output.ensures.answered
+
+pub returns-in-Least-clause-answered : goal.returns-in-Least-clause-answered
+returns-in-Least-clause-answered g c =
+    let is : task_of c.args.job.now ≡ minimise c.as_str-in-Least.result.now c.as_str-in-Least-2.result.now c.in-Least.budget = search rules in rw is c.least_output.ensures.answered
 
 pub returns-in_ok-answer-in-Drill-clause-answered : goal.returns-in_ok-answer-in-Drill-clause-answered
 returns-in_ok-answer-in-Drill-clause-answered g c = let is : task_of c.args.job.now ≡ drill c.in-Drill.count c.in-Drill.budget = search rules in rw is c.in_ok-answer-in-Drill.ensures
