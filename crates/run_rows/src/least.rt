@@ -21,7 +21,7 @@ fn a_least_value_is_told_with_the_best_values(rt: HostRuntime) -> Result<(), Fai
         (PAIR, "a + 2*b", "least: 8\nat: a = 2, b = 3\n"),
         (PAIR, "a+b", "least: 5\nat: a = 0, b = 5\n"),
         (PAIR, "a", "unbounded\n"),
-        (PAIR, "-7", "least: -7\nat: a = 0, b = 5\n"),
+        (PAIR, "7", "least: 7\nat: a = 0, b = 5\n"),
         (MIX, "7*a + 5*b", "least: 60\nat: a = 5, b = 5\n"),
         (BUFFER, "size", "least: 28\nat: size = 28\n"),
         ("\\problem { true }", "2 * 3", "least: 6\n"),
@@ -40,6 +40,7 @@ fn a_least_value_is_told_with_the_best_values(rt: HostRuntime) -> Result<(), Fai
 fn a_term_may_begin_with_a_minus(rt: HostRuntime) -> Result<(), Fail> {
     for (file, term, answer) in [
         (PAIR, "-a", (0, "least: -2\nat: a = 2, b = 3\n")),
+        (PAIR, "-7", (0, "least: -7\nat: a = 0, b = 5\n")),
         (START, "-s", (0, "least: -30\nat: s = 30\n")),
     ] {
         answers_to(&rt, rt.alloc(), &["least", "f", "--", term], file, answer)?;
