@@ -1,7 +1,9 @@
-// An existential constant is chosen before the functions are, so no number is f(0) whatever f is. The prover has nothing left to try
-// and says so, not INVALID, since that is said of problems without predicates and functions alone.
+// An existential constant is chosen before the functions are, so no number is f(0) whatever f is.
 // $ ./princess solve examples/function_value.pri
-// UNKNOWN: saturated
+// INVALID
+// counterexample:
+// a = 0
+// f(0) = 1
 \existentialConstants { int a; }
 \functions { int f(int); }
 \problem { a = f(0) }

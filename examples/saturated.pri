@@ -1,5 +1,7 @@
-// A predicate that holds at 1 does not have to hold at 2: nothing is left to try, so no larger budget would help.
+// A predicate that holds at 1 does not have to hold at 2.
 // $ ./princess solve examples/saturated.pri
-// UNKNOWN: saturated
+// INVALID
+// counterexample:
+// p(1)
 \predicates { p(int); }
 \problem { p(1) -> p(2) }

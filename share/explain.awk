@@ -57,7 +57,7 @@ function budget(    text, from) {
 function tell_unknown(    cause, keys) {
     cause = substr(answer, index(answer, "UNKNOWN: ") + 9); sub(/\n.*/, "", cause)
     A = budget()
-    keys["steps"] = "steps"; keys["overflow"] = "number"; keys["branch"] = "length"; keys["saturated"] = "nothing-left"
+    keys["steps"] = "steps"; keys["overflow"] = "number"; keys["branch"] = "length"
     print (FILE == "" || command == "drill" ? "princess" : FILE) ": note: UNKNOWN: " cause ": " sentence(cause, keys[cause])
 }
 

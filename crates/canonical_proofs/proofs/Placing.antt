@@ -17,8 +17,8 @@ use Rattle.solution_rules.specs.Solutions.{IsGiven, answered, chosen, names_from
 use Rattle.solution_rules.proofs.Solving.{solving-best, with_value-spans, with_value-truth}
 use Rattle.solution_rules.proofs.Spans.{IsFrom, IsIn, Spans, given-spans}
 use Rattle.proof_tree.specs.Proves.{values_put}
-use Rattle.printed_proofs.proofs.Ended.{stay_parts}
-use Rattle.printed_proofs.proofs.Entries.{one_longer, put_at}
+use Rattle.solution_range.proofs.Parts.{stay_parts}
+use Rattle.solution_range.proofs.Entries.{one_longer, put_at}
 use Rattle.canonical_proofs.proofs.Sorting.{AreSorted}
 use Rattle.canonical_proofs.proofs.Staying.{stay_both}
 

@@ -37,8 +37,9 @@ use Rattle.search.proofs.Charges.{built_rule, by_both, root_rule}
 use Rattle.search.proofs.Given.{built-given}
 use Rattle.search.proofs.Pures.{pure_pick}
 use Rattle.search.proofs.Retracing.{retraced}
-use Rattle.printed_proofs.proofs.Ended.{invalid_round, stay_parts, valid_round}
-use Rattle.printed_proofs.proofs.Values.{solution_in}
+use Rattle.solution_range.proofs.Parts.{stay_parts}
+use Rattle.printed_proofs.proofs.Ended.{invalid_round, valid_round}
+use Rattle.solution_range.proofs.Values.{solution_in}
 use Rattle.canonical_proofs.proofs.Placing.{IsSolution, solution_put}
 use Rattle.canonical_proofs.proofs.Sorting.{built_sorted}
 use Rattle.canonical_proofs.proofs.Staying.{stay_both, walk_stays}

@@ -15,7 +15,7 @@ use Rattle.proof_tree.proofs.Walking.{gives_walked}
 use Rattle.purse.specs.Trace.{Traced}
 use Rattle.search.specs.Building.{built}
 use Rattle.search.proofs.Retracing.{retraced}
-use Rattle.printed_proofs.proofs.Ended.{both_true}
+use Rattle.solution_range.proofs.Parts.{both_true}
 
 pub stay_both : (xs ys : List Event) → raw_stay xs ≡ true → raw_stay ys ≡ true → raw_stay (xs ++ ys) ≡ true
 stay_both [] ys h k = k

@@ -5,3 +5,4 @@ pub mod Names
 pub mod Ranges
 pub mod Quotient
 pub mod Printed
+pub mod Counterexample

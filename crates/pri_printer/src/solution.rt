@@ -11,7 +11,7 @@ use sqlite_items::Items;
 use std::alloc::Global;
 
 /// Puts `x = 1` behind a text.
-fn put_value(alloc: Global, name: &[u8], value: &i128, out: &mut Vec<u8>) -> Result<(), Memory>
+pub fn put_value(alloc: Global, name: &[u8], value: &i128, out: &mut Vec<u8>) -> Result<(), Memory>
     ensures { OnOk result (out.new.items ≡ out.old.items ++ value_text name.now value.now) }
 {
     out.extend_from_slice(name)?;

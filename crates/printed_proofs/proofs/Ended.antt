@@ -9,6 +9,7 @@ use Rattle.formula.specs.Form.{Form, is_pure}
 use Rattle.elim_rules.specs.Logs.{entries_of}
 use Rattle.elim_rules.specs.Whole.{names_out}
 use Rattle.solution_rules.specs.Solutions.{solving}
+use Rattle.solution_range.proofs.Parts.{both_true, stay_parts}
 use Rattle.node_steps.specs.Within.{branch_limit}
 use Rattle.proof_tree.specs.Proof.{Proof, given}
 use Rattle.proof_tree.specs.Proves.{start}
@@ -19,19 +20,6 @@ use Rattle.search.proofs.Endings.{total-append}
 use Rattle.search.proofs.Totals.{total-next, total-in_new_log}
 
 -- ---- parts of events
-pub both_true : (a b : Bool) → (a && b) ≡ true → (a ≡ true) × (b ≡ true)
-both_true true b h = (refl, h)
-both_true false b h = absurd (cc)
-
-pub stay_parts : (xs ys : List Event) → raw_stay (xs ++ ys) ≡ true → (raw_stay xs ≡ true) × (raw_stay ys ≡ true)
-stay_parts [] ys h = (refl, h)
-stay_parts (charge n ∷ xs) ys h = stay_parts xs ys h
-stay_parts (mark m ∷ xs) ys h = stay_parts xs ys h
-stay_parts (raw ps ∷ xs) ys h =
-    let b = both_true (all_stay ps) (raw_stay (xs ++ ys)) h in
-    let r = stay_parts xs ys b.1 in
-    (ap (λ z. z && raw_stay xs) b.0 ∙ r.0, r.1)
-
 -- the first events of others: they charge no more, and where all raw numbers stay in the range, theirs do
 pub record IsPart (es all : List Event) : Type 0 where
   pub charges : total es ≤ total all

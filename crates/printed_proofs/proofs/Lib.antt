@@ -3,7 +3,4 @@ pub mod Trees
 pub mod Shapes
 pub mod Built
 pub mod Ended
-pub mod Entries
-pub mod Puts
-pub mod Values
 pub mod Printed

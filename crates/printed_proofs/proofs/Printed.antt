@@ -26,7 +26,7 @@ use Rattle.proof_writing.specs.Typed.{IsTypedProof}
 use Rattle.printed_proofs.specs.Bounds.{IsSearched}
 use Rattle.printed_proofs.proofs.Built.{tree_shaped}
 use Rattle.printed_proofs.proofs.Ended.{valid_round, invalid_round}
-use Rattle.printed_proofs.proofs.Values.{solution_in}
+use Rattle.solution_range.proofs.Values.{solution_in}
 
 pub valid_shaped : (f : Form) (n : ℕ) (g : Funds) (vs : List ℤ) (x : Proof) (b : At) → IsSearched f n → g.budget - g.spent ≤ 1000000000
     → ending (canonical_run f n g.budget) (at g []) ≡ ends_with (valid vs x) b → IsTypedProof x → IsShaped (total (proof_walk f n x (Solution vs)).events) x (Solution vs)

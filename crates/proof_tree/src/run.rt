@@ -23,8 +23,6 @@ pub enum Why {
     Overflow(Place),
     /// A branch would have got a node on the 2,001st level.
     Branch,
-    /// No rule was left that a further round could use more often.
-    Saturated,
 }
 
 /// Where a search stood: its round, the nodes entered in that round, the entries of the elimination in progress, and all

@@ -1,7 +1,9 @@
 -- The whole output of `solve --proof` and of `solve --short` is accepted as a proof's file.
 use Rattle.std.proofs.Common.{ℕ, ℤ, ◌≡◌, ◌≢◌, ◌∙◌, ◌⊎◌, inl, inr, Some, List, [], ◌∷◌, ◌++◌, refl, sym, ap, subst, codes}
 use Rattle.std.specs.List.{concat}
-use Rattle.purse.specs.Trace.{Funds}
+use Rattle.purse.specs.declared.log.Entry.{Entry}
+use Rattle.purse.specs.Trace.{At, Funds}
+use Rattle.proof_tree.specs.Proof.{Proof}
 use Rattle.proof_tree.specs.declared.run.Verdict.{Verdict}
 use Rattle.proof_tree.specs.declared.run.Verdict.TheVariants.{Valid, Invalid}
 use Rattle.proof_lines.specs.Body.{body}
@@ -15,15 +17,17 @@ use Rattle.constraint_text.specs.Constraint.{IsTextOf}
 use Rattle.constraint_lines.specs.Lines.{solution_line, valued_lines}
 use Rattle.pri_printer.specs.Printed.{solution_text}
 use Rattle.interpolant_lines.specs.Blocks.{AreBlockLines, IsBlockLine, found, steps, overflow}
-use Rattle.problem_file.specs.Answers.{Poses, refused, unsupported, posed}
+use Rattle.problem_file.specs.Answers.{Poses, PosesOne, refused, unsupported, posed}
 use Rattle.problem_file.specs.Encoded.{large, leaves, runs}
 use Rattle.problem_file.proofs.Bytes.{reads_identifiers}
 use Rattle.search.specs.Run as run
-use Rattle.search.specs.Run.{Ending}
-use Rattle.solve_job.specs.Proved.{IsParted, IsSolvedAs, PrintsProofOf}
+use Rattle.search.specs.Run.{ends_with}
+use Rattle.solve_job.specs.Explained.{AnswersSaturated}
+use Rattle.solve_job.specs.Proved.{IsImpure, IsParted, IsSolvedAs, PrintsProofOf, ProvesInvalid}
 use Rattle.answers.specs.declared.form.ProofForm.{ProofForm}
 use Rattle.solve_job.specs.Solved.{AnswersEnd, IsSolved, closed, valid, invalid, saturated, branch, steps as cut_by_steps, overflow as out_of_range, run_end}
-use Rattle.solve_job.proofs.Printing.{parted}
+use Rattle.solve_job.proofs.Printing.{impure_is, parted}
+use Rattle.solve_job.proofs.Saturated.{one_or_two}
 use Rattle.check_job.specs.Checked.{IsChecked}
 use Rattle.check_job.proofs.Exactly.{decided}
 use Rattle.prover_job.proofs.Lines.{AreInner, IsOfLines, IsPassed, inner_append, inner_word, no_lines, one_alone, one_more, part_after}
@@ -65,30 +69,45 @@ block_lines p [] old (text ∷ lines) h are = absurd are
 block_lines p (b ∷ bs) old [] h are = absurd are
 block_lines p (b ∷ bs) old (text ∷ lines) h are = block_line p b old text (concat lines) h are.0 (block_lines p bs _ lines h are.1)
 
-neither : (a : Answer) (s : ℕ) → a.status ≡ s → s ≢ 0 → s ≢ 1 → (a.status ≡ 0) ⊎ (a.status ≡ 1) → ⊥
-neither a s e zero one (inl h) = zero (sym e ∙ h)
-neither a s e zero one (inr h) = one (sym e ∙ h)
+-- the answer has a proof behind it: the problem is valid, or it is invalid and has neither predicates nor functions
+abbrev pub HasProof : List ℕ → Answer → Type 0
+HasProof bytes a = (a.status ≡ 0) ⊎ ((a.status ≡ 1) × ¬ (PosesOne bytes IsImpure))
 
-end_lines : (p : Problem) (end : Ending run.Answer) (a : Answer) → HasIdentifiers p → AnswersEnd p end a → (a.status ≡ 0) ⊎ (a.status ≡ 1) → IsOfLines a.text
-end_lines p end a h (closed vs x stands lines is none told e) good =
+neither : (bytes : List ℕ) (a : Answer) (s : ℕ) → a.status ≡ s → s ≢ 0 → s ≢ 1 → HasProof bytes a → ⊥
+neither bytes a s e zero one (inl h) = zero (sym e ∙ h)
+neither bytes a s e zero one (inr h) = one (sym e ∙ h.0)
+
+-- that of a saturated run has none
+no_proof : (budget : ℕ) (bytes : List ℕ) (p : Problem) (log : List Entry) (x : Proof) (stands : At) (a : Answer) → Poses bytes p → run_end budget p ≡ ends_with (run.saturated log x) stands → AnswersSaturated p x stands.funds a → HasProof bytes a → ⊥
+no_proof budget bytes p log x stands a poses is told (inl z) = not_valid (one_or_two p x stands.funds a told) z
+  where
+    not_valid : {n : ℕ} → (n ≡ 1) ⊎ (n ≡ 2) → n ≡ 0 → ⊥
+    not_valid (inl h) z = cc
+    not_valid (inr h) z = cc
+no_proof budget bytes p log x stands a poses is told (inr h) = h.1 (p, poses, impure_is budget bytes p log x stands poses is)
+
+end_lines : (budget : ℕ) (bytes : List ℕ) (p : Problem) (a : Answer) → Poses bytes p → AnswersEnd p (run_end budget p) a → HasProof bytes a → IsOfLines a.text
+end_lines budget bytes p a poses (closed vs x stands lines is none told e) good =
     subst IsOfLines (sym (ap text_of e))
-    (one_more (codes "VALID") lines (record { inner = inner_word (codes "VALID") refl; other = refl }) (subst IsOfLines (sym told.whole) (block_lines p p.cuts stands.funds told.lines h told.are)))
-end_lines p end a h (valid vs x stands text is some printed e) good =
+    (one_more (codes "VALID") lines (record { inner = inner_word (codes "VALID") refl; other = refl })
+    (subst IsOfLines (sym told.whole) (block_lines p p.cuts stands.funds told.lines (reads_identifiers bytes p poses.reads) told.are)))
+end_lines budget bytes p a poses (valid vs x stands text is some printed e) good =
+    let h = reads_identifiers bytes p poses.reads in
     subst IsOfLines (sym (ap text_of e))
     (one_more (codes "VALID") (valued_lines p text vs) (record { inner = inner_word (codes "VALID") refl; other = refl })
     (one_more (codes "constraint: " ++ text) (solution_line p vs) (constraint_passed p text _ h printed) (one_alone (codes "solution: " ++ solution_text p vs) (solution_passed p vs h))))
-end_lines p end a h (invalid log x stands is e) good = subst IsOfLines (sym (ap text_of e)) (one_alone (codes "INVALID") (record { inner = inner_word (codes "INVALID") refl; other = refl }))
-end_lines p end a h (saturated log x stands is e) good = absurd (neither a 2 (ap status_of e) (λ z. cc) (λ z. cc) good)
-end_lines p end a h (branch stands is e) good = absurd (neither a 2 (ap status_of e) (λ z. cc) (λ z. cc) good)
-end_lines p end a h (cut_by_steps stands is e) good = absurd (neither a 2 (ap status_of e) (λ z. cc) (λ z. cc) good)
-end_lines p end a h (out_of_range numbers stands is e) good = absurd (neither a 2 (ap status_of e) (λ z. cc) (λ z. cc) good)
+end_lines budget bytes p a poses (invalid log x stands is e) good = subst IsOfLines (sym (ap text_of e)) (one_alone (codes "INVALID") (record { inner = inner_word (codes "INVALID") refl; other = refl }))
+end_lines budget bytes p a poses (saturated log x stands is told) good = absurd (no_proof budget bytes p log x stands a poses is told good)
+end_lines budget bytes p a poses (branch stands is e) good = absurd (neither bytes a 2 (ap status_of e) (λ z. cc) (λ z. cc) good)
+end_lines budget bytes p a poses (cut_by_steps stands is e) good = absurd (neither bytes a 2 (ap status_of e) (λ z. cc) (λ z. cc) good)
+end_lines budget bytes p a poses (out_of_range numbers stands is e) good = absurd (neither bytes a 2 (ap status_of e) (λ z. cc) (λ z. cc) good)
 
-solved_lines : (budget : ℕ) (bytes : List ℕ) (a : Answer) → IsSolved budget bytes a → (a.status ≡ 0) ⊎ (a.status ≡ 1) → IsOfLines a.text
-solved_lines budget bytes a (refused r h e) good = absurd (neither a 3 (ap status_of e) (λ z. cc) (λ z. cc) good)
-solved_lines budget bytes a (unsupported at h e) good = absurd (neither a 3 (ap status_of e) (λ z. cc) (λ z. cc) good)
-solved_lines budget bytes a (posed p h (large l e)) good = absurd (neither a 3 (ap status_of e) (λ z. cc) (λ z. cc) good)
-solved_lines budget bytes a (posed p h (leaves l e)) good = absurd (neither a 2 (ap status_of e) (λ z. cc) (λ z. cc) good)
-solved_lines budget bytes a (posed p h (runs f k)) good = end_lines p (run_end budget p) a (reads_identifiers bytes p h.reads) k good
+solved_lines : (budget : ℕ) (bytes : List ℕ) (a : Answer) → IsSolved budget bytes a → HasProof bytes a → IsOfLines a.text
+solved_lines budget bytes a (refused r h e) good = absurd (neither bytes a 3 (ap status_of e) (λ z. cc) (λ z. cc) good)
+solved_lines budget bytes a (unsupported at h e) good = absurd (neither bytes a 3 (ap status_of e) (λ z. cc) (λ z. cc) good)
+solved_lines budget bytes a (posed p h (large l e)) good = absurd (neither bytes a 3 (ap status_of e) (λ z. cc) (λ z. cc) good)
+solved_lines budget bytes a (posed p h (leaves l e)) good = absurd (neither bytes a 2 (ap status_of e) (λ z. cc) (λ z. cc) good)
+solved_lines budget bytes a (posed p h (runs f k)) good = end_lines budget bytes p a h k good
 
 -- ---- the proof behind them
 
@@ -106,19 +125,23 @@ whole_accepted form bytes text part v lines h b is =
       proves = h.proves;
     })
 
-accepted_by : (form : ProofForm) (budget : ℕ) (bytes : List ℕ) (a b : Answer) → IsParted (Some form) budget bytes a → IsChecked a.text bytes b → (a.status ≡ 0) ⊎ (a.status ≡ 1) → b.status ≡ 0
+its_proof : (form : ProofForm) (bytes part : List ℕ) → ProvesInvalid form bytes part → ¬ (PosesOne bytes IsImpure) → PrintsProofOf form bytes Invalid part
+its_proof form bytes part (inl h) pure = h
+its_proof form bytes part (inr h) pure = absurd (pure h.1)
+
+accepted_by : (form : ProofForm) (budget : ℕ) (bytes : List ℕ) (a b : Answer) → IsParted (Some form) budget bytes a → IsChecked a.text bytes b → HasProof bytes a → b.status ≡ 0
 accepted_by form budget bytes a b q is good = by good
   where
     checked : IsChecked ((q.plain).text ++ q.part) bytes b
     checked = subst (λ t. IsChecked t bytes b) (ap text_of q.whole) is
 
-    by : (a.status ≡ 0) ⊎ (a.status ≡ 1) → b.status ≡ 0
+    by : HasProof bytes a → b.status ≡ 0
     by (inl z) =
         let zero : (q.plain).status ≡ 0 = sym (ap status_of q.whole) ∙ z in
         let v = q.valid form refl zero in whole_accepted form bytes (q.plain).text q.part (Valid v.values) (solved_lines budget bytes q.plain q.solved (inl zero)) v.prints b checked
-    by (inr z) =
-        let one : (q.plain).status ≡ 1 = sym (ap status_of q.whole) ∙ z in
-        whole_accepted form bytes (q.plain).text q.part Invalid (solved_lines budget bytes q.plain q.solved (inr one)) (q.invalid form refl one) b checked
+    by (inr h) =
+        let one : (q.plain).status ≡ 1 = sym (ap status_of q.whole) ∙ h.0 in
+        whole_accepted form bytes (q.plain).text q.part Invalid (solved_lines budget bytes q.plain q.solved (inr (one, h.1))) (its_proof form bytes q.part (q.invalid form refl one) h.1) b checked
 
-pub output_accepted : (form : ProofForm) (budget : ℕ) (bytes : List ℕ) (a b : Answer) → IsSolvedAs (Some form) budget bytes a → (a.status ≡ 0) ⊎ (a.status ≡ 1) → IsChecked a.text bytes b → b.status ≡ 0
+pub output_accepted : (form : ProofForm) (budget : ℕ) (bytes : List ℕ) (a b : Answer) → IsSolvedAs (Some form) budget bytes a → HasProof bytes a → IsChecked a.text bytes b → b.status ≡ 0
 output_accepted form budget bytes a b solved good is = accepted_by form budget bytes a b (parted (Some form) budget bytes a solved) is good

@@ -12,9 +12,8 @@ use Rattle.answers.specs.Files.{AnswersBytes, AnswersSource, most_of_file, most_
 use Rattle.answers.proofs.Meeting.{long_answered, meets_more, whole_answered}
 use Rattle.job_words.specs.Jobs.{Task, solve, eliminate, minimise, check, drill, IsBudget, NamesJob}
 use Rattle.problem_gen.specs.Drills.{drill_text}
-use Rattle.solve_job.specs.Proved.{IsSolvedAs, PrintsProofOf, ProvesValid}
+use Rattle.solve_job.specs.Proved.{IsSolvedAs, PrintsProofOf, ProvesInvalid, ProvesValid}
 use Rattle.answers.specs.declared.form.ProofForm.{ProofForm}
-use Rattle.proof_tree.specs.declared.run.Verdict.TheVariants as verdict
 use Rattle.solve_job.specs.Solved.{IsSolved}
 use Rattle.solve_job.proofs.Printing.{parted}
 use Rattle.constraint_lines.proofs.Losing.{no_table}
@@ -115,7 +114,7 @@ record Means (w : Meaning) (asked : Option ProofForm) (bytes : List ℕ) (a : An
   none : asked ≡ None → part ≡ []
   headline : Headline w bytes (record { status = a.status; text = text })
   valid : (form : ProofForm) → asked ≡ Some form → a.status ≡ 0 → ProvesValid form bytes text part
-  invalid : (form : ProofForm) → asked ≡ Some form → a.status ≡ 1 → PrintsProofOf form bytes verdict.Invalid part
+  invalid : (form : ProofForm) → asked ≡ Some form → a.status ≡ 1 → ProvesInvalid form bytes part
 
 bytes_headline : (w : Meaning) (asked : Option ProofForm) (budget : ℕ) (bytes : List ℕ) (a : Answer) → AnswersBytes most_of_file (IsSolvedAs asked budget) bytes a → Means w asked bytes a
 bytes_headline w asked budget bytes a (too_long l e) = record {

@@ -8,8 +8,7 @@ use Rattle.answers.specs.Answer.{Answer}
 use Rattle.answers.specs.Files.{AnswersSource, most_of_file, most_of_proof}
 use Rattle.answers.specs.Outside.{PutsAll}
 use Rattle.job_words.specs.Jobs.{Task, solve, eliminate, minimise, check, drill, files_of, NamesJob}
-use Rattle.proof_tree.specs.declared.run.Verdict.TheVariants as verdict
-use Rattle.solve_job.specs.Proved.{IsSolvedAs, PrintsProofOf, ProvesValid, extended}
+use Rattle.solve_job.specs.Proved.{IsSolvedAs, ProvesInvalid, ProvesValid, extended}
 use Rattle.answers.specs.declared.form.ProofForm.{ProofForm}
 use Rattle.check_job.specs.Checked.{IsChecked}
 use Rattle.check_job.specs.Meaning.{Confirms}
@@ -102,17 +101,17 @@ pub record SaysChecked (w : Meaning) (told before after : Option (List ℕ)) : T
   pub put : PutsAll before after text
   pub confirms : Confirms w bytes text
 
--- the bytes of a file, where they are told, read as a problem that is refuted; behind the text put comes nothing, or the part with a
--- proof of that, in the form that is asked for
+-- the bytes of a file, where they are told, read as a problem that is refuted; the text put shows a counterexample where the problem
+-- has predicates or functions, and behind it comes nothing, or the part with a proof, in the form that is asked for
 pub record SaysRefuted (asked : Option ProofForm) (told before after : Option (List ℕ)) : Type 0 where
   pub bytes : List ℕ
   pub whole : IsWhole told bytes
   pub text : List ℕ
   pub part : List ℕ
   pub put : PutsAll before after (text ++ part)
-  pub refuted : Refutes bytes
+  pub refuted : Refutes bytes text
   pub none : asked ≡ None → part ≡ []
-  pub proved : (form : ProofForm) → asked ≡ Some form → PrintsProofOf form bytes verdict.Invalid part
+  pub proved : (form : ProofForm) → asked ≡ Some form → ProvesInvalid form bytes part
 
 -- the bytes of a file, where they are told, read as a problem, and the text put is a constraint that is true exactly where it holds
 pub record SaysConstraint (w : Meaning) (told before after : Option (List ℕ)) : Type 0 where

@@ -3,7 +3,8 @@
 ghost use Rattle.answers.specs.Answer.{Answer};
 ghost use Rattle.check_job.specs.Checked.{IsChecked};
 ghost use Rattle.proof_tree.specs.declared.run.Verdict.{Verdict};
-ghost use Rattle.solve_job.specs.Proved.{IsSolvedAs, PrintsProofOf};
+ghost use Rattle.problem_file.specs.Answers.{PosesOne};
+ghost use Rattle.solve_job.specs.Proved.{IsImpure, IsSolvedAs, PrintsProofOf};
 ghost use Rattle.answers.specs.declared.form.ProofForm.{ProofForm};
 ghost use Rattle.std.specs.Prelude.{◌≡◌, ◌⊎◌, List, Some, ℕ};
 
@@ -13,8 +14,8 @@ pub fn printed_law()
     ensures { (form : ProofForm) (bytes : List ℕ) (v : Verdict) (part : List ℕ) (h : PrintsProofOf form bytes v part) (a : Answer) → IsChecked (h.prints).text bytes a → a.status ≡ 0 }
 {}
 
-/// So is the whole output of `solve --proof` and of `solve --short` as a proof's file, at each answer that the problem is valid or
-/// invalid.
+/// So is the whole output of `solve --proof` and of `solve --short` as a proof's file, at each answer that the problem is valid, and
+/// at each that it is invalid where it has neither predicates nor functions: a counterexample has no proof.
 pub fn output_law()
-    ensures { (form : ProofForm) (budget : ℕ) (bytes : List ℕ) (a b : Answer) → IsSolvedAs (Some form) budget bytes a → (a.status ≡ 0) ⊎ (a.status ≡ 1) → IsChecked a.text bytes b → b.status ≡ 0 }
+    ensures { (form : ProofForm) (budget : ℕ) (bytes : List ℕ) (a b : Answer) → IsSolvedAs (Some form) budget bytes a → (a.status ≡ 0) ⊎ ((a.status ≡ 1) × ¬ (PosesOne bytes IsImpure)) → IsChecked a.text bytes b → b.status ≡ 0 }
 {}

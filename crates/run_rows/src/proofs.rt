@@ -60,7 +60,7 @@ fn proofs_stand_behind_answers(rt: HostRuntime) -> Result<(), Fail> {
         ),
         (
             "\\existentialConstants { int a; } \\predicates { p(int); q(int); } \\problem { p(3) -> q(a) }",
-            (2, "UNKNOWN: saturated\n"),
+            (1, "INVALID\ncounterexample:\na = 0\np(3)\n"),
         ),
         ("\\problem { 1 + }", (3, "refused: Syntax at 15\n")),
     ];

@@ -117,19 +117,19 @@ fn predicates_and_functions_are_searched(rt: HostRuntime) -> Result<(), Fail> {
             ),
             (
                 "\\predicates { p(int); } \\problem { \\forall int x; (p(x) -> p(0)) }",
-                (2, "UNKNOWN: saturated\n"),
+                (1, "INVALID\ncounterexample:\np(1)\n"),
             ),
             (
                 "\\predicates { p; } \\problem { p }",
-                (2, "UNKNOWN: saturated\n"),
+                (1, "INVALID\ncounterexample:\n"),
             ),
             (
                 "\\existentialConstants { int a; } \\functions { int f(int); } \\problem { a = f(0) }",
-                (2, "UNKNOWN: saturated\n"),
+                (1, "INVALID\ncounterexample:\na = 0\nf(0) = 1\n"),
             ),
             (
                 "\\predicates { p(int); } \\problem { p(0) -> p(0) & p(1) }",
-                (2, "UNKNOWN: saturated\n"),
+                (1, "INVALID\ncounterexample:\np(0)\n"),
             ),
         ],
     )

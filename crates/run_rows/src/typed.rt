@@ -48,6 +48,29 @@ fn typed_problems_are_decided(rt: HostRuntime) -> Result<(), Fail> {
     )
 }
 
+// The values of the existential constants are the nearest to 0 of their types, those of the universal ones are values of theirs.
+#[test]
+fn counterexamples_have_values_of_the_types(rt: HostRuntime) -> Result<(), Fail> {
+    answers(
+        &rt,
+        rt.alloc(),
+        &[
+            (
+                "\\existentialConstants { int[2, 9] a; int[-9, -2] b; int[-3, 4] c; } \\predicates { p(int); } \\problem { p(a) & p(b) & p(c) }",
+                (1, "INVALID\ncounterexample:\na = 2\nb = -2\nc = 0\n"),
+            ),
+            (
+                "\\universalConstants { int[5, 6] u; } \\predicates { p(int); } \\problem { p(u) }",
+                (1, "INVALID\ncounterexample:\nu = 5\n"),
+            ),
+            (
+                "\\existentialConstants { int[3, 1] a; } \\predicates { p(int); } \\problem { p(a) }",
+                (1, "INVALID\n"),
+            ),
+        ],
+    )
+}
+
 #[test]
 fn bounds_stay_in_the_range(rt: HostRuntime) -> Result<(), Fail> {
     answers(

@@ -2,6 +2,7 @@
 use Rattle.std.proofs.Common.{◌≡◌, ℕ, suc, ◌+◌, ℤ, Bool, true, false, cond, ◌&&◌, nat_eq, nat_lt, List, [], ◌∷◌, ◌++◌, length, map, refl, sym, ◌∙◌, ap, arith, Option, Some, None}
 use Rattle.std.specs.List.{list_all}
 use Rattle.linear_term.specs.Range.{is_in_range}
+use Rattle.purse.specs.declared.log.ElimLog.{ElimLog}
 use Rattle.purse.specs.Runs.{total}
 use Rattle.purse.specs.Trace.{Mark, Traced, just, step, next, note, enter, each}
 use Rattle.purse.proofs.Tracing.{value-next}
@@ -171,6 +172,19 @@ invalid_charges f n k x h e none =
     let c = nothing_charges f n (rule_of x) (given x) h root in
     let s = none_charges n (given x) none in
     omega (arith, w, c, s)
+
+not_pure : {A : Type 0} (a b : Bool) (w u : Traced A) → a ≡ false → cond (a && b) w u ≡ u
+not_pure false b w u h = refl
+not_pure true b w u h = absurd (cc)
+
+-- the walk over a tree of a formula that is not pure stops behind the tree, whatever log is its conclusion
+pub saturated_charges : (f : Form) (n k : ℕ) (x : Proof) (log : ElimLog) → is_pure f ≡ false → (built k branch_limit 0 (start f n)).value ≡ Some x
+    → total (built k branch_limit 0 (start f n)).events ≡ total (proof_walk f n x (Nothing log)).events
+unfolding just
+saturated_charges f n k x log h e =
+    let w = walk_charges f n k x (Nothing log) e in
+    let z : charges (concluded f n (rule_of x) (Nothing log) (given x)) ≡ 0 = ap charges (not_pure (is_pure f) (is_root_rule (rule_of x)) _ (just None) h) in
+    omega (arith, w, z)
 
 -- what solving charges in a run
 pub solving_charges : (n : ℕ) (d : List (List Literal)) → total (solving_of n d).events ≡ total (solving n d).events

@@ -99,9 +99,11 @@ invalid_end : (f : Form) (n : ℕ) {old new : Funds} {c : Course} (a : Answer) (
 invalid_end f n {new = new} a log x d charges r did a_is r_is d_is charges_are =
     (did.notes, log, x, run_ends f n a did ∙ ap (λ z. ends_with z (at new did.notes)) a_is, d_is, record { root = r_is; conclusion = refl; charges = charges_are })
 
-saturated_end : (f : Form) (n : ℕ) {old new : Funds} {c : Course} (a : Answer) (log : ElimLog) (x : Proof) (run : Run) (did : Followed noted (canonical_run f n old.budget) old no_course (Ok a) new c) → a ≡ saturated log.entries x
-    → run ≡ run_of old (at new did.notes) → EndsAs f n old (Ok (outcome.Unknown why.Saturated run)) new
-saturated_end f n {new = new} a log x run did a_is run_is = (did.notes, log, x, run_ends f n a did ∙ ap (λ z. ends_with z (at new did.notes)) a_is, run_is)
+saturated_end : (f : Form) (n : ℕ) {old new : Funds} {c : Course} (a : Answer) (log : ElimLog) (x : Proof) (d : List (List Literal)) (charges : ℕ) (r : Node) → Followed noted (canonical_run f n old.budget) old no_course (Ok a) new c
+    → a ≡ saturated log.entries x → proof_of r ≡ x → d ≡ given x → charges ≡ total (proof_walk f n x (Nothing log)).events
+    → EndsAs f n old (Ok (outcome.Saturated d (record { charges = charges; root = r; conclusion = Nothing log }))) new
+saturated_end f n {new = new} a log x d charges r did a_is r_is d_is charges_are =
+    (did.notes, log, x, run_ends f n a did ∙ ap (λ z. ends_with z (at new did.notes)) a_is, d_is, record { root = r_is; conclusion = refl; charges = charges_are })
 
 long_end : (f : Form) (n : ℕ) {old new : Funds} {c : Course} (a : Answer) (run : Run) (did : Followed noted (canonical_run f n old.budget) old no_course (Ok a) new c) → a ≡ too_long → run ≡ run_of old (at new did.notes)
     → EndsAs f n old (Ok (outcome.Unknown why.Branch run)) new
@@ -118,7 +120,7 @@ some_root x (Some r) kept = refl
 pub has_root : (f : Form) (n : ℕ) {old new : Funds} (a : Found) (run : Run) → IsRun true f n old (Ok a) run new → HasRoot a
 has_root f n (found.Valid tree charges vs) run did = some_root (did.1.ok _ refl).2.0 tree.root (did.1.ok _ refl).2.2.root
 has_root f n (found.Invalid tree charges log) run did = some_root (did.1.ok _ refl).2.0 tree.root (did.1.ok _ refl).2.2.root
-has_root f n (found.Saturated log) run did = tt
+has_root f n (found.Saturated tree charges log) run did = some_root (did.1.ok _ refl).2.0 tree.root (did.1.ok _ refl).2.2.root
 has_root f n found.Branch run did = tt
 
 found_cases : (f : Form) (n : ℕ) {old new : Funds} {c : Course} (a : Answer) (x : Found) (run : Run) (did : Followed noted (canonical_run f n old.budget) old no_course (Ok a) new c) → run ≡ run_of old (at new did.notes)
@@ -129,7 +131,9 @@ found_cases f n {old} {new} a (found.Valid tree charges vs) run did run_is is o 
 found_cases f n {old} {new} a (found.Invalid tree charges log) run did run_is is o o_is =
     subst (λ (z : Outcome). EndsAs f n old (Ok z) new) (sym o_is.2)
     (invalid_end f n a log is.0 tree.constraint charges o_is.0 did is.1 (kept_root is.0 tree.root o_is.0 (is.2).root o_is.1) (is.2).constraint (is.2).charges_are)
-found_cases f n {old} {new} a (found.Saturated log) run did run_is is o o_is = subst (λ (z : Outcome). EndsAs f n old (Ok z) new) (sym o_is) (saturated_end f n a log is.0 run did is.1 run_is)
+found_cases f n {old} {new} a (found.Saturated tree charges log) run did run_is is o o_is =
+    subst (λ (z : Outcome). EndsAs f n old (Ok z) new) (sym o_is.2)
+    (saturated_end f n a log is.0 tree.constraint charges o_is.0 did is.1 (kept_root is.0 tree.root o_is.0 (is.2).root o_is.1) (is.2).constraint (is.2).charges_are)
 found_cases f n {old} {new} a found.Branch run did run_is is o o_is = subst (λ (z : Outcome). EndsAs f n old (Ok z) new) (sym o_is) (long_end f n a run did is run_is)
 
 stands_there : (keeps : Bool) (f : Form) (n : ℕ) {old new : Funds} (a : Found) (run : Run) (did : IsRun keeps f n old (Ok a) run new) → run ≡ run_of old (at new (did.1.ok a refl).1.notes)
@@ -145,7 +149,8 @@ bare_end f n (found.Valid tree charges vs) run did =
     let h = did.1.ok _ refl in let is = h.2 in (Ok (outcome.Valid tree.constraint vs (record { charges = charges; root = node_of is.0; conclusion = Solution vs })), valid_end f n h.0 vs is.0 tree.constraint charges (node_of is.0) h.1 is.1 (of_node is.0) (is.2).constraint (is.2).charges_are, refl)
 bare_end f n (found.Invalid tree charges log) run did =
     let h = did.1.ok _ refl in let is = h.2 in (Ok (outcome.Invalid tree.constraint (record { charges = charges; root = node_of is.0; conclusion = Nothing log })), invalid_end f n h.0 log is.0 tree.constraint charges (node_of is.0) h.1 is.1 (of_node is.0) (is.2).constraint (is.2).charges_are, refl)
-bare_end f n (found.Saturated log) run did = let h = did.1.ok _ refl in let is = h.2 in (Ok (outcome.Unknown why.Saturated run), saturated_end f n h.0 log is.0 run h.1 is.1 (stands_there false f n (found.Saturated log) run did), refl)
+bare_end f n (found.Saturated tree charges log) run did =
+    let h = did.1.ok _ refl in let is = h.2 in (Ok (outcome.Saturated tree.constraint (record { charges = charges; root = node_of is.0; conclusion = Nothing log })), saturated_end f n h.0 log is.0 tree.constraint charges (node_of is.0) h.1 is.1 (of_node is.0) (is.2).constraint (is.2).charges_are, refl)
 bare_end f n found.Branch run did = let h = did.1.ok _ refl in (Ok (outcome.Unknown why.Branch run), long_end f n h.0 run h.1 h.2 (stands_there false f n found.Branch run did), refl)
 
 pub bare_cut : (f : Form) (n : ℕ) {old new : Funds} (e : StepFault) (y : Why) (run : Run) → IsRun false f n old (Err e) run new → Ok y ≡ stopped_by e → DecidesAs f n old (Ok (decided.Unknown y run)) new

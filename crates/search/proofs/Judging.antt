@@ -33,7 +33,7 @@ use Rattle.search.specs.Rounds.{IsAnswer, IsTreeOf, found_by, solved_of, solving
 use Rattle.search.specs.Run.{Answer, concluded, has_open_leaf, invalid, judged, one_round, saturated, too_long}
 use Rattle.node_steps.specs.Within.{branch_limit}
 use Rattle.search.specs.Walking.{IsGrown, Makes}
-use Rattle.search.proofs.Charges.{invalid_charges, solving_charges, valid_charges}
+use Rattle.search.proofs.Charges.{invalid_charges, saturated_charges, solving_charges, valid_charges}
 use Rattle.search.proofs.Given.{built-given}
 use Rattle.search.proofs.Growing.{made_none, made_some, makes_err, makes_memory}
 
@@ -45,11 +45,11 @@ IsFinding keeps f n None None = Unit {0}
 IsFinding keeps f n (Some a) None = ⊥
 IsFinding keeps f n None (Some x) = ⊥
 
-lost_is : (keeps : Bool) (f : Form) (n : ℕ) (x : Proof) (b : Built) (spent : ℕ) (log : ElimLog) (p o : Bool) → b.has_open ≡ o → (p ≡ true → IsTreeOf keeps f n x (Nothing log) b spent)
-    → IsFinding keeps f n (cond p (Some (invalid log.entries x)) (cond o None (Some (saturated log.entries x)))) (cond p (Some (found.Invalid b spent log)) (cond o None (Some (found.Saturated log))))
-lost_is keeps f n x b spent log true o is tree = (x, refl, tree refl)
-lost_is keeps f n x b spent log false true is tree = tt
-lost_is keeps f n x b spent log false false is tree = (x, refl)
+lost_is : (keeps : Bool) (f : Form) (n : ℕ) (x : Proof) (b : Built) (charged spent : ℕ) (log : ElimLog) (p o : Bool) → b.has_open ≡ o → (p ≡ true → IsTreeOf keeps f n x (Nothing log) b spent) → (p ≡ false → IsTreeOf keeps f n x (Nothing log) b charged)
+    → IsFinding keeps f n (cond p (Some (invalid log.entries x)) (cond o None (Some (saturated log.entries x)))) (cond p (Some (found.Invalid b spent log)) (cond o None (Some (found.Saturated b charged log))))
+lost_is keeps f n x b charged spent log true o is pure other = (x, refl, pure refl)
+lost_is keeps f n x b charged spent log false true is pure other = tt
+lost_is keeps f n x b charged spent log false false is pure other = (x, refl, other refl)
 
 -- ---- the charges
 tree_of : (keeps : Bool) (f : Form) (n : ℕ) (x : Proof) (c : Conclusion) (b : Built) (charges : ℕ) → IsGrown keeps (start f n) x b → charges ≡ total (proof_walk f n x c).events → IsTreeOf keeps f n x c b charges
@@ -61,8 +61,9 @@ found_is : (keeps : Bool) (f : Form) (n k : ℕ) (x : Proof) (b : Built) (charge
 found_is keeps f n k x b charged spent (Some vs) grown is a_is charged_is spent_is = (x, refl, tree_of keeps f n x (Solution vs) b charged grown (charged_is ∙ valid_charges f n k x vs is))
 found_is keeps f n k x b charged spent None grown is a_is charged_is spent_is =
     let log : ElimLog = record { entries = entries_of (names_out n (given x)).events } in
-    subst (λ o. IsFinding keeps f n (concluded f n x None) (cond (is_pure f) (Some (found.Invalid b spent log)) (cond o None (Some (found.Saturated log))))) (sym grown.has_open)
-    (lost_is keeps f n x b spent log (is_pure f) (has_open_leaf (start f n) x) grown.has_open (λ pure. tree_of keeps f n x (Nothing log) b spent grown (spent_is ∙ invalid_charges f n k x pure is (sym a_is))))
+    subst (λ o. IsFinding keeps f n (concluded f n x None) (cond (is_pure f) (Some (found.Invalid b spent log)) (cond o None (Some (found.Saturated b charged log))))) (sym grown.has_open)
+    (lost_is keeps f n x b charged spent log (is_pure f) (has_open_leaf (start f n) x) grown.has_open (λ pure. tree_of keeps f n x (Nothing log) b spent grown (spent_is ∙ invalid_charges f n k x pure is (sym a_is)))
+    (λ other. tree_of keeps f n x (Nothing log) b charged grown (charged_is ∙ saturated_charges f n k x log other is)))
 
 -- ---- the calls of a round
 -- the tree is that of the formula, and its first node has the number 0

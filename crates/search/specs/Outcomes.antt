@@ -25,7 +25,7 @@ use Rattle.search.specs.declared.judge.Decided.{Decided}
 use Rattle.search.specs.declared.judge.Decided.TheVariants as decided
 use Rattle.search.specs.declared.judge.Found.{Found}
 use Rattle.search.specs.declared.judge.Outcome.{Outcome}
-use Rattle.search.specs.declared.judge.Outcome.TheVariants.{Valid, Invalid, Unknown}
+use Rattle.search.specs.declared.judge.Outcome.TheVariants.{Valid, Invalid, Saturated, Unknown}
 use Rattle.search.specs.Course.{no_log, noted}
 use Rattle.search.specs.Rounds.{IsAnswer}
 use Rattle.search.specs.Walking.{Gets}
@@ -63,8 +63,9 @@ EndsAs f n old (Ok (Valid d vs t)) new =
 EndsAs f n old (Ok (Invalid d t)) new =
     (ms : List Mark) × (log : ElimLog) × (x : Proof) × (ending (canonical_run f n old.budget) (at old []) ≡ ends_with (invalid log.entries x) (at new ms)) × (d ≡ given x)
     × IsTree f n x (Nothing log) t
-EndsAs f n old (Ok (Unknown why.Saturated run)) new =
-    (ms : List Mark) × (log : ElimLog) × (x : Proof) × (ending (canonical_run f n old.budget) (at old []) ≡ ends_with (saturated log.entries x) (at new ms)) × (run ≡ run_of old (at new ms))
+EndsAs f n old (Ok (Saturated d t)) new =
+    (ms : List Mark) × (log : ElimLog) × (x : Proof) × (ending (canonical_run f n old.budget) (at old []) ≡ ends_with (saturated log.entries x) (at new ms)) × (d ≡ given x)
+    × IsTree f n x (Nothing log) t
 EndsAs f n old (Ok (Unknown why.Branch run)) new = (ms : List Mark) × (ending (canonical_run f n old.budget) (at old []) ≡ ends_with too_long (at new ms)) × (run ≡ run_of old (at new ms))
 EndsAs f n old (Ok (Unknown why.Steps run)) new = (ms : List Mark) × (ending (canonical_run f n old.budget) (at old []) ≡ out_of_steps (at new ms)) × (run ≡ run_of old (at new ms))
 EndsAs f n old (Ok (Unknown (why.Overflow p) run)) new =
@@ -75,6 +76,7 @@ EndsAs f n old (Err m) new = (ms : List Mark) × Reaches (canonical_run f n old.
 abbrev pub bare : Outcome → Decided
 bare (Valid d vs t) = decided.Valid d vs
 bare (Invalid d t) = decided.Invalid d
+bare (Saturated d t) = decided.Saturated d
 bare (Unknown y run) = decided.Unknown y run
 
 abbrev pub bare_result : Result Outcome Memory → Result Decided Memory

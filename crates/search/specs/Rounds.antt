@@ -40,7 +40,7 @@ solving_of n d = next (in_new_log (solving n d)) (λ a. just (solved_of n d a))
 -- a further round is to come
 abbrev pub found_by : Form → Built → ℕ → ℕ → Solved → Option Found
 found_by f tree charged spent (solved.Values vs) = Some (found.Valid tree charged vs)
-found_by f tree charged spent (solved.None log) = cond (is_pure f) (Some (found.Invalid tree spent log)) (cond tree.has_open None (Some (found.Saturated log)))
+found_by f tree charged spent (solved.None log) = cond (is_pure f) (Some (found.Invalid tree spent log)) (cond tree.has_open None (Some (found.Saturated tree charged log)))
 
 -- the tree x of the run, kept or not, has its constraint, and is charged what the walk over it with this conclusion is
 pub record IsTreeOf (keeps : Bool) (f : Form) (n : ℕ) (x : Proof) (c : Conclusion) (tree : Built) (charges : ℕ) : Type 0 where
@@ -52,26 +52,26 @@ pub record IsTreeOf (keeps : Bool) (f : Form) (n : ℕ) (x : Proof) (c : Conclus
 abbrev pub IsAnswer : Bool → Form → ℕ → Answer → Found → Type 0
 IsAnswer keeps f n a (found.Valid tree charges vs) = (x : Proof) × (a ≡ valid vs x) × IsTreeOf keeps f n x (Solution vs) tree charges
 IsAnswer keeps f n a (found.Invalid tree charges log) = (x : Proof) × (a ≡ invalid log.entries x) × IsTreeOf keeps f n x (Nothing log) tree charges
-IsAnswer keeps f n a (found.Saturated log) = (x : Proof) × (a ≡ saturated log.entries x)
+IsAnswer keeps f n a (found.Saturated tree charges log) = (x : Proof) × (a ≡ saturated log.entries x) × IsTreeOf keeps f n x (Nothing log) tree charges
 IsAnswer keeps f n a found.Branch = a ≡ too_long
 
 -- a tree that was found is kept
 abbrev pub HasRoot : Found → Type 0
 HasRoot (found.Valid tree charges vs) = IsSome tree.root
 HasRoot (found.Invalid tree charges log) = IsSome tree.root
-HasRoot (found.Saturated log) = Unit {0}
+HasRoot (found.Saturated tree charges log) = IsSome tree.root
 HasRoot found.Branch = Unit {0}
 
 -- the outcome of a run that found this, and stood there
 abbrev pub IsOutcome : Found → Run → Outcome → Type 0
 IsOutcome (found.Valid tree charges vs) run o = (x : Node) × (tree.root ≡ Some x) × (o ≡ outcome.Valid tree.constraint vs (record { charges = charges; root = x; conclusion = Solution vs }))
 IsOutcome (found.Invalid tree charges log) run o = (x : Node) × (tree.root ≡ Some x) × (o ≡ outcome.Invalid tree.constraint (record { charges = charges; root = x; conclusion = Nothing log }))
-IsOutcome (found.Saturated log) run o = o ≡ outcome.Unknown why.Saturated run
+IsOutcome (found.Saturated tree charges log) run o = (x : Node) × (tree.root ≡ Some x) × (o ≡ outcome.Saturated tree.constraint (record { charges = charges; root = x; conclusion = Nothing log }))
 IsOutcome found.Branch run o = o ≡ outcome.Unknown why.Branch run
 
 -- the same without its tree
 abbrev pub decided_of : Found → Run → Decided
 decided_of (found.Valid tree charges vs) run = decided.Valid tree.constraint vs
 decided_of (found.Invalid tree charges log) run = decided.Invalid tree.constraint
-decided_of (found.Saturated log) run = decided.Unknown why.Saturated run
+decided_of (found.Saturated tree charges log) run = decided.Saturated tree.constraint
 decided_of found.Branch run = decided.Unknown why.Branch run

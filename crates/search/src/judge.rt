@@ -5,8 +5,9 @@ ghost use Rattle.formula.specs.Tree.{form};
 ghost use Rattle.purse.specs.Followed.{Followed};
 ghost use Rattle.search.specs.Course.{noted};
 ghost use Rattle.search.specs.Outcomes.{stopped_by};
+ghost use Rattle.proof_tree.specs.declared.node.Node.{Node};
 ghost use Rattle.search.specs.Rounds.{HasRoot, IsOutcome, decided_of, found_by, solving_of};
-ghost use Rattle.std.specs.Prelude.{◌≡◌, ◌<◌, ◌^◌, IfOk};
+ghost use Rattle.std.specs.Prelude.{◌≡◌, ◌<◌, ◌^◌, IfOk, IsSome, Some};
 
 use super::course::Course;
 use super::walk::Built;
@@ -20,7 +21,8 @@ use sqlite_items::Items;
 use std::alloc::Global;
 
 /// How a search ended: with values that satisfy the constraint of its tree; with a constraint that nothing satisfies, of a
-/// formula without predicates and functions; or without an answer, with why and where.
+/// formula without predicates and functions, or of another one in whose tree no rule is left that a further round could use
+/// more often; or without an answer, with why and where.
 #[derive(Drop)]
 pub enum Outcome {
     Valid {
@@ -29,6 +31,10 @@ pub enum Outcome {
         tree: Tree,
     },
     Invalid {
+        constraint: Dnf,
+        tree: Tree,
+    },
+    Saturated {
         constraint: Dnf,
         tree: Tree,
     },
@@ -46,6 +52,9 @@ pub enum Decided {
         solution: Items<i128>,
     },
     Invalid {
+        constraint: Dnf,
+    },
+    Saturated {
         constraint: Dnf,
     },
     Unknown {
@@ -80,8 +89,9 @@ pub enum Found {
     Valid(Built, u64, Items<i128>),
     /// The log takes all names out of the constraint of the tree, which leaves false: so much is charged for both.
     Invalid(Built, u64, ElimLog),
-    /// The same of a formula that is not pure, where no leaf of the tree is open.
-    Saturated(ElimLog),
+    /// The same of a formula that is not pure, where no leaf of the tree is open: so much is charged for the tree, as the walk
+    /// that checks it stops where the formula is not pure.
+    Saturated(Built, u64, ElimLog),
     /// A branch would have got too many nodes.
     Branch,
 }
@@ -98,10 +108,29 @@ pub fn conclude(root: &Core, tree: Built, charged: u64, spent: u64, solved: Solv
             } else if tree.has_open {
                 None
             } else {
-                Some(Found::Saturated(log))
+                Some(Found::Saturated(tree, charged, log))
             }
         }
     }
+}
+
+/// The constraint of a tree that was kept, and the proof that it is with these charges and this conclusion.
+fn concluded(built: Built, charges: u64, conclusion: Conclusion) -> (Dnf, Tree)
+    requires { IsSome built.root }
+    ensures { (x : Node) × (built.root ≡ Some x) × (result.0 ≡ built.constraint) × (result.1 ≡ record { charges = charges; root = x; conclusion = conclusion }) }
+{
+    let Built {
+        root,
+        constraint,
+        ..
+    } = built;
+    let Some(root) = root else { unreachable!() };
+    let tree = Tree {
+        charges,
+        root,
+        conclusion,
+    };
+    (constraint, tree)
 }
 
 /// The outcome of a run that kept its trees, found this, and stood there.
@@ -110,43 +139,23 @@ pub fn ended(alloc: Global, found: Found, run: Run) -> Result<Outcome, Memory>
     ensures { IfOk result (λ o. IsOutcome found run o) }
 {
     match found {
-        Found::Valid(tree, charges, values) => {
-            let Built {
-                root,
-                constraint,
-                ..
-            } = tree;
-            let Some(root) = root else { unreachable!() };
+        Found::Valid(built, charges, values) => {
             let solution = Items::from_slice(alloc, values.as_slice())?;
-            let tree = Tree {
-                charges,
-                root,
-                conclusion: Conclusion::Solution(values),
-            };
+            let (constraint, tree) = concluded(built, charges, Conclusion::Solution(values));
             Ok(Outcome::Valid {
                 constraint,
                 solution,
                 tree,
             })
         }
-        Found::Invalid(tree, charges, log) => {
-            let Built {
-                root,
-                constraint,
-                ..
-            } = tree;
-            let Some(root) = root else { unreachable!() };
-            let tree = Tree {
-                charges,
-                root,
-                conclusion: Conclusion::Nothing(log),
-            };
+        Found::Invalid(built, charges, log) => {
+            let (constraint, tree) = concluded(built, charges, Conclusion::Nothing(log));
             Ok(Outcome::Invalid { constraint, tree })
         }
-        Found::Saturated(_) => Ok(Outcome::Unknown {
-            why: Why::Saturated,
-            run,
-        }),
+        Found::Saturated(built, charges, log) => {
+            let (constraint, tree) = concluded(built, charges, Conclusion::Nothing(log));
+            Ok(Outcome::Saturated { constraint, tree })
+        }
         Found::Branch => Ok(Outcome::Unknown {
             why: Why::Branch,
             run,
@@ -166,9 +175,8 @@ pub fn without_tree(found: Found, run: Run) -> Decided
         Found::Invalid(tree, _, _) => Decided::Invalid {
             constraint: tree.constraint,
         },
-        Found::Saturated(_) => Decided::Unknown {
-            why: Why::Saturated,
-            run,
+        Found::Saturated(tree, _, _) => Decided::Saturated {
+            constraint: tree.constraint,
         },
         Found::Branch => Decided::Unknown {
             why: Why::Branch,

@@ -113,9 +113,9 @@ fn whole(
 
 /// Searches a proof of the root over its constants: the canonical run on what is left in the purse, and how it ends. Valid
 /// has values that satisfy the constraint of the tree; Invalid a constraint that nothing satisfies, and comes only for a root
-/// without predicates and functions. Unknown is answered exactly where the run is cut, by the budget or by a number that
-/// leaves the range, with the place, where a branch would have more than 2,000 nodes, or where no rule is left that a further
-/// round could use more often. The tree's charges are those of the walk that checks it.
+/// without predicates and functions. Saturated is the same for any other root, where no rule is left that a further round
+/// could use more often. Unknown is answered exactly where the run is cut, by the budget or by a number that leaves the range,
+/// with the place, or where a branch would have more than 2,000 nodes. The tree's charges are those of the walk that checks it.
 pub fn prove(
     alloc: Global,
     root: &Core,

@@ -7,7 +7,6 @@ ghost use Rattle.std.specs.Prelude.{◌≤◌};
 
 use formula::Core;
 use linear_term::Term;
-use proof_tree::Why;
 use purse::Purse;
 use search::{Decided, Outcome, decide, prove};
 use sqlite_items::Items;
@@ -24,20 +23,12 @@ enum End {
     Other,
 }
 
-fn end_of(why: &Why) -> End {
-    match why {
-        Why::Saturated => End::Saturated,
-        Why::Steps => End::Other,
-        Why::Overflow(_) => End::Other,
-        Why::Branch => End::Other,
-    }
-}
-
 fn proved_end(outcome: &Outcome) -> End {
     match outcome {
         Outcome::Valid { .. } => End::Valid,
         Outcome::Invalid { .. } => End::Invalid,
-        Outcome::Unknown { why, .. } => end_of(why),
+        Outcome::Saturated { .. } => End::Saturated,
+        Outcome::Unknown { .. } => End::Other,
     }
 }
 
@@ -45,7 +36,8 @@ fn decided_end(decided: &Decided) -> End {
     match decided {
         Decided::Valid { .. } => End::Valid,
         Decided::Invalid { .. } => End::Invalid,
-        Decided::Unknown { why, .. } => end_of(why),
+        Decided::Saturated { .. } => End::Saturated,
+        Decided::Unknown { .. } => End::Other,
     }
 }
 

@@ -1,5 +1,6 @@
 -- Where each answer of `solve` comes.
-use Rattle.std.proofs.Common.{◌≡◌, ◌⊎◌, inl, inr, ℕ, ℤ, Bool, true, false, List, [], ◌∷◌, ◌++◌, refl, sym, ◌∙◌, ap, subst, codes, slice_index_or, arith}
+use Rattle.std.proofs.Common.{◌≡◌, ◌⊎◌, inl, inr, ℕ, ℤ, Bool, true, false, List, [], ◌∷◌, ◌++◌, length, refl, sym, ◌∙◌, ap, subst, codes, slice_index_or, arith}
+use Rattle.purse.specs.declared.log.Entry.{Entry}
 use Rattle.purse.specs.Trace.{Funds, At}
 use Rattle.formula.specs.Form.{is_pure}
 use Rattle.proof_tree.specs.Proof.{Proof}
@@ -13,13 +14,18 @@ use Rattle.answers.specs.Answer.{Answer, line, placed, refused_answer, unknown_a
 use Rattle.problem_file.specs.Reads.{Refusal}
 use Rattle.problem_file.specs.Refusals.{refusal_name}
 use Rattle.problem_file.proofs.Naming.{comes_of, not_large, not_unsupported}
+use Rattle.pri_typing.specs.Problems.{IsPure}
+use Rattle.refuted_runs.proofs.Encoded.{root_somes}
+use Rattle.refuted_runs.proofs.Universal.{one_round_ends}
 use Rattle.problem_file.specs.Answers.{Poses, PosesOne, refused, unsupported, posed}
 use Rattle.problem_file.specs.Encoded.{Fits, LeavesRange, large, leaves, runs}
 use Rattle.interpolant_lines.specs.Blocks.{AreBlockLines}
 use Rattle.interpolant_lines.proofs.Listing.{blocks_caused}
 use Rattle.solve_job.specs.Solved.{AnswersEnd, closed, valid, invalid, saturated, branch, steps, overflow, run_end, IsSolved}
 use Rattle.problem_file.specs.Refused.{ComesOf, IsRefused, first, special, too_large}
-use Rattle.solve_job.specs.Causes.{Ends, IsValid, IsInvalid, IsSaturated, IsTooLong, IsOutOfSteps, IsOutOfRange, TellsBlocks, Causes, Decides}
+use Rattle.solve_job.specs.Causes.{Ends, EndsSaturated, IsValid, IsInvalid, IsTooLong, IsOutOfSteps, IsOutOfRange, TellsBlocks, Causes, Decides, IsDecidedOrCut}
+use Rattle.solve_job.specs.Explained.{AnswersSaturated, IsCutByRange, IsCutBySteps, IsWalked, explained, nowhere, past, short}
+use Rattle.solve_job.proofs.Saturated.{cut_by_range, cut_by_steps, no_branch, one_or_two, range_answer, saturated_answer, steps_answer, walked, walked_status}
 use Rattle.solve_job.proofs.Exactly.{by_end, end_answer, found_answer, one_answer, run_answered}
 use Rattle.solve_job.proofs.Meaning.{tells}
 
@@ -32,78 +38,83 @@ cause a = slice_index_or a.text 10 0
 
 -- ---- from an answer to its cause
 
+-- the run ends saturated, with a tree and a purse of which this is so
+abbrev SaturatedSo : (Problem → Proof → Funds → Type 0) → Problem → Ending run.Answer → Type 0
+SaturatedSo So p end = (log : List Entry) × (x : Proof) × (stands : At) × (end ≡ ends_with (run.saturated log x) stands) × So p x stands.funds
+
+other_status : {s : ℕ} (n : ℕ) → (s ≡ 1) ⊎ (s ≡ 2) → s ≡ n → (n ≡ 1 → ⊥) → (n ≡ 2 → ⊥) → ⊥
+other_status n (inl h) z one two = one (sym z ∙ h)
+other_status n (inr h) z one two = two (sym z ∙ h)
+
 valid_end : (p : Problem) (end : Ending run.Answer) (a : Answer) → AnswersEnd p end a → a.status ≡ 0 → IsValid end
 valid_end p end a (closed vs x stands text is none told e) z = (vs, x, stands, is)
 valid_end p end a (valid vs x stands text is some printed e) z = (vs, x, stands, is)
 valid_end p end a (invalid log x stands is e) z = let bad = sym z ∙ ap status_of e in absurd cc
-valid_end p end a (saturated log x stands is e) z = let bad = sym z ∙ ap status_of e in absurd cc
+valid_end p end a (saturated log x stands is told) z = absurd (other_status 0 (one_or_two p x stands.funds a told) z (λ h. cc) (λ h. cc))
 valid_end p end a (branch stands is e) z = let bad = sym z ∙ ap status_of e in absurd cc
 valid_end p end a (steps stands is e) z = let bad = sym z ∙ ap status_of e in absurd cc
 valid_end p end a (overflow numbers stands is e) z = let bad = sym z ∙ ap status_of e in absurd cc
 
-invalid_end : (p : Problem) (end : Ending run.Answer) (a : Answer) → AnswersEnd p end a → a.status ≡ 1 → IsInvalid end
+invalid_end : (p : Problem) (end : Ending run.Answer) (a : Answer) → AnswersEnd p end a → a.status ≡ 1 → IsInvalid end ⊎ SaturatedSo IsWalked p end
 invalid_end p end a (closed vs x stands text is none told e) z = let bad = sym z ∙ ap status_of e in absurd cc
 invalid_end p end a (valid vs x stands text is some printed e) z = let bad = sym z ∙ ap status_of e in absurd cc
-invalid_end p end a (invalid log x stands is e) z = (log, x, stands, is)
-invalid_end p end a (saturated log x stands is e) z = let bad = sym z ∙ ap status_of e in absurd cc
+invalid_end p end a (invalid log x stands is e) z = inl (log, x, stands, is)
+invalid_end p end a (saturated log x stands is told) z = inr (log, x, stands, is, walked p x stands.funds a told z)
 invalid_end p end a (branch stands is e) z = let bad = sym z ∙ ap status_of e in absurd cc
 invalid_end p end a (steps stands is e) z = let bad = sym z ∙ ap status_of e in absurd cc
 invalid_end p end a (overflow numbers stands is e) z = let bad = sym z ∙ ap status_of e in absurd cc
 
-steps_end : (p : Problem) (end : Ending run.Answer) (a : Answer) → AnswersEnd p end a → a ≡ unknown_answer (codes "steps") → IsOutOfSteps end
+steps_end : (p : Problem) (end : Ending run.Answer) (a : Answer) → AnswersEnd p end a → a ≡ unknown_answer (codes "steps") → IsOutOfSteps end ⊎ SaturatedSo IsCutBySteps p end
 steps_end p end a (closed vs x stands text is none told e) z = let bad = ap status_of (sym z ∙ e) in absurd cc
 steps_end p end a (valid vs x stands text is some printed e) z = let bad = ap status_of (sym z ∙ e) in absurd cc
 steps_end p end a (invalid log x stands is e) z = let bad = ap status_of (sym z ∙ e) in absurd cc
-steps_end p end a (saturated log x stands is e) z = absurd (omega (arith, ap cause (sym z ∙ e)))
+steps_end p end a (saturated log x stands is told) z = inr (log, x, stands, is, cut_by_steps p x stands.funds a told z)
 steps_end p end a (branch stands is e) z = absurd (omega (arith, ap cause (sym z ∙ e)))
-steps_end p end a (steps stands is e) z = (stands, is)
+steps_end p end a (steps stands is e) z = inl (stands, is)
 steps_end p end a (overflow numbers stands is e) z = absurd (omega (arith, ap cause (sym z ∙ e)))
 
-overflow_end : (p : Problem) (end : Ending run.Answer) (a : Answer) → AnswersEnd p end a → a ≡ unknown_answer (codes "overflow") → IsOutOfRange end
+overflow_end : (p : Problem) (end : Ending run.Answer) (a : Answer) → AnswersEnd p end a → a ≡ unknown_answer (codes "overflow") → IsOutOfRange end ⊎ SaturatedSo IsCutByRange p end
 overflow_end p end a (closed vs x stands text is none told e) z = let bad = ap status_of (sym z ∙ e) in absurd cc
 overflow_end p end a (valid vs x stands text is some printed e) z = let bad = ap status_of (sym z ∙ e) in absurd cc
 overflow_end p end a (invalid log x stands is e) z = let bad = ap status_of (sym z ∙ e) in absurd cc
-overflow_end p end a (saturated log x stands is e) z = absurd (omega (arith, ap cause (sym z ∙ e)))
+overflow_end p end a (saturated log x stands is told) z = inr (log, x, stands, is, cut_by_range p x stands.funds a told z)
 overflow_end p end a (branch stands is e) z = absurd (omega (arith, ap cause (sym z ∙ e)))
 overflow_end p end a (steps stands is e) z = absurd (omega (arith, ap cause (sym z ∙ e)))
-overflow_end p end a (overflow numbers stands is e) z = (numbers, stands, is)
+overflow_end p end a (overflow numbers stands is e) z = inl (numbers, stands, is)
 
 branch_end : (p : Problem) (end : Ending run.Answer) (a : Answer) → AnswersEnd p end a → a ≡ unknown_answer (codes "branch") → IsTooLong end
 branch_end p end a (closed vs x stands text is none told e) z = let bad = ap status_of (sym z ∙ e) in absurd cc
 branch_end p end a (valid vs x stands text is some printed e) z = let bad = ap status_of (sym z ∙ e) in absurd cc
 branch_end p end a (invalid log x stands is e) z = let bad = ap status_of (sym z ∙ e) in absurd cc
-branch_end p end a (saturated log x stands is e) z = absurd (omega (arith, ap cause (sym z ∙ e)))
+branch_end p end a (saturated log x stands is told) z = absurd (no_branch p x stands.funds a told z)
 branch_end p end a (branch stands is e) z = (stands, is)
 branch_end p end a (steps stands is e) z = absurd (omega (arith, ap cause (sym z ∙ e)))
 branch_end p end a (overflow numbers stands is e) z = absurd (omega (arith, ap cause (sym z ∙ e)))
-
-saturated_end : (p : Problem) (end : Ending run.Answer) (a : Answer) → AnswersEnd p end a → a ≡ unknown_answer (codes "saturated") → IsSaturated end
-saturated_end p end a (closed vs x stands text is none told e) z = let bad = ap status_of (sym z ∙ e) in absurd cc
-saturated_end p end a (valid vs x stands text is some printed e) z = let bad = ap status_of (sym z ∙ e) in absurd cc
-saturated_end p end a (invalid log x stands is e) z = let bad = ap status_of (sym z ∙ e) in absurd cc
-saturated_end p end a (saturated log x stands is e) z = (log, x, stands, is)
-saturated_end p end a (branch stands is e) z = absurd (omega (arith, ap cause (sym z ∙ e)))
-saturated_end p end a (steps stands is e) z = absurd (omega (arith, ap cause (sym z ∙ e)))
-saturated_end p end a (overflow numbers stands is e) z = absurd (omega (arith, ap cause (sym z ∙ e)))
 
 not_refused : (p : Problem) (end : Ending run.Answer) (a : Answer) → AnswersEnd p end a → a.status ≡ 3 → ⊥
 not_refused p end a (closed vs x stands text is none told e) z = let bad = sym z ∙ ap status_of e in absurd cc
 not_refused p end a (valid vs x stands text is some printed e) z = let bad = sym z ∙ ap status_of e in absurd cc
 not_refused p end a (invalid log x stands is e) z = let bad = sym z ∙ ap status_of e in absurd cc
-not_refused p end a (saturated log x stands is e) z = let bad = sym z ∙ ap status_of e in absurd cc
+not_refused p end a (saturated log x stands is told) z = other_status 3 (one_or_two p x stands.funds a told) z (λ h. cc) (λ h. cc)
 not_refused p end a (branch stands is e) z = let bad = sym z ∙ ap status_of e in absurd cc
 not_refused p end a (steps stands is e) z = let bad = sym z ∙ ap status_of e in absurd cc
 not_refused p end a (overflow numbers stands is e) z = let bad = sym z ∙ ap status_of e in absurd cc
 
 -- what an answer with this property comes of, where refusals have it not
-from_end : (budget : ℕ) (bytes : List ℕ) (a : Answer) (P : Answer → Type 0) (Q : Ending run.Answer → Type 0) → ((name : List ℕ) → ¬ (P (refused_answer name)))
-    → ((p : Problem) (end : Ending run.Answer) (b : Answer) → AnswersEnd p end b → P b → Q end) → IsSolved budget bytes a → P a
-    → (P (unknown_answer (codes "overflow")) × PosesOne bytes LeavesRange) ⊎ Ends budget bytes Q
+from_end : (budget : ℕ) (bytes : List ℕ) (a : Answer) (P : Answer → Type 0) (Q : Problem → Ending run.Answer → Type 0) → ((name : List ℕ) → ¬ (P (refused_answer name)))
+    → ((p : Problem) (end : Ending run.Answer) (b : Answer) → AnswersEnd p end b → P b → Q p end) → IsSolved budget bytes a → P a
+    → (P (unknown_answer (codes "overflow")) × PosesOne bytes LeavesRange) ⊎ PosesOne bytes (λ p. Fits p × Q p (run_end budget p))
 from_end budget bytes a P Q none some (refused r h e) is = absurd (none (refusal_name r) (subst P e is))
 from_end budget bytes a P Q none some (unsupported at h e) is = absurd (none (placed (codes "Unsupported") at) (subst P e is))
 from_end budget bytes a P Q none some (posed p h (large l e)) is = absurd (none (codes "Large") (subst P e is))
 from_end budget bytes a P Q none some (posed p h (leaves l e)) is = inl (subst P e is, (p, h, l))
 from_end budget bytes a P Q none some (posed p h (runs f k)) is = inr (p, h, (f, some p (run_end budget p) a k is))
+
+-- a run that ends so, or saturated so
+parted : (budget : ℕ) (bytes : List ℕ) (Is : Ending run.Answer → Type 0) (So : Problem → Proof → Funds → Type 0) → PosesOne bytes (λ p. Fits p × (Is (run_end budget p) ⊎ SaturatedSo So p (run_end budget p)))
+    → Ends budget bytes Is ⊎ EndsSaturated budget bytes So
+parted budget bytes Is So (p, h, (f, inl k)) = inl (p, h, (f, k))
+parted budget bytes Is So (p, h, (f, inr k)) = inr (p, h, (f, k))
 
 not_left : {A B C : Type 0} → ¬ A → ((A × B) ⊎ C) → C
 not_left h (inl x) = absurd (h x.0)
@@ -112,6 +123,10 @@ not_left h (inr y) = y
 second_of : {A B C : Type 0} → ((A × B) ⊎ C) → B ⊎ C
 second_of (inl x) = inl x.1
 second_of (inr y) = inr y
+
+then_second : {A B C : Type 0} → (B → C) → A ⊎ B → A ⊎ C
+then_second f (inl a) = inl a
+then_second f (inr b) = inr (f b)
 
 refused_by : (budget : ℕ) (bytes : List ℕ) (a : Answer) → IsSolved budget bytes a → a.status ≡ 3 → IsRefused bytes
 refused_by budget bytes a (refused r h e) z = first r h
@@ -144,9 +159,22 @@ only_first budget bytes a solved r e (first q h) = comes_of bytes a r q e h (one
 only_first budget bytes a solved r e (special at h) = absurd (not_unsupported a r at e (one_answer budget bytes a _ solved (unsupported at h refl)))
 only_first budget bytes a solved r e (too_large h) = absurd (not_large a r e (one_answer budget bytes a _ solved (posed h.0 h.1 (large h.2 refl))))
 
-out_of_range : (budget : ℕ) (bytes : List ℕ) (a : Answer) → IsSolved budget bytes a → PosesOne bytes LeavesRange ⊎ Ends budget bytes IsOutOfRange → a ≡ unknown_answer (codes "overflow")
+-- where it ends saturated, it is that of the walk
+walked_as : (budget : ℕ) (bytes : List ℕ) (a : Answer) (So : Problem → Proof → Funds → Type 0) (P : Answer → Type 0) → IsSolved budget bytes a → ((p : Problem) (x : Proof) (left : Funds) → So p x left → P (saturated_answer p x left)) → EndsSaturated budget bytes So → P a
+walked_as budget bytes a So P solved so (p, h, (f, (log, x, stands, is, k))) = subst P (sym (ended budget bytes a p _ solved h f is)) (so p x stands.funds k)
+
+out_of_range : (budget : ℕ) (bytes : List ℕ) (a : Answer) → IsSolved budget bytes a → PosesOne bytes LeavesRange ⊎ (Ends budget bytes IsOutOfRange ⊎ EndsSaturated budget bytes IsCutByRange) → a ≡ unknown_answer (codes "overflow")
 out_of_range budget bytes a solved (inl h) = one_answer budget bytes a _ solved (posed h.0 h.1 (leaves h.2 refl))
-out_of_range budget bytes a solved (inr h) = ended budget bytes a h.0 _ solved h.1 h.2.0 h.2.1.2
+out_of_range budget bytes a solved (inr (inl h)) = ended budget bytes a h.0 _ solved h.1 h.2.0 h.2.1.2
+out_of_range budget bytes a solved (inr (inr h)) = walked_as budget bytes a IsCutByRange (λ b. b ≡ unknown_answer (codes "overflow")) solved range_answer h
+
+invalid_status : (budget : ℕ) (bytes : List ℕ) (a : Answer) → IsSolved budget bytes a → Ends budget bytes IsInvalid ⊎ EndsSaturated budget bytes IsWalked → a.status ≡ 1
+invalid_status budget bytes a solved (inl h) = ap status_of (ended budget bytes a h.0 _ solved h.1 h.2.0 h.2.1.3)
+invalid_status budget bytes a solved (inr h) = walked_as budget bytes a IsWalked (λ b. b.status ≡ 1) solved walked_status h
+
+out_of_steps_so : (budget : ℕ) (bytes : List ℕ) (a : Answer) → IsSolved budget bytes a → Ends budget bytes IsOutOfSteps ⊎ EndsSaturated budget bytes IsCutBySteps → a ≡ unknown_answer (codes "steps")
+out_of_steps_so budget bytes a solved (inl h) = ended budget bytes a h.0 _ solved h.1 h.2.0 h.2.1.1
+out_of_steps_so budget bytes a solved (inr h) = walked_as budget bytes a IsCutBySteps (λ b. b ≡ unknown_answer (codes "steps")) solved steps_answer h
 
 -- where the run of a problem without existential constants ends as valid, there are the lines of its blocks
 same_stand : (vs ws : List ℤ) (x y : Proof) (s t : At) → ends_with (run.valid vs x) s ≡ ends_with (run.valid ws y) t → s ≡ t
@@ -171,28 +199,26 @@ blocks_told p end a (overflow numbers stands is e) ws y left alone ends = let ba
 pub causes : (budget : ℕ) (bytes : List ℕ) (a : Answer) → IsSolved budget bytes a → Causes budget bytes a
 causes budget bytes a solved = record {
   valid = (
-    λ z. not_left (λ e. cc) (from_end budget bytes a (λ b. b.status ≡ 0) IsValid (λ name e. cc) valid_end solved z),
+    λ z. not_left (λ e. cc) (from_end budget bytes a (λ b. b.status ≡ 0) (λ p. IsValid) (λ name e. cc) valid_end solved z),
     λ h. valid_status budget bytes a h.0 solved h.1 h.2.0 h.2.1,
   );
   invalid = (
-    λ z. not_left (λ e. cc) (from_end budget bytes a (λ b. b.status ≡ 1) IsInvalid (λ name e. cc) invalid_end solved z),
-    λ h. ap status_of (ended budget bytes a h.0 _ solved h.1 h.2.0 h.2.1.3),
+    λ z. parted budget bytes IsInvalid IsWalked (not_left (λ e. cc) (from_end budget bytes a (λ b. b.status ≡ 1) (λ p end. IsInvalid end ⊎ SaturatedSo IsWalked p end) (λ name e. cc) invalid_end solved z)),
+    invalid_status budget bytes a solved,
   );
   steps = (
-    λ z. not_left (λ e. omega (arith, ap cause e)) (from_end budget bytes a (λ b. b ≡ unknown_answer (codes "steps")) IsOutOfSteps (λ name e. let bad = ap status_of e in cc) steps_end solved z),
-    λ h. ended budget bytes a h.0 _ solved h.1 h.2.0 h.2.1.1,
+    λ z. parted budget bytes IsOutOfSteps IsCutBySteps
+        (not_left (λ e. omega (arith, ap cause e)) (from_end budget bytes a (λ b. b ≡ unknown_answer (codes "steps")) (λ p end. IsOutOfSteps end ⊎ SaturatedSo IsCutBySteps p end) (λ name e. let bad = ap status_of e in cc) steps_end solved z)),
+    out_of_steps_so budget bytes a solved,
   );
   overflow = (
-    λ z. second_of (from_end budget bytes a (λ b. b ≡ unknown_answer (codes "overflow")) IsOutOfRange (λ name e. let bad = ap status_of e in cc) overflow_end solved z),
+    λ z. then_second (parted budget bytes IsOutOfRange IsCutByRange)
+        (second_of (from_end budget bytes a (λ b. b ≡ unknown_answer (codes "overflow")) (λ p end. IsOutOfRange end ⊎ SaturatedSo IsCutByRange p end) (λ name e. let bad = ap status_of e in cc) overflow_end solved z)),
     out_of_range budget bytes a solved,
   );
   branch = (
-    λ z. not_left (λ e. omega (arith, ap cause e)) (from_end budget bytes a (λ b. b ≡ unknown_answer (codes "branch")) IsTooLong (λ name e. let bad = ap status_of e in cc) branch_end solved z),
+    λ z. not_left (λ e. omega (arith, ap cause e)) (from_end budget bytes a (λ b. b ≡ unknown_answer (codes "branch")) (λ p. IsTooLong) (λ name e. let bad = ap status_of e in cc) branch_end solved z),
     λ h. ended budget bytes a h.0 _ solved h.1 h.2.0 h.2.1.1,
-  );
-  saturated = (
-    λ z. not_left (λ e. omega (arith, ap cause e)) (from_end budget bytes a (λ b. b ≡ unknown_answer (codes "saturated")) IsSaturated (λ name e. let bad = ap status_of e in cc) saturated_end solved z),
-    λ h. ended budget bytes a h.0 _ solved h.1 h.2.0 h.2.1.3,
   );
   refuses = (refused_by budget bytes a solved, refused_status budget bytes a solved);
   refused = λ r h. one_answer budget bytes a _ solved (refused r h refl);
@@ -207,8 +233,8 @@ causes budget bytes a solved = record {
 not_both : (b : Bool) → b ≡ true → b ≡ false → ⊥
 not_both b h k = let bad : true ≡ false = sym h ∙ k in cc
 
-pub decides : (budget : ℕ) (bytes : List ℕ) (a : Answer) → IsSolved budget bytes a → Decides budget bytes a
-decides budget bytes a solved p poses fits pure no_steps no_overflow = by (run_end budget p) refl
+pure_decided : (budget : ℕ) (bytes : List ℕ) (a : Answer) → IsSolved budget bytes a → (p : Problem) → Poses bytes p → Fits p → IsPure p → ¬ (IsOutOfSteps (run_end budget p)) → ¬ (IsOutOfRange (run_end budget p)) → (a.status ≡ 0) ⊎ (a.status ≡ 1)
+pure_decided budget bytes a solved p poses fits pure no_steps no_overflow = by (run_end budget p) refl
   where
     is_so : is_pure (problem_root p).value ≡ true
     is_so = (pure_is p).1 pure
@@ -220,3 +246,26 @@ decides budget bytes a solved p poses fits pure no_steps no_overflow = by (run_e
     by (ends_with run.too_long stands) is = absurd (not_both (is_pure (problem_root p).value) is_so (tells budget p (root_over p (reads_formed bytes p poses.reads)) _ stands is))
     by (out_of_steps stands) is = absurd (no_steps (stands, is))
     by (overflows numbers stands) is = absurd (no_overflow (numbers, stands, is))
+
+-- ---- each answer to a problem whose encoding fits
+
+walked_or_cut : (p : Problem) (x : Proof) (left : Funds) (a : Answer) → AnswersSaturated p x left a → IsDecidedOrCut a
+walked_or_cut p x left a (nowhere probe e) = inr (inl (ap status_of e))
+walked_or_cut p x left a (explained at c stands probe is e) = inr (inl (ap status_of e))
+walked_or_cut p x left a (short is e) = inr (inr (inl e))
+walked_or_cut p x left a (past is e) = inr (inr (inr (inl e)))
+
+decided_or_cut : (p : Problem) (end : Ending run.Answer) (a : Answer) → AnswersEnd p end a → IsDecidedOrCut a
+decided_or_cut p end a (closed vs x stands text is none told e) = inl (ap status_of e)
+decided_or_cut p end a (valid vs x stands text is some printed e) = inl (ap status_of e)
+decided_or_cut p end a (invalid log x stands is e) = inr (inl (ap status_of e))
+decided_or_cut p end a (saturated log x stands is told) = walked_or_cut p x stands.funds a told
+decided_or_cut p end a (branch stands is e) = inr (inr (inr (inr e)))
+decided_or_cut p end a (steps stands is e) = inr (inr (inl e))
+decided_or_cut p end a (overflow numbers stands is e) = inr (inr (inr (inl e)))
+
+pub decides : (budget : ℕ) (bytes : List ℕ) (a : Answer) → IsSolved budget bytes a → Decides budget bytes a
+decides budget bytes a solved = record {
+  pure = pure_decided budget bytes a solved;
+  universal = λ p poses fits universal. (λ none. one_round_ends (problem_root p).value (length p.existentials) 0 (root_somes p universal) none, decided_or_cut p (run_end budget p) a (run_answered budget bytes a p solved poses fits));
+}

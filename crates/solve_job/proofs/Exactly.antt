@@ -25,6 +25,7 @@ use Rattle.problem_file.proofs.Encoded.{fitting_answered, one_of_encoded, root_s
 use Rattle.interpolant_lines.proofs.Listing.{block_lines, lines_are, same_list}
 use Rattle.answers.specs.declared.form.ProofForm.{ProofForm}
 use Rattle.solve_job.specs.Proved.{AnswersRunAs, IsPart, IsSolvedAs, PrintsEnd, PrintsProof, charges_of, extended}
+use Rattle.solve_job.proofs.Saturated.{saturated_answer, saturated_by, saturated_same, saturated_status}
 use Rattle.solve_job.specs.Solved.{closed_answer, valid_answer, AnswersEnd, closed, valid, invalid, saturated, branch, steps, overflow, run_end, AnswersRun, IsSolved}
 
 -- ---- one answer to each end
@@ -38,7 +39,7 @@ found_answer p (name ∷ names) x vs left = valid_answer p (dnf_text p (given x)
 abbrev pub end_answer : Problem → Ending run.Answer → Answer
 end_answer p (ends_with (run.valid vs x) stands) = found_answer p p.existentials x vs stands.funds
 end_answer p (ends_with (run.invalid log x) stands) = says_line 1 (codes "INVALID")
-end_answer p (ends_with (run.saturated log x) stands) = unknown_answer (codes "saturated")
+end_answer p (ends_with (run.saturated log x) stands) = saturated_answer p x stands.funds
 end_answer p (ends_with run.too_long stands) = unknown_answer (codes "branch")
 end_answer p (out_of_steps stands) = unknown_answer (codes "steps")
 end_answer p (overflows numbers stands) = unknown_answer (codes "overflow")
@@ -55,7 +56,7 @@ by_end p end a (closed vs x stands text is none told e) =
 by_end p end a (valid vs x stands text is some printed e) =
     e ∙ ap (λ t. valid_answer p t vs) printed.text ∙ found_some p x vs stands.funds p.existentials some ∙ sym (ap (end_answer p) is)
 by_end p end a (invalid log x stands is e) = e ∙ sym (ap (end_answer p) is)
-by_end p end a (saturated log x stands is e) = e ∙ sym (ap (end_answer p) is)
+by_end p end a (saturated log x stands is told) = saturated_by p x stands.funds a told ∙ sym (ap (end_answer p) is)
 by_end p end a (branch stands is e) = e ∙ sym (ap (end_answer p) is)
 by_end p end a (steps stands is e) = e ∙ sym (ap (end_answer p) is)
 by_end p end a (overflow numbers stands is e) = e ∙ sym (ap (end_answer p) is)
@@ -75,7 +76,7 @@ same_end p q end a same (closed vs x stands text is none told e) =
 same_end p q end a same (valid vs x stands text is some printed e) =
     valid vs x stands text is (λ none. some (same.existentials ∙ none)) (text_same p q (given x) text same printed) (e ∙ valid_answer_same p q text vs same)
 same_end p q end a same (invalid log x stands is e) = invalid log x stands is e
-same_end p q end a same (saturated log x stands is e) = saturated log x stands is e
+same_end p q end a same (saturated log x stands is told) = saturated log x stands is (saturated_same p q x stands.funds a same told)
 same_end p q end a same (branch stands is e) = branch stands is e
 same_end p q end a same (steps stands is e) = steps stands is e
 same_end p q end a same (overflow numbers stands is e) = overflow numbers stands is e
@@ -104,7 +105,7 @@ end_status : (p : Problem) (end : Ending run.Answer) (a : Answer) → AnswersEnd
 end_status p end a (closed vs x stands text is none told e) = subst (λ b. IsAnswerStatus b.status) (sym e) refl
 end_status p end a (valid vs x stands text is some printed e) = subst (λ b. IsAnswerStatus b.status) (sym e) refl
 end_status p end a (invalid log x stands is e) = subst (λ b. IsAnswerStatus b.status) (sym e) refl
-end_status p end a (saturated log x stands is e) = subst (λ b. IsAnswerStatus b.status) (sym e) refl
+end_status p end a (saturated log x stands is told) = saturated_status p x stands.funds a told
 end_status p end a (branch stands is e) = subst (λ b. IsAnswerStatus b.status) (sym e) refl
 end_status p end a (steps stands is e) = subst (λ b. IsAnswerStatus b.status) (sym e) refl
 end_status p end a (overflow numbers stands is e) = subst (λ b. IsAnswerStatus b.status) (sym e) refl

@@ -4,4 +4,6 @@ pub mod Grounded
 pub mod Meaning
 mod Outcomes
 mod Own
+pub mod Saturated
+mod Refuted
 pub mod Printing

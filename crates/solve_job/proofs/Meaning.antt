@@ -1,11 +1,12 @@
 -- What the answers of `solve` mean.
-use Rattle.std.proofs.Common.{◌≡◌, ◌≢◌, ℕ, ℤ, List, [], ◌∷◌, ◌++◌, length, refl, sym, ◌∙◌, ap, codes, arith}
+use Rattle.std.proofs.Common.{◌≡◌, ◌≢◌, ◌⊎◌, inl, inr, ℕ, ℤ, List, [], ◌∷◌, ◌++◌, length, refl, sym, ◌∙◌, ap, subst, codes, None, Some, arith}
 use Rattle.typed_formula.specs.Truth.{Meaning}
-use Rattle.purse.specs.Trace.{At}
+use Rattle.purse.specs.Trace as trace
+use Rattle.purse.specs.Trace.{At, End, Funds, cut, done, out_of_range, refused as stopped}
 use Rattle.proof_tree.specs.Proof.{Proof, given}
 use Rattle.search.specs.Meaning.{IsFound, Tells}
 use Rattle.search.specs.Run as run
-use Rattle.search.specs.Run.{Ending, ends_with, out_of_steps, overflows}
+use Rattle.search.specs.Run.{Ending, ended, ends_with, out_of_steps, overflows}
 use Rattle.encoding.specs.Problems.{problem_root}
 use Rattle.encoding.proofs.Problems.{holds_is, pure_is, root_over}
 use Rattle.pri_typing.specs.declared.problem.Problem.{Problem}
@@ -26,7 +27,13 @@ use Rattle.pri_typing.specs.declared.problem.Cut.{Cut}
 use Rattle.problem_file.proofs.Reduced.{problem_reduced}
 use Rattle.solve_job.specs.Solved.{AnswersEnd, closed, valid, invalid, saturated, branch, steps, overflow, run_end, IsSolved}
 use Rattle.solve_job.specs.Headline as headline_words
-use Rattle.solve_job.specs.Headline.{Constrains, Headline}
+use Rattle.solve_job.specs.Explained.{AnswersSaturated, explained, nowhere, past, short}
+use Rattle.solve_job.specs.Headline.{Constrains, Headline, Shows}
+use Rattle.countermodel.specs.Explaining.{explaining}
+use Rattle.countermodel.specs.Probes.{probe_values}
+use Rattle.open_trees.specs.Open.{IsSaturated}
+use Rattle.solve_job.proofs.Saturated.{one_or_two}
+use Rattle.solve_job.proofs.Refuted.{explained_is, refuted_is, saturated_is}
 use Rattle.search.proofs.Telling.{answer_tells}
 
 -- what the answer of a run on the encoded problem says of it
@@ -63,6 +70,29 @@ no_blocks p plain some = by p.cuts refl
     by [] is = is
     by (b ∷ bs) is = absurd (some (plain.alone (let many = ap length is in omega (arith, many))))
 
+not_valid : {n : ℕ} → (n ≡ 1) ⊎ (n ≡ 2) → n ≡ 0 → ⊥
+not_valid (inl h) z = cc
+not_valid (inr h) z = cc
+
+walk_value : {A : Type 0} (v a : A) (e : End) (b : At) → ended v e ≡ ends_with a b → v ≡ a
+walk_value v a (done c) b h = cc
+walk_value v a (stopped c) b h = absurd (cc)
+walk_value v a (out_of_range ps c) b h = absurd (cc)
+
+-- the answer to a saturated run shows its counterexample
+shown : (p : Problem) (x : Proof) (left : Funds) (a : Answer) → IsWellFormed p → IsSaturated (problem_root p).value (length p.existentials) x → AnswersSaturated p x left a → a.status ≡ 1
+    → (values : List ℤ) → probe_values p.existential_types ≡ Some values → Shows p values a.text
+shown p x left a formed open_tree (nowhere none e) z values probe = let bad : None ≡ Some values = sym none ∙ probe in absurd (cc)
+shown p x left a formed open_tree (explained at c stands some is e) z values probe =
+    let same : at ≡ values = (let two : Some at ≡ Some values = sym some ∙ probe in cc) in
+    subst (λ v. Shows p v a.text) same (record {
+      found = c;
+      is = explained_is p x at c formed open_tree some (walk_value (explaining p x at).value (Some c) (cut (explaining p x at).events (trace.at left [])) stands is);
+      told = ap (λ b. b.text) e;
+    })
+shown p x left a formed open_tree (short is e) z values probe = let bad = sym z ∙ ap (λ b. b.status) e in absurd cc
+shown p x left a formed open_tree (past is e) z values probe = let bad = sym z ∙ ap (λ b. b.status) e in absurd cc
+
 end_means : (w : Meaning) (budget : ℕ) (bytes : List ℕ) (p : Problem) (a : Answer) → Poses bytes p → AnswersEnd p (run_end budget p) a → Headline w bytes a
 end_means w budget bytes p a poses (closed vs x stands text is none told e) =
     let formed = reads_formed bytes p poses.reads in
@@ -86,9 +116,28 @@ end_means w budget bytes p a poses (valid vs x stands text is some printed e) = 
 }
 end_means w budget bytes p a poses (invalid log x stands is e) = record {
   valid = λ z. let bad = sym z ∙ ap (λ b. b.status) e in absurd cc;
-  invalid = λ z. record { problem = p; reads = poses.reads; refuted = (let lost = tells budget p (root_over p (reads_formed bytes p poses.reads)) _ stands is in lost_refuted p (reads_formed bytes p poses.reads) lost.pure lost.fails) };
+  invalid = λ z.
+      let formed = reads_formed bytes p poses.reads in
+      let lost = tells budget p (root_over p formed) _ stands is in
+      record {
+        problem = p;
+        reads = poses.reads;
+        refuted = lost_refuted p formed lost.pure lost.fails;
+        shows = λ impure values probe. absurd (impure ((pure_is p).0 lost.pure));
+      };
 }
-end_means w budget bytes p a poses (saturated log x stands is e) = silent w bytes a 2 (ap (λ b. b.status) e) (λ z. cc) (λ z. cc)
+end_means w budget bytes p a poses (saturated log x stands is told) = record {
+  valid = λ z. absurd (not_valid (one_or_two p x stands.funds a told) z);
+  invalid = λ z.
+      let formed = reads_formed bytes p poses.reads in
+      let open_tree = saturated_is budget p (root_over p formed) log x stands is in
+      record {
+        problem = p;
+        reads = poses.reads;
+        refuted = refuted_is p x formed open_tree;
+        shows = λ impure values probe. shown p x stands.funds a formed open_tree told z values probe;
+      };
+}
 end_means w budget bytes p a poses (branch stands is e) = silent w bytes a 2 (ap (λ b. b.status) e) (λ z. cc) (λ z. cc)
 end_means w budget bytes p a poses (steps stands is e) = silent w bytes a 2 (ap (λ b. b.status) e) (λ z. cc) (λ z. cc)
 end_means w budget bytes p a poses (overflow numbers stands is e) = silent w bytes a 2 (ap (λ b. b.status) e) (λ z. cc) (λ z. cc)

@@ -1,22 +1,23 @@
 -- An answer with a proof behind it, and the answer without it.
-use Rattle.std.proofs.Common.{◌≡◌, ◌≢◌, ◌∙◌, ◌≤◌, ℕ, ℤ, List, [], ◌++◌, length, Option, Some, None, Result, Ok, Err, IfOk, refl, sym, ap, subst, append_assoc, append-nil, codes, arith}
+use Rattle.std.proofs.Common.{◌≡◌, ◌≢◌, ◌⊎◌, inl, inr, ◌∙◌, ◌≤◌, ℕ, ℤ, List, [], ◌++◌, length, Option, Some, None, Result, Ok, Err, IfOk, refl, sym, ap, subst, append_assoc, append-nil, codes, arith}
 use Rattle.linear_term.specs.declared.range.Memory.{Memory}
 use Rattle.purse.specs.Runs.{total}
 use Rattle.purse.specs.Trace.{Funds, At, at}
+use Rattle.clause_set.specs.declared.literal.Literal.{Literal}
 use Rattle.formula.specs.Form.{Form, IsFormOver}
 use Rattle.formula.specs.Reduced.{HasReducedTerms}
 use Rattle.formula.specs.Tree.{form}
 use Rattle.proof_tree.specs.declared.node.Conclusion.{Conclusion}
 use Rattle.proof_tree.specs.declared.node.Conclusion.TheVariants.{Solution, Nothing}
 use Rattle.proof_tree.specs.declared.node.Tree.{Tree}
+use Rattle.proof_tree.specs.declared.run.Run.{Run}
+use Rattle.proof_tree.specs.declared.run.Why.{Why}
 use Rattle.proof_tree.specs.declared.run.Why.TheVariants as why
 use Rattle.proof_tree.specs.Proof.{Proof}
 use Rattle.proof_tree.specs.Proves.{proof_walk}
 use Rattle.proof_tree.specs.Views.{proof_of}
-use Rattle.search.specs.declared.judge.Decided.{Decided}
-use Rattle.search.specs.declared.judge.Outcome.{Outcome}
-use Rattle.search.specs.declared.judge.Outcome.TheVariants.{Valid, Invalid, Unknown}
-use Rattle.search.specs.Outcomes.{EndsAs, IsTree, bare}
+use Rattle.search.specs.declared.judge.Outcome.TheVariants.{Valid, Invalid, Saturated, Unknown}
+use Rattle.search.specs.Outcomes.{EndsAs, IsTree}
 use Rattle.search.specs.Run as run
 use Rattle.search.specs.Run.{Ending, ends_with, out_of_steps, overflows}
 use Rattle.proof_text.specs.Spellings.{spelled}
@@ -24,25 +25,27 @@ use Rattle.tree_text.specs.Shaped.{Holds}
 use Rattle.canonical_proofs.proofs.Proving.{proved_invalid, proved_valid}
 use Rattle.purse.specs.declared.log.Entry.{Entry}
 use Rattle.proof_tree.specs.declared.run.Verdict.TheVariants as verdict
-use Rattle.encoding.proofs.Problems.{root_over}
+use Rattle.encoding.proofs.Problems.{pure_is, root_over}
 use Rattle.encoding.specs.Problems.{problem_root}
 use Rattle.function_encoding.specs.declared.answer.Encoded.{Encoded}
 use Rattle.pri_typing.specs.declared.problem.Problem.{Problem}
+use Rattle.pri_typing.specs.Problems.{IsPure}
 use Rattle.answers.specs.Answer.{Answer, answer_of}
 use Rattle.answers.specs.declared.output.Output.{Output}
 use Rattle.problem_file.specs.Answers.{Poses, refused, unsupported, posed}
 use Rattle.problem_file.specs.Encoded.{Fits, IsEncoded, large, leaves, runs}
-use Rattle.solve_job.specs.Proved.{AnswersRunAs, IsPart, IsParted, IsProofTold, IsSolvedAs, PrintsEnd, PrintsIfAny, PrintsProof, PrintsProofOf, PrintsTree, ProvesValid, charges_of, extended, form_text, tree_of}
+use Rattle.solve_job.specs.Proved.{AnswersRunAs, IsPart, IsParted, IsProofTold, IsSolvedAs, PrintsAsked, PrintsEnd, PrintsProof, PrintsProofOf, PrintsTree, ProvesInvalid, ProvesValid, charges_of, extended, form_text}
 use Rattle.answers.specs.declared.form.ProofForm.{ProofForm}
-use Rattle.solve_job.specs.Solved.{AnswersEnd, IsSolved, branch, closed, invalid, overflow, run_end, saturated, steps, valid}
-use Rattle.solve_job.specs.Shaping.{CanBePrinted}
-use Rattle.solve_job.specs.Told.{TellsOutcome}
+use Rattle.solve_job.specs.Solved.{AnswersEnd, AnswersRun, IsSolved, branch, closed, invalid, overflow, run_end, saturated, steps, valid}
+use Rattle.solve_job.specs.Shaping.{IsPrintable}
 use Rattle.constraint_lines.proofs.Sizes.{small_depth, small_size}
 use Rattle.printed_proofs.specs.Bounds.{IsSearched}
 use Rattle.printed_proofs.proofs.Printed.{invalid_outcome, valid_outcome}
 use Rattle.problem_file.proofs.Bytes.{reads_formed}
 use Rattle.problem_file.proofs.Reduced.{problem_reduced}
-use Rattle.solve_job.proofs.Outcomes.{run_is, start, told_so}
+use Rattle.solve_job.proofs.Outcomes.{run_is, start}
+use Rattle.solve_job.proofs.Saturated.{one_or_two}
+use Rattle.solve_job.proofs.Meaning.{tells}
 use Rattle.solve_job.proofs.Own.{own_text}
 
 unextended : (a : Answer) → a ≡ extended a []
@@ -58,10 +61,13 @@ searched p e h few = record {
   constants = subst (λ n. n ≤ 1000) (sym h.constants) few;
 }
 
-pub printable : (budget : ℕ) (p : Problem) (e : Encoded) → IsEncoded p e → length p.existentials ≤ 1000 → budget ≤ 1000000000 → (o : Outcome) (new : Funds) → EndsAs (form e.root) e.constants (start budget) (Ok o) new → CanBePrinted (tree_of o)
-printable budget p e h few most (Valid d vs t) new k = λ typed conclusion. valid_outcome (form e.root) e.constants (start budget) new d vs t (searched p e h few) (omega (arith, most)) k typed
-printable budget p e h few most (Invalid d t) new k = λ typed conclusion. invalid_outcome (form e.root) e.constants (start budget) new d t (searched p e h few) (omega (arith, most)) k typed
-printable budget p e h few most (Unknown y r) new k = tt
+pub valid_printable : (budget : ℕ) (p : Problem) (e : Encoded) → IsEncoded p e → length p.existentials ≤ 1000 → budget ≤ 1000000000 → (d : List (List Literal)) (vs : List ℤ) (t : Tree) (new : Funds)
+    → EndsAs (form e.root) e.constants (start budget) (Ok (Valid d vs t)) new → IsPrintable t
+valid_printable budget p e h few most d vs t new k = λ typed conclusion. valid_outcome (form e.root) e.constants (start budget) new d vs t (searched p e h few) (omega (arith, most)) k typed
+
+pub invalid_printable : (budget : ℕ) (p : Problem) (e : Encoded) → IsEncoded p e → length p.existentials ≤ 1000 → budget ≤ 1000000000 → (d : List (List Literal)) (t : Tree) (new : Funds)
+    → EndsAs (form e.root) e.constants (start budget) (Ok (Invalid d t)) new → IsPrintable t
+invalid_printable budget p e h few most d t new k = λ typed conclusion. invalid_outcome (form e.root) e.constants (start budget) new d t (searched p e h few) (omega (arith, most)) k typed
 
 -- ---- the text of the proof behind an answer
 pub printed_behind : (form : ProofForm) (t : Tree) (status : ℕ) (old mid out : List ℕ) → mid ≡ old ++ codes "proof:\n" → out ≡ mid ++ spelled (form_text form t.charges (proof_of t.root) t.conclusion)
@@ -97,49 +103,48 @@ tree_prints wanted p e h x c t part is prints =
       own = prints.own;
     }
 
-end_prints : (wanted : ProofForm) (budget : ℕ) (p : Problem) (e : Encoded) → IsEncoded p e → (o : Outcome) (new : Funds) (part : List ℕ) → EndsAs (form e.root) e.constants (start budget) (Ok o) new → PrintsIfAny wanted (tree_of o) part
-    → PrintsEnd wanted p (run_end budget p) part
-end_prints wanted budget p e h (Valid d vs t) new part k prints =
+-- the part with the proof of a valid or an invalid run
+pub valid_part_told : (asked : Option ProofForm) (budget : ℕ) (p : Problem) (e : Encoded) → IsEncoded p e → (d : List (List Literal)) (vs : List ℤ) (t : Tree) (new : Funds) (part : List ℕ)
+    → EndsAs (form e.root) e.constants (start budget) (Ok (Valid d vs t)) new → PrintsAsked asked t part → IsPart asked p (run_end budget p) part
+valid_part_told None budget p e h d vs t new part k prints = prints
+valid_part_told (Some wanted) budget p e h d vs t new part k prints =
     subst (λ end. PrintsEnd wanted p end part) (sym k.2 ∙ run_is budget p e h) (tree_prints wanted p e h k.1 (Solution vs) t part k.4 prints)
-end_prints wanted budget p e h (Invalid d t) new part k prints =
+
+pub invalid_part_told : (asked : Option ProofForm) (budget : ℕ) (p : Problem) (e : Encoded) → IsEncoded p e → (d : List (List Literal)) (t : Tree) (new : Funds) (part : List ℕ)
+    → EndsAs (form e.root) e.constants (start budget) (Ok (Invalid d t)) new → PrintsAsked asked t part → IsPart asked p (run_end budget p) part
+invalid_part_told None budget p e h d t new part k prints = prints
+invalid_part_told (Some wanted) budget p e h d t new part k prints =
     subst (λ end. PrintsEnd wanted p end part) (sym k.3 ∙ run_is budget p e h) (tree_prints wanted p e h k.2 (Nothing k.1) t part k.5 prints)
-end_prints wanted budget p e h (Unknown why.Saturated r) new part k prints = subst (λ end. PrintsEnd wanted p end part) (sym k.3 ∙ run_is budget p e h) prints
-end_prints wanted budget p e h (Unknown why.Branch r) new part k prints = subst (λ end. PrintsEnd wanted p end part) (sym k.1 ∙ run_is budget p e h) prints
-end_prints wanted budget p e h (Unknown why.Steps r) new part k prints = subst (λ end. PrintsEnd wanted p end part) (sym k.1 ∙ run_is budget p e h) prints
-end_prints wanted budget p e h (Unknown (why.Overflow place) r) new part k prints = subst (λ end. PrintsEnd wanted p end part) (sym k.2 ∙ run_is budget p e h) prints
 
--- the answer without a proof
-pub told_plain : (budget : ℕ) (p : Problem) (e : Encoded) → IsEncoded p e → (o : Outcome) (new : Funds) → EndsAs (form e.root) e.constants (start budget) (Ok o) new → (asked : Option ProofForm) → asked ≡ None → (out : Output)
-    → TellsOutcome p new (bare o) (answer_of out) → AnswersRunAs asked budget p (answer_of out)
-told_plain budget p e h o new k asked off out told = record {
-  plain = answer_of out;
-  answers = told_so budget p e h o new k (Ok out) told;
-  part = [];
-  is_part = subst (λ b. IsPart b p (run_end budget p) []) (sym off) refl;
-  whole = unextended (answer_of out);
-}
+-- every other run has none
+pub saturated_part : (asked : Option ProofForm) (budget : ℕ) (p : Problem) (e : Encoded) → IsEncoded p e → (d : List (List Literal)) (t : Tree) (new : Funds) → EndsAs (form e.root) e.constants (start budget) (Ok (Saturated d t)) new
+    → IsPart asked p (run_end budget p) []
+saturated_part None budget p e h d t new k = refl
+saturated_part (Some wanted) budget p e h d t new k = subst (λ end. PrintsEnd wanted p end []) (sym k.3 ∙ run_is budget p e h) refl
 
--- the answer with its proof
-pub told_proved : (budget : ℕ) (p : Problem) (e : Encoded) → IsEncoded p e → (o : Outcome) (new : Funds) → EndsAs (form e.root) e.constants (start budget) (Ok o) new → (asked : Option ProofForm) (wanted : ProofForm) → asked ≡ Some wanted
-    → (plain : Output) → TellsOutcome p new (bare o) (answer_of plain) → (r : Result Output Memory) → IfOk r (λ out. IsProofTold wanted (tree_of o) (answer_of plain) (answer_of out)) → IfOk r (λ out. AnswersRunAs asked budget p (answer_of out))
-told_proved budget p e h o new k asked wanted on plain told (Ok out) is = record {
-  plain = answer_of plain;
-  answers = told_so budget p e h o new k (Ok plain) told;
-  part = is.part;
-  is_part = subst (λ b. IsPart b p (run_end budget p) is.part) (sym on) (end_prints wanted budget p e h o new is.part k is.prints);
-  whole = is.whole;
-}
-told_proved budget p e h o new k asked wanted on plain told (Err m) is = tt
+pub unknown_part : (asked : Option ProofForm) (budget : ℕ) (p : Problem) (e : Encoded) → IsEncoded p e → (y : Why) (r : Run) (new : Funds) → EndsAs (form e.root) e.constants (start budget) (Ok (Unknown y r)) new
+    → IsPart asked p (run_end budget p) []
+unknown_part None budget p e h y r new k = refl
+unknown_part (Some wanted) budget p e h why.Branch r new k = subst (λ end. PrintsEnd wanted p end []) (sym k.1 ∙ run_is budget p e h) refl
+unknown_part (Some wanted) budget p e h why.Steps r new k = subst (λ end. PrintsEnd wanted p end []) (sym k.1 ∙ run_is budget p e h) refl
+unknown_part (Some wanted) budget p e h (why.Overflow place) r new k = subst (λ end. PrintsEnd wanted p end []) (sym k.2 ∙ run_is budget p e h) refl
 
--- what is told of the tree is told of the outcome
-pub proof_told : (wanted : ProofForm) (t u : Option Tree) (plain : Answer) (r : Result Output Memory) → t ≡ u → IfOk r (λ out. IsProofTold wanted t plain (answer_of out)) → IfOk r (λ out. IsProofTold wanted u plain (answer_of out))
-proof_told wanted t u plain r same h = subst (λ x. IfOk r (λ out. IsProofTold wanted x plain (answer_of out))) same h
+-- ---- the whole answer
+-- an answer without a part behind it
+pub alone_as : (asked : Option ProofForm) (budget : ℕ) (p : Problem) (r : Result Output Memory) → IsPart asked p (run_end budget p) [] → IfOk r (λ out. AnswersRun budget p (answer_of out)) → IfOk r (λ out. AnswersRunAs asked budget p (answer_of out))
+alone_as asked budget p (Ok out) none answers = record { plain = answer_of out; answers = answers; part = []; is_part = none; whole = unextended (answer_of out) }
+alone_as asked budget p (Err m) none answers = tt
 
--- the answer without a proof, of what is told of the outcome
-pub decided_told : (budget : ℕ) (p : Problem) (e : Encoded) → IsEncoded p e → (o : Outcome) (new : Funds) (d : Decided) → EndsAs (form e.root) e.constants (start budget) (Ok o) new → bare o ≡ d → (r : Result Output Memory)
-    → IfOk r (λ out. TellsOutcome p new d (answer_of out)) → IfOk r (λ out. AnswersRunAs None budget p (answer_of out))
-decided_told budget p e h o new d k same (Ok out) told = told_plain budget p e h o new k None refl out (subst (λ x. TellsOutcome p new x (answer_of out)) (sym same) told)
-decided_told budget p e h o new d k same (Err m) told = tt
+-- an answer with the proof behind it that is asked for
+pub proved_as : (asked : Option ProofForm) (budget : ℕ) (p : Problem) (t : Tree) (plain : Output) (r : Result Output Memory) → AnswersRun budget p (answer_of plain) → ((part : List ℕ) → PrintsAsked asked t part → IsPart asked p (run_end budget p) part)
+    → IfOk r (λ out. IsProofTold asked t (answer_of plain) (answer_of out)) → IfOk r (λ out. AnswersRunAs asked budget p (answer_of out))
+proved_as asked budget p t plain (Ok out) answers part told = record { plain = answer_of plain; answers = answers; part = told.part; is_part = part told.part told.prints; whole = told.whole }
+proved_as asked budget p t plain (Err m) answers part told = tt
+
+-- what is so of each answer of a call is so of its answer
+pub if_ok : {P Q : Answer → Type 0} (r : Result Output Memory) → ((a : Answer) → P a → Q a) → IfOk r (λ out. P (answer_of out)) → IfOk r (λ out. Q (answer_of out))
+if_ok (Ok out) f h = f (answer_of out) h
+if_ok (Err m) f h = tt
 
 -- ---- the answer without its proof
 not_asked : (budget : ℕ) (bytes : List ℕ) (a : Answer) (asked : Option ProofForm) → IsSolved budget bytes a → a.status ≢ 0 → a.status ≢ 1 → IsParted asked budget bytes a
@@ -191,6 +196,15 @@ invalid_part wanted budget bytes p log x stands part poses fits is prints = reco
   proves = proved_invalid (problem_root p).value (length p.existentials) (funds budget) (record { entries = log }) x stands (root_over p (reads_formed bytes p poses.reads)) (problem_reduced p) is;
 }
 
+-- where a run ends saturated the problem has a predicate or a function
+pub impure_is : (budget : ℕ) (bytes : List ℕ) (p : Problem) (log : List Entry) (x : Proof) (stands : At) → Poses bytes p → run_end budget p ≡ ends_with (run.saturated log x) stands → ¬ (IsPure p)
+impure_is budget bytes p log x stands poses is pure =
+    let bad = sym ((pure_is p).1 pure) ∙ tells budget p (root_over p (reads_formed bytes p poses.reads)) (run.saturated log x) stands is in absurd (cc)
+
+not_zero : {n : ℕ} → (n ≡ 1) ⊎ (n ≡ 2) → n ≡ 0 → ⊥
+not_zero (inl h) z = cc
+not_zero (inr h) z = cc
+
 end_valid : (wanted : ProofForm) (budget : ℕ) (bytes : List ℕ) (p : Problem) (a : Answer) (part : List ℕ) → Poses bytes p → Fits p → AnswersEnd p (run_end budget p) a → PrintsEnd wanted p (run_end budget p) part → a.status ≡ 0
     → ProvesValid wanted bytes a.text part
 unfolding valid_part
@@ -205,17 +219,17 @@ end_valid wanted budget bytes p a part poses fits (valid vs x stands text is som
   told = λ _. (text, printed, ap (λ b. b.text) e);
 }
 end_valid wanted budget bytes p a part poses fits (invalid log x stands is e) prints z = let bad = sym z ∙ ap (λ b. b.status) e in absurd cc
-end_valid wanted budget bytes p a part poses fits (saturated log x stands is e) prints z = let bad = sym z ∙ ap (λ b. b.status) e in absurd cc
+end_valid wanted budget bytes p a part poses fits (saturated log x stands is told) prints z = absurd (not_zero (one_or_two p x stands.funds a told) z)
 end_valid wanted budget bytes p a part poses fits (branch stands is e) prints z = let bad = sym z ∙ ap (λ b. b.status) e in absurd cc
 end_valid wanted budget bytes p a part poses fits (steps stands is e) prints z = let bad = sym z ∙ ap (λ b. b.status) e in absurd cc
 end_valid wanted budget bytes p a part poses fits (overflow numbers stands is e) prints z = let bad = sym z ∙ ap (λ b. b.status) e in absurd cc
 
 end_invalid : (wanted : ProofForm) (budget : ℕ) (bytes : List ℕ) (p : Problem) (a : Answer) (part : List ℕ) → Poses bytes p → Fits p → AnswersEnd p (run_end budget p) a → PrintsEnd wanted p (run_end budget p) part → a.status ≡ 1
-    → PrintsProofOf wanted bytes verdict.Invalid part
+    → ProvesInvalid wanted bytes part
 end_invalid wanted budget bytes p a part poses fits (closed vs x stands text is none told e) prints z = let bad = sym z ∙ ap (λ b. b.status) e in absurd cc
 end_invalid wanted budget bytes p a part poses fits (valid vs x stands text is some printed e) prints z = let bad = sym z ∙ ap (λ b. b.status) e in absurd cc
-end_invalid wanted budget bytes p a part poses fits (invalid log x stands is e) prints z = invalid_part wanted budget bytes p log x stands part poses fits is prints
-end_invalid wanted budget bytes p a part poses fits (saturated log x stands is e) prints z = let bad = sym z ∙ ap (λ b. b.status) e in absurd cc
+end_invalid wanted budget bytes p a part poses fits (invalid log x stands is e) prints z = inl (invalid_part wanted budget bytes p log x stands part poses fits is prints)
+end_invalid wanted budget bytes p a part poses fits (saturated log x stands is told) prints z = inr (subst (λ end. PrintsEnd wanted p end part) is prints, (p, poses, impure_is budget bytes p log x stands poses is))
 end_invalid wanted budget bytes p a part poses fits (branch stands is e) prints z = let bad = sym z ∙ ap (λ b. b.status) e in absurd cc
 end_invalid wanted budget bytes p a part poses fits (steps stands is e) prints z = let bad = sym z ∙ ap (λ b. b.status) e in absurd cc
 end_invalid wanted budget bytes p a part poses fits (overflow numbers stands is e) prints z = let bad = sym z ∙ ap (λ b. b.status) e in absurd cc

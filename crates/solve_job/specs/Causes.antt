@@ -1,14 +1,15 @@
 -- Where each answer of `solve` comes.
-use Rattle.std.specs.Prelude.{◌≡◌, ◌↔◌, ◌⊎◌, ℕ, ℤ, List, [], ◌++◌, codes}
+use Rattle.std.specs.Prelude.{◌≡◌, ◌≢◌, ◌↔◌, ◌⊎◌, ℕ, ℤ, List, [], ◌++◌, codes, length, None}
 use Rattle.std.specs.List.{concat}
 use Rattle.linear_term.specs.declared.range.Place.{Place}
 use Rattle.purse.specs.declared.log.Entry.{Entry}
 use Rattle.purse.specs.Trace.{Funds, At}
 use Rattle.proof_tree.specs.Proof.{Proof}
 use Rattle.search.specs.Run as run
-use Rattle.search.specs.Run.{Ending, ends_with, out_of_steps, overflows}
+use Rattle.search.specs.Run.{Ending, ends_with, one_round, out_of_steps, overflows}
+use Rattle.encoding.specs.Problems.{problem_root}
 use Rattle.pri_typing.specs.declared.problem.Problem.{Problem}
-use Rattle.pri_typing.specs.Problems.{IsPure}
+use Rattle.pri_typing.specs.Problems.{IsPure, IsUniversal}
 use Rattle.answers.specs.Answer.{Answer, line, placed, refused_answer, unknown_answer}
 use Rattle.problem_file.specs.Reads.{Refusal, FirstRefusal}
 use Rattle.problem_file.specs.Refusals.{refusal_name}
@@ -16,6 +17,7 @@ use Rattle.problem_file.specs.Answers.{Poses, PosesOne, PosesUnsupported}
 use Rattle.problem_file.specs.Encoded.{Fits, IsLarge, LeavesRange}
 use Rattle.problem_file.specs.Refused.{ComesOf, IsRefused}
 use Rattle.interpolant_lines.specs.Causes.{AreBlocksCaused}
+use Rattle.solve_job.specs.Explained.{IsCutByRange, IsCutBySteps, IsWalked}
 use Rattle.solve_job.specs.Solved.{run_end}
 
 -- the ends of a run
@@ -41,6 +43,11 @@ IsOutOfRange end = (numbers : List Place) × (stands : At) × (end ≡ overflows
 abbrev pub Ends : ℕ → List ℕ → (Ending run.Answer → Type 0) → Type 0
 Ends budget bytes Is = PosesOne bytes (λ p. Fits p × Is (run_end budget p))
 
+-- the same of a run that ends saturated, with its tree and the purse as it left it
+abbrev pub EndsSaturated : ℕ → List ℕ → (Problem → Proof → Funds → Type 0) → Type 0
+EndsSaturated budget bytes Is =
+    PosesOne bytes (λ p. Fits p × ((log : List Entry) × (x : Proof) × (stands : At) × (run_end budget p ≡ ends_with (run.saturated log x) stands) × Is p x stands.funds))
+
 -- the text is that of a valid problem with a line for each of its blocks, each exactly where its row says
 pub record TellsBlocks (p : Problem) (left : Funds) (text : List ℕ) : Type 0 where
   pub lines : List (List ℕ)
@@ -51,11 +58,10 @@ pub record TellsBlocks (p : Problem) (left : Funds) (text : List ℕ) : Type 0 w
 -- the purse as the run and the blocks before left it
 pub record Causes (budget : ℕ) (bytes : List ℕ) (answer : Answer) : Type 0 where
   pub valid : (answer.status ≡ 0) ↔ Ends budget bytes IsValid
-  pub invalid : (answer.status ≡ 1) ↔ Ends budget bytes IsInvalid
-  pub steps : (answer ≡ unknown_answer (codes "steps")) ↔ Ends budget bytes IsOutOfSteps
-  pub overflow : (answer ≡ unknown_answer (codes "overflow")) ↔ (PosesOne bytes LeavesRange ⊎ Ends budget bytes IsOutOfRange)
+  pub invalid : (answer.status ≡ 1) ↔ (Ends budget bytes IsInvalid ⊎ EndsSaturated budget bytes IsWalked)
+  pub steps : (answer ≡ unknown_answer (codes "steps")) ↔ (Ends budget bytes IsOutOfSteps ⊎ EndsSaturated budget bytes IsCutBySteps)
+  pub overflow : (answer ≡ unknown_answer (codes "overflow")) ↔ (PosesOne bytes LeavesRange ⊎ (Ends budget bytes IsOutOfRange ⊎ EndsSaturated budget bytes IsCutByRange))
   pub branch : (answer ≡ unknown_answer (codes "branch")) ↔ Ends budget bytes IsTooLong
-  pub saturated : (answer ≡ unknown_answer (codes "saturated")) ↔ Ends budget bytes IsSaturated
   pub refuses : (answer.status ≡ 3) ↔ IsRefused bytes
   pub refused : (r : Refusal) → FirstRefusal bytes r → answer ≡ refused_answer (refusal_name r)
   pub only : (r : Refusal) → answer ≡ refused_answer (refusal_name r) → ComesOf bytes r
@@ -64,7 +70,13 @@ pub record Causes (budget : ℕ) (bytes : List ℕ) (answer : Answer) : Type 0 w
   pub blocks : (p : Problem) (vs : List ℤ) (x : Proof) (stands : At) → Poses bytes p → Fits p → p.existentials ≡ [] → run_end budget p ≡ ends_with (run.valid vs x) stands
       → TellsBlocks p stands.funds answer.text
 
--- a problem without predicates and functions whose encoding fits is decided, unless the budget ends or a number leaves the range
-abbrev pub Decides : ℕ → List ℕ → Answer → Type 0
-Decides budget bytes answer =
-    (p : Problem) → Poses bytes p → Fits p → IsPure p → ¬ (IsOutOfSteps (run_end budget p)) → ¬ (IsOutOfRange (run_end budget p)) → (answer.status ≡ 0) ⊎ (answer.status ≡ 1)
+-- the answer decides the problem, or says that the budget ends, a number leaves the range or a branch is too long
+abbrev pub IsDecidedOrCut : Answer → Type 0
+IsDecidedOrCut answer =
+    (answer.status ≡ 0) ⊎ ((answer.status ≡ 1) ⊎ ((answer ≡ unknown_answer (codes "steps")) ⊎ ((answer ≡ unknown_answer (codes "overflow")) ⊎ (answer ≡ unknown_answer (codes "branch")))))
+
+-- what is decided of problems whose encoding fits: one without predicates and functions, unless the budget ends or a number leaves the
+-- range; and a universal one, whose run comes to its end in its first round, unless it is cut
+pub record Decides (budget : ℕ) (bytes : List ℕ) (answer : Answer) : Type 0 where
+  pub pure : (p : Problem) → Poses bytes p → Fits p → IsPure p → ¬ (IsOutOfSteps (run_end budget p)) → ¬ (IsOutOfRange (run_end budget p)) → (answer.status ≡ 0) ⊎ (answer.status ≡ 1)
+  pub universal : (p : Problem) → Poses bytes p → Fits p → IsUniversal p → ((one_round (problem_root p).value (length p.existentials) 0).value ≢ None) × IsDecidedOrCut answer

@@ -1,5 +1,5 @@
 -- What the answers of `solve` mean.
-use Rattle.std.specs.Prelude.{◌≡◌, ◌≢◌, ◌<◌, ℕ, ℤ, List, [], ◌++◌, length, take, codes}
+use Rattle.std.specs.Prelude.{◌≡◌, ◌≢◌, ◌<◌, ℕ, ℤ, List, [], ◌++◌, length, take, codes, Some}
 use Rattle.std.specs.List.{concat}
 use Rattle.integers.specs.Entry.{entry}
 use Rattle.typed_formula.specs.Truth.{Meaning}
@@ -10,7 +10,11 @@ use Rattle.answers.specs.Answer.{Answer, line}
 use Rattle.problem_file.specs.Reads.{Reads}
 use Rattle.constraint_lines.specs.Meaning.{Supports}
 use Rattle.interpolant_lines.specs.Meaning.{AreInterpolantLines}
+use Rattle.typed_formula.specs.declared.world.Table.{Table}
+use Rattle.solve_job.specs.Explained.{refuted_answer}
 use Rattle.solve_job.specs.Solved.{valid_answer}
+use Rattle.countermodel.specs.Probes.{probe_values}
+use Rattle.refuted_runs.specs.Refuting.{IsCounterexample}
 
 -- the printed constraint x and values vs of a problem: at each value of the existential constants satisfying the constraint the
 -- problem holds; the printed values satisfy it, and are the best that do: constant by constant, none that satisfy it and agree with
@@ -32,13 +36,22 @@ pub record Validates (w : Meaning) (bytes : List ℕ) (text : List ℕ) : Type 0
   pub reads : Reads bytes problem
   pub valid : IsValidText w problem text
 
--- the bytes read as a problem that is refuted
-pub record Refutes (bytes : List ℕ) : Type 0 where
+-- the text shows values of the existential constants, the nearest to 0 of their types, a finite table and values of the universal
+-- constants at which the problem's formula is false
+pub record Shows (p : Problem) (values : List ℤ) (text : List ℕ) : Type 0 where
+  pub found : Table × List ℤ
+  pub is : IsCounterexample p values found
+  pub told : text ≡ (refuted_answer p values found).text
+
+-- the bytes read as a problem that is refuted; where it has a predicate or a function, and each of its existential constants can
+-- have a value, the text shows why
+pub record Refutes (bytes : List ℕ) (text : List ℕ) : Type 0 where
   pub problem : Problem
   pub reads : Reads bytes problem
   pub refuted : IsRefuted problem
+  pub shows : ¬ (IsPure problem) → (values : List ℤ) → probe_values problem.existential_types ≡ Some values → Shows problem values text
 
 -- what an answer to a file of these bytes means
 pub record Headline (w : Meaning) (bytes : List ℕ) (answer : Answer) : Type 0 where
   pub valid : answer.status ≡ 0 → Validates w bytes answer.text
-  pub invalid : answer.status ≡ 1 → Refutes bytes
+  pub invalid : answer.status ≡ 1 → Refutes bytes answer.text

@@ -5,3 +5,4 @@ pub mod Solved
 pub mod Told
 pub mod Proved
 pub mod Shaping
+pub mod Explained

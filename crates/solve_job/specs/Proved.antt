@@ -1,5 +1,5 @@
 -- What `solve` answers where the proof is asked for: the same, and behind it the text of the proof in the form that is asked for.
-use Rattle.std.specs.Prelude.{◌≡◌, ◌≢◌, ℕ, ℤ, List, [], ◌++◌, length, codes, Option, Some, None}
+use Rattle.std.specs.Prelude.{◌≡◌, ◌≢◌, ◌⊎◌, ℕ, ℤ, List, [], ◌++◌, length, codes, Option, Some, None}
 use Rattle.purse.specs.Runs.{total}
 use Rattle.proof_tree.specs.declared.node.Conclusion.{Conclusion}
 use Rattle.proof_tree.specs.declared.node.Conclusion.TheVariants.{Solution, Nothing}
@@ -9,8 +9,6 @@ use Rattle.proof_tree.specs.declared.run.Verdict.{Verdict}
 use Rattle.proof_tree.specs.declared.run.Verdict.TheVariants as verdict
 use Rattle.proof_tree.specs.Proves.{Proves, proof_walk}
 use Rattle.proof_tree.specs.Views.{proof_of}
-use Rattle.search.specs.declared.judge.Outcome.{Outcome}
-use Rattle.search.specs.declared.judge.Outcome.TheVariants.{Valid, Invalid, Unknown}
 use Rattle.search.specs.Run as run
 use Rattle.search.specs.Run.{Ending, ends_with}
 use Rattle.proof_text.specs.declared.tokens.Token.{Token}
@@ -22,7 +20,8 @@ use Rattle.proof_lines.specs.Body.{body}
 use Rattle.encoding.specs.Problems.{problem_root}
 use Rattle.pri_typing.specs.declared.problem.Problem.{Problem}
 use Rattle.answers.specs.Answer.{Answer, line}
-use Rattle.problem_file.specs.Answers.{AnswersFile, Poses}
+use Rattle.pri_typing.specs.Problems.{IsPure}
+use Rattle.problem_file.specs.Answers.{AnswersFile, Poses, PosesOne}
 use Rattle.problem_file.specs.Encoded.{AnswersEncoded, Fits}
 use Rattle.answers.specs.declared.form.ProofForm.{ProofForm}
 use Rattle.answers.specs.declared.form.ProofForm.TheVariants.{Whole, Short}
@@ -73,6 +72,10 @@ pub record AnswersRunAs (asked : Option ProofForm) (budget : ℕ) (p : Problem) 
 abbrev pub IsSolvedAs : Option ProofForm → ℕ → List ℕ → Answer → Type 0
 IsSolvedAs asked budget = AnswersFile (AnswersEncoded (AnswersRunAs asked budget))
 
+-- the problem has a predicate or a function
+abbrev pub IsImpure : Problem → Type 0
+IsImpure p = ¬ (IsPure p)
+
 -- the part is the line `proof:`, and behind it the text in this form of a proof of this, of the problem that the bytes pose
 pub record PrintsProofOf (form : ProofForm) (bytes : List ℕ) (v : Verdict) (part : List ℕ) : Type 0 where
   pub problem : Problem
@@ -91,8 +94,13 @@ pub record ProvesValid (form : ProofForm) (bytes text part : List ℕ) : Type 0 
   pub prints : PrintsProofOf form bytes (verdict.Valid values) part
   pub told : prints.problem.existentials ≢ [] → (x : List ℕ) × IsTextOf prints.problem (given prints.tree) x × (text ≡ (valid_answer prints.problem x values).text)
 
+-- the part has a proof that the problem is invalid; there is none where the problem has predicates or functions: what is printed of
+-- it is a counterexample
+abbrev pub ProvesInvalid : ProofForm → List ℕ → List ℕ → Type 0
+ProvesInvalid form bytes part = PrintsProofOf form bytes verdict.Invalid part ⊎ ((part ≡ []) × PosesOne bytes IsImpure)
+
 -- an answer is one of `solve` with a part behind it; where the proof is asked for the part has it, at each answer that the problem is
--- valid or invalid, and else there is none
+-- valid or invalid; there is none at a counterexample, and at all other answers
 pub record IsParted (asked : Option ProofForm) (budget : ℕ) (bytes : List ℕ) (answer : Answer) : Type 0 where
   pub plain : Answer
   pub solved : IsSolved budget bytes plain
@@ -100,24 +108,19 @@ pub record IsParted (asked : Option ProofForm) (budget : ℕ) (bytes : List ℕ)
   pub whole : answer ≡ extended plain part
   pub none : asked ≡ None → part ≡ []
   pub valid : (form : ProofForm) → asked ≡ Some form → plain.status ≡ 0 → ProvesValid form bytes plain.text part
-  pub invalid : (form : ProofForm) → asked ≡ Some form → plain.status ≡ 1 → PrintsProofOf form bytes verdict.Invalid part
+  pub invalid : (form : ProofForm) → asked ≡ Some form → plain.status ≡ 1 → ProvesInvalid form bytes part
 
 -- ---- as the code prints it
 abbrev pub PrintsTree : ProofForm → Tree → List ℕ → Type 0
 PrintsTree form t part = PrintsProof form t.charges (proof_of t.root) t.conclusion part
 
--- the tree of an outcome, if it has one
-abbrev pub tree_of : Outcome → Option Tree
-tree_of (Valid d vs t) = Some t
-tree_of (Invalid d t) = Some t
-tree_of (Unknown y r) = None
+-- the part with the tree's proof, in the form that is asked for, if one is
+abbrev pub PrintsAsked : Option ProofForm → Tree → List ℕ → Type 0
+PrintsAsked (Some form) t part = PrintsTree form t part
+PrintsAsked None t part = part ≡ []
 
-abbrev pub PrintsIfAny : ProofForm → Option Tree → List ℕ → Type 0
-PrintsIfAny form (Some t) part = PrintsTree form t part
-PrintsIfAny form None part = part ≡ []
-
--- the answer with the tree's proof behind it, if there is a tree
-pub record IsProofTold (form : ProofForm) (tree : Option Tree) (plain answer : Answer) : Type 0 where
+-- the answer with the tree's proof behind it, if one is asked for
+pub record IsProofTold (asked : Option ProofForm) (tree : Tree) (plain answer : Answer) : Type 0 where
   pub part : List ℕ
-  pub prints : PrintsIfAny form tree part
+  pub prints : PrintsAsked asked tree part
   pub whole : answer ≡ extended plain part

@@ -3,13 +3,7 @@ use Rattle.proof_tree.specs.declared.node.Tree.{Tree}
 use Rattle.proof_tree.specs.Views.{proof_of}
 use Rattle.proof_writing.specs.Typed.{IsTypedConclusion, IsTypedProof}
 use Rattle.tree_text.specs.Shaped.{IsShaped}
-use Rattle.std.specs.Prelude.{Option, Some, None}
 
 -- a text can hold the tree, with what the types of its parts say
 abbrev pub IsPrintable : Tree → Type 0
 IsPrintable t = IsTypedProof (proof_of t.root) → IsTypedConclusion t.conclusion → IsShaped t.charges (proof_of t.root) t.conclusion
-
--- the same of the tree, if there is one
-abbrev pub CanBePrinted : Option Tree → Type 0
-CanBePrinted (Some t) = IsPrintable t
-CanBePrinted None = Unit {0}

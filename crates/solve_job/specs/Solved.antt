@@ -14,6 +14,7 @@ use Rattle.constraint_lines.specs.Lines.{valued_lines}
 use Rattle.interpolant_lines.specs.Blocks.{IsBlocksText}
 use Rattle.problem_file.specs.Answers.{AnswersFile}
 use Rattle.problem_file.specs.Encoded.{AnswersEncoded}
+use Rattle.solve_job.specs.Explained.{AnswersSaturated}
 
 -- the answer that a problem with existential constants is valid, with a constraint and values
 abbrev pub valid_answer : Problem → List ℕ → List ℤ → Answer
@@ -30,7 +31,7 @@ pub data AnswersEnd (p : Problem) (end : Ending run.Answer) (answer : Answer) : 
   valid : (vs : List ℤ) (x : Proof) (stands : At) (text : List ℕ) → end ≡ ends_with (run.valid vs x) stands → p.existentials ≢ [] → IsTextOf p (given x) text
       → answer ≡ valid_answer p text vs → AnswersEnd p end answer
   invalid : (log : List Entry) (x : Proof) (stands : At) → end ≡ ends_with (run.invalid log x) stands → answer ≡ says_line 1 (codes "INVALID") → AnswersEnd p end answer
-  saturated : (log : List Entry) (x : Proof) (stands : At) → end ≡ ends_with (run.saturated log x) stands → answer ≡ unknown_answer (codes "saturated") → AnswersEnd p end answer
+  saturated : (log : List Entry) (x : Proof) (stands : At) → end ≡ ends_with (run.saturated log x) stands → AnswersSaturated p x stands.funds answer → AnswersEnd p end answer
   branch : (stands : At) → end ≡ ends_with run.too_long stands → answer ≡ unknown_answer (codes "branch") → AnswersEnd p end answer
   steps : (stands : At) → end ≡ out_of_steps stands → answer ≡ unknown_answer (codes "steps") → AnswersEnd p end answer
   overflow : (numbers : List Place) (stands : At) → end ≡ overflows numbers stands → answer ≡ unknown_answer (codes "overflow") → AnswersEnd p end answer

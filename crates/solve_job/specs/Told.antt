@@ -1,23 +1,14 @@
--- What is told of the outcome of a search.
-use Rattle.std.specs.Prelude.{◌≡◌, ◌≢◌, ℕ, ℤ, List, [], length, codes}
+-- What is told of a valid problem, and of a search without an answer.
+use Rattle.std.specs.Prelude.{◌≡◌, ◌≢◌, ℕ, ℤ, List, [], codes}
 use Rattle.clause_set.specs.declared.literal.Literal.{Literal}
-use Rattle.elim_rules.specs.Whole.{AreOver}
 use Rattle.proof_tree.specs.declared.run.Why.{Why}
 use Rattle.proof_tree.specs.declared.run.Why.TheVariants as why
-use Rattle.search.specs.declared.judge.Decided.{Decided}
-use Rattle.search.specs.declared.judge.Decided.TheVariants.{Valid, Invalid, Unknown}
 use Rattle.pri_typing.specs.declared.problem.Problem.{Problem}
-use Rattle.answers.specs.Answer.{Answer, says_line, unknown_answer}
+use Rattle.answers.specs.Answer.{Answer}
 use Rattle.constraint_lines.specs.Lines.{AreValuedLines}
 use Rattle.interpolant_lines.specs.Blocks.{IsBlocksText}
 use Rattle.purse.specs.Trace.{Funds}
 use Rattle.solve_job.specs.Solved.{closed_answer}
-
--- a constraint that was found is over the existential constants, and there is a value for each of them
-abbrev pub IsFitting : Problem → Decided → Type 0
-IsFitting p (Valid d vs) = AreOver (length p.existentials) d × (length vs ≡ length p.existentials)
-IsFitting p (Invalid d) = Unit {0}
-IsFitting p (Unknown y r) = Unit {0}
 
 -- the answer says that a problem without existential constants is valid, with the lines of its blocks on a purse that the run left
 -- so
@@ -34,10 +25,3 @@ abbrev pub cause_text : Why → List ℕ
 cause_text why.Steps = codes "steps"
 cause_text (why.Overflow place) = codes "overflow"
 cause_text why.Branch = codes "branch"
-cause_text why.Saturated = codes "saturated"
-
--- the answer tells the outcome of a run that left the purse so
-abbrev pub TellsOutcome : Problem → Funds → Decided → Answer → Type 0
-TellsOutcome p left (Valid d vs) answer = IsValidTold p left d vs answer
-TellsOutcome p left (Invalid d) answer = answer ≡ says_line 1 (codes "INVALID")
-TellsOutcome p left (Unknown y r) answer = answer ≡ unknown_answer (cause_text y)

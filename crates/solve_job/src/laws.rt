@@ -30,7 +30,8 @@ pub fn causes_law()
 {}
 
 /// A problem without predicates and functions whose encoding fits is valid or invalid, unless the budget ends or a number
-/// leaves the range.
+/// leaves the range. One in which every quantifier over an application is universal needs one round of the search: it is valid
+/// or invalid, unless the budget ends, a number leaves the range or a branch is too long.
 pub fn decided_law()
     ensures { (budget : ℕ) (bytes : List ℕ) (a : Answer) → IsSolved budget bytes a → Decides budget bytes a }
 {}

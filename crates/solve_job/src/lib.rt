@@ -3,6 +3,7 @@
 
 mod laws;
 mod proving;
+mod refuting;
 mod solving;
 mod telling;
 

@@ -1,11 +1,10 @@
-// How the proof of an outcome is told.
+// How a proof is told.
 
 ghost use Rattle.answers.specs.Answer.{answer_of};
 ghost use Rattle.proof_text.specs.Spellings.{spelled};
 ghost use Rattle.proof_tree.specs.Views.{proof_of};
-ghost use Rattle.search.specs.Outcomes.{bare};
-ghost use Rattle.solve_job.specs.Proved.{IsProofTold, PrintsTree, extended, form_text, tree_of};
-ghost use Rattle.solve_job.specs.Shaping.{CanBePrinted, IsPrintable};
+ghost use Rattle.solve_job.specs.Proved.{IsProofTold, PrintsTree, extended, form_text};
+ghost use Rattle.solve_job.specs.Shaping.{IsPrintable};
 ghost use Rattle.std.specs.Prelude.{◌≡◌, ◌++◌, IfOk, OnOk, List, ℕ};
 ghost use Rattle.tree_text.specs.Shaped.{Holds, IsShaped};
 
@@ -13,43 +12,20 @@ use answers::{Output, ProofForm};
 use linear_term::Memory;
 use proof_tree::Tree;
 use proof_writing::{know_typed, write_short, write_tree};
-use search::{Decided, Outcome};
 use std::alloc::Global;
 
-/// An outcome without its tree, and the tree, if it has one.
-pub fn split(outcome: Outcome) -> (Decided, Option<Tree>)
-    ensures told { result.0 ≡ bare outcome }
-    ensures tree { result.1 ≡ tree_of outcome }
-{
-    match outcome {
-        Outcome::Valid {
-            constraint,
-            solution,
-            tree,
-        } => (
-            Decided::Valid {
-                constraint,
-                solution,
-            },
-            Some(tree),
-        ),
-        Outcome::Invalid { constraint, tree } => (Decided::Invalid { constraint }, Some(tree)),
-        Outcome::Unknown { why, run } => (Decided::Unknown { why, run }, None),
-    }
-}
-
-/// The answer with the proof behind it that the tree is, if there is one.
-pub fn tell_proof(
+/// The answer with the proof behind it that the tree is, in the form that is asked for, if one is.
+pub fn with_proof(
     alloc: Global,
     plain: Output,
-    tree: &Option<Tree>,
-    form: ProofForm,
+    tree: &Tree,
+    asked: Option<ProofForm>,
 ) -> Result<Output, Memory>
-    requires { CanBePrinted tree.now }
-    ensures { IfOk result (λ output. IsProofTold form tree.now (answer_of plain) (answer_of output)) }
+    requires { IsPrintable tree.now }
+    ensures { IfOk result (λ output. IsProofTold asked tree.now (answer_of plain) (answer_of output)) }
 {
-    match tree {
-        Some(tree) => print_proof(alloc, plain, tree, form),
+    match asked {
+        Some(form) => print_proof(alloc, plain, tree, form),
         None => Ok(plain),
     }
 }

@@ -7,15 +7,17 @@ ghost use Rattle.problem_file.specs.Special.{HasPlainCuts};
 ghost use Rattle.solve_job.specs.Proved.{AnswersRunAs, IsSolvedAs};
 ghost use Rattle.std.specs.Prelude.{◌≤◌, ◌<◌, ◌^◌, length, IfOk, Some, None};
 
-use crate::proving::{split, tell_proof};
-use crate::telling::tell;
-use answers::{Output, ProofForm};
+use crate::proving::with_proof;
+use crate::refuting::refuted;
+use crate::telling::{cause, valid};
+use answers::status::INVALID;
+use answers::{Output, ProofForm, say, unknown};
 use function_encoding::Encoded;
 use linear_term::Memory;
 use pri_typing::Problem;
 use problem_file::{encode_problem, read_problem, refuse, refuse_encoding};
 use purse::Purse;
-use search::{decide, prove};
+use search::{Decided, Outcome, decide, prove};
 use std::alloc::Global;
 
 /// The answer of `solve` with a budget to a problem's file of these bytes, with the proof behind it in the form that is asked for, if
@@ -73,18 +75,18 @@ fn run_answer(
     ensures { IfOk result (λ output. AnswersRunAs asked budget problem.now (answer_of output)) }
 {
     match asked {
-        Some(form) => proved(alloc, problem, encoded, budget, form),
-        None => decided(alloc, problem, encoded, budget),
+        Some(_) => with_tree(alloc, problem, encoded, budget, asked),
+        None => without_tree(alloc, problem, encoded, budget),
     }
 }
 
-// The answer with the proof behind it in this form.
-fn proved(
+// The answer by a search that keeps its tree, with the proof behind it in the form that is asked for, if one is.
+fn with_tree(
     alloc: Global,
     problem: &Problem,
     encoded: &Encoded,
     budget: u64,
-    form: ProofForm,
+    asked: Option<ProofForm>,
 ) -> Result<Output, Memory>
     requires well_formed { IsWellFormed problem.now }
     requires distinct { HasDistinctNames problem.now }
@@ -92,17 +94,37 @@ fn proved(
     requires cuts { HasPlainCuts problem.now }
     requires encoded { IsEncoded problem.now encoded.now }
     requires budget { budget ≤ 1000000000 }
-    ensures { IfOk result (λ output. AnswersRunAs (Some form) budget problem.now (answer_of output)) }
+    ensures { IfOk result (λ output. AnswersRunAs asked budget problem.now (answer_of output)) }
 {
     let mut purse = Purse::new(budget);
     let outcome = prove(alloc, &encoded.root, encoded.constants, &mut purse)?;
-    let (told, tree) = split(outcome);
-    let plain = tell(alloc, problem, &told, &mut purse)?;
-    tell_proof(alloc, plain, &tree, form)
+    match outcome {
+        Outcome::Valid {
+            constraint,
+            solution,
+            tree,
+        } => {
+            let plain = valid(alloc, problem, &constraint, solution.as_slice(), &mut purse)?;
+            with_proof(alloc, plain, &tree, asked)
+        }
+        Outcome::Invalid {
+            constraint: _,
+            tree,
+        } => {
+            let plain = say(alloc, INVALID, b"INVALID")?;
+            with_proof(alloc, plain, &tree, asked)
+        }
+        Outcome::Saturated {
+            constraint: _,
+            tree,
+        } => refuted(alloc, problem, encoded, &tree, &mut purse),
+        Outcome::Unknown { why, run: _ } => unknown(alloc, cause(&why)),
+    }
 }
 
-// The answer without a proof.
-fn decided(
+// The answer without a proof. Where the run ends saturated it is made once more, with its tree kept: a counterexample is read off
+// the tree.
+fn without_tree(
     alloc: Global,
     problem: &Problem,
     encoded: &Encoded,
@@ -117,6 +139,14 @@ fn decided(
     ensures { IfOk result (λ output. AnswersRunAs None budget problem.now (answer_of output)) }
 {
     let mut purse = Purse::new(budget);
-    let told = decide(alloc, &encoded.root, encoded.constants, &mut purse)?;
-    tell(alloc, problem, &told, &mut purse)
+    let decided = decide(alloc, &encoded.root, encoded.constants, &mut purse)?;
+    match decided {
+        Decided::Valid {
+            constraint,
+            solution,
+        } => valid(alloc, problem, &constraint, solution.as_slice(), &mut purse),
+        Decided::Invalid { constraint: _ } => say(alloc, INVALID, b"INVALID"),
+        Decided::Saturated { constraint: _ } => { with_tree(alloc, problem, encoded, budget, None) }
+        Decided::Unknown { why, run: _ } => unknown(alloc, cause(&why)),
+    }
 }

@@ -1,15 +1,15 @@
-// How it is told how a search ended.
+// How it is told that a problem is valid, and what a search without an answer met.
 
 ghost use Rattle.answers.specs.Answer.{answer_of};
 ghost use Rattle.elim_rules.specs.Whole.{AreOver};
 ghost use Rattle.pri_typing.specs.WellFormed.{HasDistinctNames, HasIdentifiers, IsWellFormed};
 ghost use Rattle.encoding.specs.Problems.{is_large, problem_root};
 ghost use Rattle.problem_file.specs.Special.{HasPlainCuts};
-ghost use Rattle.solve_job.specs.Told.{AreClosedLines, IsFitting, IsValidTold, TellsOutcome, cause_text};
+ghost use Rattle.solve_job.specs.Told.{AreClosedLines, IsValidTold, cause_text};
 ghost use Rattle.std.specs.Prelude.{◌≡◌, ◌<◌, ◌^◌, false, length, IfOk};
 
-use answers::status::{INVALID, VALID};
-use answers::{Output, say, unknown};
+use answers::Output;
+use answers::status::VALID;
 use clause_set::Dnf;
 use constraint_lines::valued_lines;
 use interpolant_lines::interpolant_lines;
@@ -17,49 +17,22 @@ use linear_term::Memory;
 use pri_typing::Problem;
 use proof_tree::Why;
 use purse::Purse;
-use search::Decided;
 use std::alloc::Global;
 
-/// The answer that tells an outcome of a run which left the purse so; the lines of `\interpolant` blocks have the rest of it.
-pub fn tell(
-    alloc: Global,
-    problem: &Problem,
-    outcome: &Decided,
-    purse: &mut Purse,
-) -> Result<Output, Memory>
-    requires well_formed { IsWellFormed problem.now }
-    requires distinct { HasDistinctNames problem.now }
-    requires identifiers { HasIdentifiers problem.now }
-    requires cuts { HasPlainCuts problem.now }
-    requires small { is_large (problem_root problem.now).value ≡ false }
-    requires fitting { IsFitting problem.now outcome.now }
-    requires budget { purse.old.budget < 2 ^ 32 }
-    ensures { IfOk result (λ output. TellsOutcome problem.now purse.old outcome.now (answer_of output)) }
-{
-    match outcome {
-        Decided::Valid {
-            constraint,
-            solution,
-        } => { valid(alloc, problem, constraint, solution.as_slice(), purse) }
-        Decided::Invalid { constraint: _ } => say(alloc, INVALID, b"INVALID"),
-        Decided::Unknown { why, run: _ } => unknown(alloc, cause(why)),
-    }
-}
-
-// What a search without an answer is said to have met.
-fn cause(why: &Why) -> &'static [u8]
+/// What a search without an answer is said to have met.
+pub fn cause(why: &Why) -> &'static [u8]
     ensures { result.now ≡ cause_text why.now }
 {
     match why {
         Why::Steps => b"steps",
         Why::Overflow(_) => b"overflow",
         Why::Branch => b"branch",
-        Why::Saturated => b"saturated",
     }
 }
 
-// The answer that a problem is valid, with a constraint and values of its existential constants where it has any.
-fn valid(
+/// The answer that a problem is valid, with a constraint and values of its existential constants where it has any; the lines of
+/// `\interpolant` blocks have the rest of the purse.
+pub fn valid(
     alloc: Global,
     problem: &Problem,
     constraint: &Dnf,

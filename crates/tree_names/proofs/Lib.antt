@@ -1,3 +1,4 @@
+pub mod Clauses
 mod Outs
 mod Overs
 pub mod Given

@@ -24,7 +24,7 @@ use Rattle.equation_rules.proofs.Values.{equation-value, apart-value, merge-valu
 use Rattle.shadow_rules.specs.Results.{one_sided_results, exact_results, dark_results}
 use Rattle.shadow_rules.proofs.Forms.{one_sided-proper, exact-proper, dark_results-proper}
 use Rattle.shadow_rules.proofs.Values.{one_sided-value, exact-value, dark-value}
-use Rattle.elim_rules.specs.Logs.{Rest, rest, Reader, Yields, name_by_log, reads_none, replayed, up_to}
+use Rattle.elim_rules.specs.Logs.{Rest, rest, Yields, name_by_log, reads_none, replayed, up_to}
 use Rattle.elim_rules.specs.Whole.{Lacks}
 use Rattle.elim_rules.proofs.Forms.{literals_of_clause}
 use Rattle.elim_rules.proofs.Names.{rule-lacks}

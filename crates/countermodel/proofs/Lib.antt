@@ -1,0 +1,4 @@
+pub mod Explained
+pub mod Joining
+pub mod Nearest
+pub mod Told

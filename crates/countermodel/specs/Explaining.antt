@@ -1,0 +1,27 @@
+-- The work of finding a counterexample.
+use Rattle.std.specs.Prelude.{ℤ, List, length, Option, Some, Result, Ok, Err}
+use Rattle.typed_formula.specs.declared.world.Table.{Table}
+use Rattle.purse.specs.declared.fault.StepFault.{StepFault}
+use Rattle.purse.specs.Trace.{Traced, just, next}
+use Rattle.proof_tree.specs.Proof.{Proof}
+use Rattle.proof_tree.specs.Proves.{start}
+use Rattle.proof_tree.specs.Walk.{on_some}
+use Rattle.pri_typing.specs.declared.problem.Problem.{Problem}
+use Rattle.encoding.specs.Problems.{problem_root}
+use Rattle.open_trees.specs.Rows.{table_at}
+use Rattle.open_trees.specs.Walk.{Stop, walk}
+use Rattle.refuted_runs.specs.Refuting.{found_at}
+use Rattle.countermodel.specs.declared.explaining.Counterexample.{Counterexample}
+
+-- what there is at a leaf: its table, and the values of the universal constants
+abbrev pub at_leaf : Problem → Stop → Traced (Option (Table × List ℤ))
+at_leaf p stop = next (table_at stop) (λ t. just (Some (found_at p stop)))
+
+-- what the walk through the tree x of the encoded problem finds from the values e of its existential constants
+abbrev pub explaining : Problem → Proof → List ℤ → Traced (Option (Table × List ℤ))
+explaining p x e = next (walk (start (problem_root p).value (length p.existentials)) x e) (on_some (at_leaf p))
+
+-- a counterexample of the code, or why there is none
+abbrev pub explained_as : Result Counterexample StepFault → Result (Option (Table × List ℤ)) StepFault
+explained_as (Ok c) = Ok (Some (c.table, c.universals))
+explained_as (Err e) = Err e

@@ -1,0 +1,10 @@
+pub mod Asking
+pub mod Below
+pub mod Beneath
+pub mod Computed
+pub mod Forgetting
+pub mod Found
+pub mod Inserting
+pub mod Nodes
+pub mod Reading
+pub mod Summing

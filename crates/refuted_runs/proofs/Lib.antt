@@ -1,0 +1,11 @@
+pub mod Declared
+pub mod Encoded
+pub mod Ended
+pub mod Frames
+pub mod Levels
+pub mod Picked
+pub mod Problems
+pub mod Rooted
+pub mod Staying
+pub mod Universal
+pub mod Values

@@ -1,0 +1,13 @@
+pub mod Sound
+pub mod Faultless
+pub mod Terms
+pub mod Symbols
+pub mod Ranges
+pub mod Checks
+pub mod Texts
+pub mod Posing
+pub mod Answers
+pub mod Sizes
+pub mod Offsets
+pub mod Forms
+pub mod Rising

@@ -1,0 +1,22 @@
+// The commands of a script (SMT-LIB 2.6, section 3.9), told apart by their form; the symbols that they declare and define; and
+// the faults of declarations and definitions.
+#![tactic(auto)]
+
+mod command;
+mod declaration;
+mod laws;
+mod operators;
+mod order;
+mod refusal;
+mod table;
+mod words;
+
+pub use command::{Command, Name, is_keyword, members, read_command, symbol};
+pub use declaration::{
+    declaration_refusal, declare, place, read_sort, sort_or_int, with_definition_faults,
+};
+pub use laws::least_law;
+pub use operators::{is_reserved, is_unlisted};
+pub use order::sooner;
+pub use refusal::ScriptRefusal;
+pub use table::{Entry, Table};

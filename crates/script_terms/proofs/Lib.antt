@@ -1,0 +1,9 @@
+pub mod Folds
+pub mod Signs
+pub mod Values
+pub mod Stability
+pub mod Rules
+pub mod Agreement
+pub mod Meaning
+pub mod Symbols
+pub mod Scripts

@@ -1,0 +1,5 @@
+pub mod Collecting
+pub mod Shapes
+pub mod Walking
+pub mod Products
+pub mod Verdicts

@@ -1,0 +1,5 @@
+pub mod Reading
+pub mod Sorts
+pub mod Faults
+pub mod Bounds
+pub mod Judging

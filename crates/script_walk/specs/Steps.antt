@@ -1,0 +1,36 @@
+-- What the walk over commands answers at each of them, and behind all.
+use Rattle.std.specs.Prelude.{ℕ, ◌≡◌, Bool, true, false, List, [], ◌∷◌, Option, Some, None}
+use Rattle.sexpr.specs.Expressions.{Expr}
+use Rattle.script_commands.specs.declared.refusal.ScriptRefusal.{ScriptRefusal}
+use Rattle.script_commands.specs.declared.table.Entry.{Entry}
+use Rattle.script_commands.specs.Commands.{Form, exit}
+use Rattle.script_commands.specs.Faults.{Terms, behind, command_faults, form}
+use Rattle.script_commands.specs.Least.{IsRefused, least}
+
+-- the command ends the script
+abbrev pub is_exit : Option Form → Bool
+is_exit (Some exit) = true
+is_exit _ = false
+
+-- what comes of the commands behind one; this where it ends the script
+abbrev pub unless_last : {A : Type 0} → Option Form → A → A → A
+unless_last (Some exit) here later = here
+unless_last _ here later = later
+
+-- the symbols behind all commands of a script without faults, behind these
+abbrev pub symbols_from : List Entry → List Expr → List Entry
+symbols_from table [] = table
+symbols_from table (e ∷ es) = unless_last (form e) (behind table (form e)) (symbols_from (behind table (form e)) es)
+
+-- the symbols of a script without faults
+abbrev pub symbols_of : List Expr → List Entry
+symbols_of = symbols_from []
+
+-- the command has no fault, and these are the symbols behind it
+pub record Passes (terms : Terms) (table : List Entry) (at : ℕ) (command : Option Form) (new : List Entry) : Type 0 where
+  pub fits : least (command_faults terms table at command) ≡ None
+  pub symbols : new ≡ behind table command
+
+-- the command is refused so
+pub record Stops (terms : Terms) (table : List Entry) (at : ℕ) (command : Option Form) (e : ScriptRefusal) : Type 0 where
+  pub is : IsRefused e (least (command_faults terms table at command))

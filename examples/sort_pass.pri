@@ -1,0 +1,10 @@
+// One pass of sorting over three cells: the lesser of the first two goes to the front, and the lesser of what is left of them and of the
+// third one behind it. That does not sort them.
+// $ ./princess solve examples/sort_pass.pri
+// INVALID
+// counterexample:
+// a(0) = 0
+// a(1) = 0
+// a(2) = -1
+\functions { int a(int); }
+\problem { \min(a(0), a(1)) <= \min(\max(a(0), a(1)), a(2)) }
