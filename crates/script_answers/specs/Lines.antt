@@ -1,0 +1,21 @@
+-- The lines of checks as the code makes them.
+use Rattle.std.specs.Prelude.{◌≡◌, ℕ, List, Option, Some, None}
+use Rattle.std.specs.List.{Contains}
+use Rattle.pri_typing.specs.declared.problem.Problem.{Problem}
+use Rattle.answers.specs.Answer.{answer_of}
+use Rattle.answers.specs.declared.output.Output.{Output}
+use Rattle.problem_file.specs.Encoded.{IsLarge}
+use Rattle.script_answers.specs.declared.answering.CheckAnswer.{CheckAnswer}
+use Rattle.script_answers.specs.declared.answering.CheckAnswer.TheVariants.{Unsat, Sat, Unknown}
+use Rattle.script_answers.specs.Answers.{AreCheckAnswers, lines_answer}
+
+-- all lines, or none where the encoding of some problem is too large
+abbrev pub AreLines : ℕ → List Problem → Option Output → Type 0
+AreLines budget ps None = (p : Problem) × Contains ps p × IsLarge p
+AreLines budget ps (Some output) = (xs : List CheckAnswer) × AreCheckAnswers budget ps xs × (answer_of output ≡ lines_answer xs)
+
+-- the status behind a further answer
+abbrev pub raised : ℕ → CheckAnswer → ℕ
+raised s Unsat = s
+raised s Sat = s
+raised s Unknown = 2

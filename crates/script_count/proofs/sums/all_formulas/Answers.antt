@@ -1,0 +1,16 @@
+use Rattle.std.proofs.Common.{◌≡◌, ◌∙◌, ap, map, drop, arith}
+use Rattle.script_count.specs.Measured.{all_beside, as_formula}
+use Rattle.script_count.proofs.Counting.{at_end, back}
+use Rattle.script_count.proofs.sums.all_formulas.Goals as goal
+
+pub loop-i-init : goal.loop-i-init
+loop-i-init c = (omega arith, at_end as_formula c.args.arguments.now)
+
+pub loop-i-preserved : goal.loop-i-preserved
+loop-i-preserved c =
+    (omega arith, back as_formula c.args.arguments.now c.loop-i.i _ _ _ _ (omega arith) (omega arith) c.formula_size.ensures c.loop-i.invariant.1 c.beside-all.ensures)
+
+pub returns : goal.returns
+returns c =
+    let none : c.loop-i.i ≡ 0 = omega arith in
+    c.loop-i.invariant.1 ∙ ap (λ m. all_beside (map as_formula (drop m c.args.arguments.now))) none

@@ -1,0 +1,21 @@
+use Rattle.std.proofs.Common.{◌≡◌, ◌∙◌, ap, map, drop, arith}
+use Rattle.script_sizes.specs.Size.{above}
+use Rattle.script_count.specs.declared.measured.Measured.{Measured}
+use Rattle.script_count.specs.Measured.{all_beside, as_term}
+use Rattle.script_count.proofs.Counting.{at_end, back, all_negated}
+use Rattle.script_count.proofs.sums.all_negatives.Goals as goal
+
+pub loop-i-init : goal.loop-i-init
+loop-i-init c = (omega arith, at_end (λ (m : Measured). above (as_term m)) c.args.arguments.now)
+
+pub loop-i-preserved : goal.loop-i-preserved
+loop-i-preserved c = (
+  omega arith,
+  back (λ (m : Measured). above (as_term m)) c.args.arguments.now c.loop-i.i _ _ _ _ (omega arith) (omega arith)
+      (c.above.ensures ∙ ap above c.term_size.ensures) c.loop-i.invariant.1 c.beside-all.ensures,
+)
+
+pub returns : goal.returns
+returns c =
+    let none : c.loop-i.i ≡ 0 = omega arith in
+    c.loop-i.invariant.1 ∙ ap (λ k. all_beside (map (λ (m : Measured). above (as_term m)) (drop k c.args.arguments.now))) none ∙ all_negated c.args.arguments.now

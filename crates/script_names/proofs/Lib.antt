@@ -1,0 +1,9 @@
+pub mod Arms
+pub mod Behind
+pub mod Finding
+pub mod Folds
+pub mod Growing
+pub mod Reading
+pub mod Saying
+pub mod Tables
+pub mod Weights

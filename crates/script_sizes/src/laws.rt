@@ -1,0 +1,14 @@
+// What the size of a formula says.
+
+ghost use Rattle.std.specs.Prelude.{◌≡◌, ◌↔◌, ◌<◌, ◌⊎◌};
+ghost use Rattle.typed_formula.specs.Formula.{Formula};
+ghost use Rattle.script_sizes.specs.declared.size.Size.TheVariants.{Large, Fits};
+ghost use Rattle.script_sizes.specs.Extent.{extent, IsLarge};
+ghost use Rattle.script_sizes.specs.Sizes.{size};
+
+/// A formula is large exactly where it has more than 1,000,000 nodes or more than 2,000 levels, each formula and each term in it
+/// being one node that opens one level; otherwise its size is its nodes and levels.
+pub fn size_law()
+    ensures large { (f : Formula) → (size f ≡ Large) ↔ IsLarge (extent f) }
+    ensures fits { (f : Formula) → ¬ (IsLarge (extent f)) → size f ≡ Fits (extent f).nodes (extent f).levels }
+{}

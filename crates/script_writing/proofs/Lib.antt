@@ -1,0 +1,4 @@
+pub mod Calling
+pub mod Finding
+pub mod Folding
+pub mod Gathering

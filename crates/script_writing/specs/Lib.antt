@@ -1,0 +1,4 @@
+pub mod Heights
+pub mod Pairing
+pub mod Slots
+pub mod Written

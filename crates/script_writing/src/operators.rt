@@ -1,0 +1,237 @@
+// An operator at what its arguments became.
+
+ghost use Rattle.std.specs.Prelude.{◌≡◌, ◌∷◌, [], IfOk, false, map};
+ghost use Rattle.typed_formula.specs.Formula.{choice, constant, every, expression, formula, formulas, implies, some};
+ghost use Rattle.script_terms.specs.Translation.{a_formula, a_term, chosen_said, formula_in, operated, term_in};
+ghost use Rattle.script_terms.specs.declared.operator.Operator.{Operator};
+ghost use Rattle.script_writing.specs.Written.{written};
+
+use crate::combine::{exclude, formulas, imply, join, multiply, split, subtract, terms};
+use crate::nodes::{
+    both, condition, difference, implication, magnitude, negative, not, one_of, times,
+};
+use crate::pairing::{Pairing, chain, each_pair};
+use crate::written::{Written, into_formula, into_term};
+use linear_term::Memory;
+use script_terms::Operator;
+use sqlite_items::Items;
+use std::alloc::Global;
+use typed_formula::{Typed, TypedTerm};
+
+/// What is of no interest: an operator at arguments of another number.
+fn junk() -> Written
+    ensures { written result ≡ a_formula (constant false) }
+{
+    Written::Formula(Typed::Truth(false))
+}
+
+/// `not`
+fn operate_not(alloc: Global, arguments: Vec<Written>) -> Result<Written, Memory>
+    ensures { IfOk result (λ w. written w ≡ operated Operator.Not (map written arguments.items)) }
+{
+    let Some((first, _)) = split(arguments) else {
+        return Ok(junk())
+    };
+    Ok(Written::Formula(not(alloc, into_formula(first))?))
+}
+
+/// `and`
+fn operate_and(alloc: Global, mut arguments: Vec<Written>) -> Result<Written, Memory>
+    ensures { IfOk result (λ w. written w ≡ operated Operator.And (map written arguments.items)) }
+{
+    if arguments.len() == 1
+        && let Some(only) = arguments.pop()
+    {
+        return Ok(only);
+    }
+    Ok(Written::Formula(Typed::And(formulas(alloc, arguments)?)))
+}
+
+/// `or`
+fn operate_or(alloc: Global, mut arguments: Vec<Written>) -> Result<Written, Memory>
+    ensures { IfOk result (λ w. written w ≡ operated Operator.Or (map written arguments.items)) }
+{
+    if arguments.len() == 1
+        && let Some(only) = arguments.pop()
+    {
+        return Ok(only);
+    }
+    Ok(Written::Formula(Typed::Or(formulas(alloc, arguments)?)))
+}
+
+/// `+`
+fn operate_plus(alloc: Global, mut arguments: Vec<Written>) -> Result<Written, Memory>
+    ensures { IfOk result (λ w. written w ≡ operated Operator.Plus (map written arguments.items)) }
+{
+    if arguments.len() == 1
+        && let Some(only) = arguments.pop()
+    {
+        return Ok(only);
+    }
+    Ok(Written::Term(TypedTerm::Sum(terms(alloc, arguments)?)))
+}
+
+/// `=>`
+fn operate_implies(alloc: Global, mut arguments: Vec<Written>) -> Result<Written, Memory>
+    ensures { IfOk result (λ w. written w ≡ operated Operator.Implies (map written arguments.items)) }
+{
+    if arguments.len() == 1
+        && let Some(only) = arguments.pop()
+    {
+        return Ok(only);
+    }
+    Ok(Written::Formula(imply(alloc, formulas(alloc, arguments)?)?))
+}
+
+/// `xor`
+fn operate_xor(alloc: Global, arguments: Vec<Written>) -> Result<Written, Memory>
+    ensures { IfOk result (λ w. written w ≡ operated Operator.Xor (map written arguments.items)) }
+{
+    let Some((first, rest)) = split(arguments) else {
+        return Ok(junk())
+    };
+    let Some((second, more)) = split(rest) else {
+        return Ok(first)
+    };
+    let start = difference(alloc, into_formula(first), into_formula(second))?;
+    Ok(Written::Formula(exclude(alloc, start, more)?))
+}
+
+/// `*`
+fn operate_times(alloc: Global, arguments: Vec<Written>) -> Result<Written, Memory>
+    ensures { IfOk result (λ w. written w ≡ operated Operator.Times (map written arguments.items)) }
+{
+    let Some((first, rest)) = split(arguments) else {
+        return Ok(junk())
+    };
+    let Some((second, more)) = split(rest) else {
+        return Ok(first)
+    };
+    let start = times(alloc, into_term(first), into_term(second))?;
+    Ok(Written::Term(multiply(alloc, start, more)?))
+}
+
+/// `abs`
+fn operate_abs(alloc: Global, arguments: Vec<Written>) -> Result<Written, Memory>
+    ensures { IfOk result (λ w. written w ≡ operated Operator.Abs (map written arguments.items)) }
+{
+    let Some((first, _)) = split(arguments) else {
+        return Ok(junk())
+    };
+    Ok(Written::Term(magnitude(alloc, into_term(first))?))
+}
+
+/// `-`
+fn operate_minus(alloc: Global, arguments: Vec<Written>) -> Result<Written, Memory>
+    ensures { IfOk result (λ w. written w ≡ operated Operator.Minus (map written arguments.items)) }
+{
+    let Some((first, rest)) = split(arguments) else {
+        return Ok(Written::Term(TypedTerm::Sum(Items::new(alloc))));
+    };
+    if rest.is_empty() {
+        return Ok(Written::Term(negative(alloc, into_term(first))?));
+    }
+    Ok(Written::Term(TypedTerm::Sum(subtract(alloc, into_term(first), rest)?)))
+}
+
+/// One term where the formula is true, else the other argument.
+fn choose_term(
+    alloc: Global,
+    when: Typed,
+    first: TypedTerm,
+    second: Written,
+) -> Result<Written, Memory>
+    ensures { IfOk result (λ w. written w ≡ a_term (choice (formula when) (expression first) (term_in (written second)))) }
+{
+    Ok(Written::Term(condition(alloc, when, first, into_term(second))?))
+}
+
+/// The formula implies the other one.
+fn where_true(alloc: Global, when: &Typed, first: Typed) -> Result<Typed, Memory>
+    ensures { IfOk result (λ f. formula f ≡ implies (formula when.now) (formula first)) }
+{
+    implication(alloc, when.copy(alloc)?, first)
+}
+
+/// The formula is true, or the argument.
+fn where_false(alloc: Global, when: Typed, second: Written) -> Result<Typed, Memory>
+    ensures { IfOk result (λ f. formula f ≡ some (formulas (formula when ∷ formula_in (written second) ∷ []))) }
+{
+    one_of(alloc, when, into_formula(second))
+}
+
+/// One formula where the formula is true, else the other argument.
+fn choose_formula(
+    alloc: Global,
+    when: Typed,
+    first: Typed,
+    second: Written,
+) -> Result<Written, Memory>
+    ensures { IfOk result (λ w. written w ≡ a_formula (every (formulas (implies (formula when) (formula first)
+        ∷ some (formulas (formula when ∷ formula_in (written second) ∷ [])) ∷ [])))) }
+{
+    let then = where_true(alloc, &when, first)?;
+    let otherwise = where_false(alloc, when, second)?;
+    Ok(Written::Formula(both(alloc, then, otherwise)?))
+}
+
+/// Of two the one where the formula is true, else the other.
+fn choose(alloc: Global, when: Typed, first: Written, second: Written) -> Result<Written, Memory>
+    ensures { IfOk result (λ w. written w ≡ chosen_said (formula when) (written first) (written second)) }
+{
+    match first {
+        Written::Term(s) => choose_term(alloc, when, s, second),
+        Written::Formula(f) => choose_formula(alloc, when, f, second),
+    }
+}
+
+/// `ite`
+fn operate_choose(alloc: Global, arguments: Vec<Written>) -> Result<Written, Memory>
+    ensures { IfOk result (λ w. written w ≡ operated Operator.Choose (map written arguments.items)) }
+{
+    let Some((when, more)) = split(arguments) else {
+        return Ok(junk())
+    };
+    let Some((first, rest)) = split(more) else {
+        return Ok(junk())
+    };
+    let Some((second, _)) = split(rest) else {
+        return Ok(junk())
+    };
+    choose(alloc, into_formula(when), first, second)
+}
+
+/// An operator at its arguments.
+pub(crate) fn operate(
+    alloc: Global,
+    operator: Operator,
+    arguments: Vec<Written>,
+) -> Result<Written, Memory>
+    ensures { IfOk result (λ w. written w ≡ operated operator (map written arguments.items)) }
+{
+    match operator {
+        Operator::Truth(b) => Ok(Written::Formula(Typed::Truth(b))),
+        Operator::Not => operate_not(alloc, arguments),
+        Operator::And => operate_and(alloc, arguments),
+        Operator::Or => operate_or(alloc, arguments),
+        Operator::Xor => operate_xor(alloc, arguments),
+        Operator::Implies => operate_implies(alloc, arguments),
+        Operator::Equal => {
+            let all = chain(alloc, Pairing::Equal, arguments.as_slice())?;
+            Ok(Written::Formula(join(all)))
+        }
+        Operator::Distinct => {
+            let all = each_pair(alloc, Pairing::Unequal, arguments.as_slice())?;
+            Ok(Written::Formula(join(all)))
+        }
+        Operator::Choose => operate_choose(alloc, arguments),
+        Operator::Compare(r) => {
+            let all = chain(alloc, Pairing::Compared(r), arguments.as_slice())?;
+            Ok(Written::Formula(join(all)))
+        }
+        Operator::Plus => operate_plus(alloc, arguments),
+        Operator::Minus => operate_minus(alloc, arguments),
+        Operator::Times => operate_times(alloc, arguments),
+        Operator::Abs => operate_abs(alloc, arguments),
+    }
+}

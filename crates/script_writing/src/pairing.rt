@@ -1,0 +1,129 @@
+// What is said of each two of several arguments.
+
+ghost use Rattle.std.specs.Prelude.{◌≡◌, IfOk, map};
+ghost use Rattle.typed_formula.specs.Formula.{formula};
+ghost use Rattle.script_terms.specs.Operators.{neighbours, pairs};
+ghost use Rattle.script_terms.specs.Translation.{equal_said, unequal_said};
+ghost use Rattle.script_writing.specs.Pairing.{pair_said};
+ghost use Rattle.script_writing.specs.Written.{written};
+
+use crate::nodes::{difference, equivalence};
+use crate::written::{Written, copy_written, into_term};
+use linear_term::Memory;
+use sqlite_items::Items;
+use std::alloc::Global;
+use typed_formula::{Relation, Typed};
+
+/// What is said of two arguments.
+#[derive(Clone, Copy)]
+pub enum Pairing {
+    Compared(Relation),
+    Equal,
+    Unequal,
+}
+
+/// It, said of these two.
+fn pair(alloc: Global, pairing: Pairing, left: Written, right: Written) -> Result<Typed, Memory>
+    ensures { IfOk result (λ f. formula f ≡ pair_said pairing (written left) (written right)) }
+{
+    match pairing {
+        Pairing::Compared(r) => Ok(Typed::Rel(r, into_term(left), into_term(right))),
+        Pairing::Equal => equate(alloc, left, right),
+        Pairing::Unequal => distinguish(alloc, left, right),
+    }
+}
+
+/// It, said of copies of these two.
+fn pair_of(
+    alloc: Global,
+    pairing: Pairing,
+    left: &Written,
+    right: &Written,
+) -> Result<Typed, Memory>
+    ensures { IfOk result (λ f. formula f ≡ pair_said pairing (written left.now) (written right.now)) }
+{
+    let left = copy_written(alloc, left)?;
+    let right = copy_written(alloc, right)?;
+    pair(alloc, pairing, left, right)
+}
+
+/// Two are equal.
+fn equate(alloc: Global, left: Written, right: Written) -> Result<Typed, Memory>
+    ensures { IfOk result (λ f. formula f ≡ equal_said (written left) (written right)) }
+{
+    match left {
+        Written::Term(s) => match right {
+            Written::Term(t) => Ok(Typed::Rel(Relation::Eq, s, t)),
+            Written::Formula(_) => Ok(Typed::Truth(false)),
+        },
+        Written::Formula(f) => match right {
+            Written::Formula(g) => equivalence(alloc, f, g),
+            Written::Term(_) => Ok(Typed::Truth(false)),
+        },
+    }
+}
+
+/// Two are different.
+fn distinguish(alloc: Global, left: Written, right: Written) -> Result<Typed, Memory>
+    ensures { IfOk result (λ f. formula f ≡ unequal_said (written left) (written right)) }
+{
+    match left {
+        Written::Term(s) => match right {
+            Written::Term(t) => Ok(Typed::Rel(Relation::Neq, s, t)),
+            Written::Formula(_) => Ok(Typed::Truth(true)),
+        },
+        Written::Formula(f) => match right {
+            Written::Formula(g) => difference(alloc, f, g),
+            Written::Term(_) => Ok(Typed::Truth(true)),
+        },
+    }
+}
+
+/// What is said of each two neighbours.
+#[tactic(auto, using(crate::proofs::Folding::chaining))]
+pub(crate) fn chain(
+    alloc: Global,
+    pairing: Pairing,
+    arguments: &[Written],
+) -> Result<Items<Typed>, Memory>
+    ensures { IfOk result (λ fs. map formula fs ≡ neighbours (pair_said pairing) (map written arguments.now)) }
+{
+    let mut out = Items::new(alloc);
+    for i in 1..arguments.len() {
+        out.push(pair_of(alloc, pairing, &arguments[i - 1], &arguments[i])?)?;
+    }
+    Ok(out)
+}
+
+/// What is said of each two, by the place of the first and then of the second.
+#[tactic(auto, using(crate::proofs::Folding::pairing))]
+pub(crate) fn each_pair(
+    alloc: Global,
+    pairing: Pairing,
+    arguments: &[Written],
+) -> Result<Items<Typed>, Memory>
+    ensures { IfOk result (λ fs. map formula fs ≡ pairs (pair_said pairing) (map written arguments.now)) }
+{
+    let mut out = Items::new(alloc);
+    for i in 0..arguments.len() {
+        let more = with_each(alloc, pairing, &arguments[i], &arguments[i + 1..])?;
+        out.append(more)?;
+    }
+    Ok(out)
+}
+
+/// What is said of one and each of the others.
+fn with_each(
+    alloc: Global,
+    pairing: Pairing,
+    first: &Written,
+    others: &[Written],
+) -> Result<Items<Typed>, Memory>
+    ensures { IfOk result (λ fs. map formula fs ≡ map (pair_said pairing (written first.now)) (map written others.now)) }
+{
+    let mut out = Items::new(alloc);
+    for other in others {
+        out.push(pair_of(alloc, pairing, first, other)?)?;
+    }
+    Ok(out)
+}

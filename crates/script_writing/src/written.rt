@@ -1,0 +1,47 @@
+// What a term becomes: a formula or a term of a problem.
+
+ghost use Rattle.std.specs.Prelude.{◌≡◌, IfOk};
+ghost use Rattle.typed_formula.specs.Formula.{expression, formula};
+ghost use Rattle.script_terms.specs.Translation.{formula_in, term_in};
+ghost use Rattle.script_writing.specs.Written.{written};
+
+use linear_term::Memory;
+use std::alloc::Global;
+use typed_formula::{Typed, TypedTerm};
+
+/// A formula or a term of a problem.
+#[derive(Drop)]
+pub enum Written {
+    Formula(Typed),
+    Term(TypedTerm),
+}
+
+/// The same once more.
+pub fn copy_written(alloc: Global, of: &Written) -> Result<Written, Memory>
+    ensures { IfOk result (λ w. w ≡ of.now) }
+{
+    match of {
+        Written::Formula(f) => Ok(Written::Formula(f.copy(alloc)?)),
+        Written::Term(t) => Ok(Written::Term(t.copy(alloc)?)),
+    }
+}
+
+/// The formula; a term counts as false.
+pub fn into_formula(of: Written) -> Typed
+    ensures { formula result ≡ formula_in (written of) }
+{
+    match of {
+        Written::Formula(f) => f,
+        Written::Term(_) => Typed::Truth(false),
+    }
+}
+
+/// The term; a formula counts as 0.
+pub fn into_term(of: Written) -> TypedTerm
+    ensures { expression result ≡ term_in (written of) }
+{
+    match of {
+        Written::Formula(_) => TypedTerm::Number(0),
+        Written::Term(t) => t,
+    }
+}
