@@ -15,7 +15,7 @@ proof_problem.py reads and encodes the problem, proof_elimination.py has the nor
     status 9   refused: file too long
 
 A file that the prover refuses is refused here. Name and place are the prover's for Syntax, Literal, Deep, Undeclared, Redeclared, Arity,
-Kind, NonLinear, Many and Large; for Parts and Unsupported, which concern files with interpolants, they were tried less.
+Kind, NonLinear, Many and Large; for Parts, which concerns files with interpolants, they were tried less.
 """
 import re
 import sys

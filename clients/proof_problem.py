@@ -147,14 +147,13 @@ class ProblemReader:
                 self.declaration(word.kind)
 
     def interpolant(self, word):
-        sets, places = [self.identifiers()], [self.take(';').place]
+        sets = [self.identifiers()]
+        self.take(';')
         while True:
             sets.append(self.identifiers())
-            end = self.take(';', '}')
-            if end.kind == '}':
+            if self.take(';', '}').kind == '}':
                 break
-            places.append(end.place)
-        self.file.blocks.append((word.place, sets, places))
+        self.file.blocks.append((word.place, sets))
 
     def identifiers(self):
         names = [self.take('name')]
@@ -361,7 +360,7 @@ class Typing:
     """Collects the faults of a file, each with its place and its number."""
 
     def __init__(self, file):
-        self.file, self.faults, self.symbols, self.uses_application = file, [], {}, False
+        self.file, self.faults, self.symbols = file, [], {}
 
     def problem(self):
         for count, symbol in enumerate(self.file.symbols):
@@ -376,7 +375,6 @@ class Typing:
         if self.faults:
             place, number = min(self.faults)
             raise Refusal(3, f'refused: {NAMES[number]} at {place}')
-        self.refuse_unsupported()
         return self.numbered()
 
     def numbered(self):
@@ -418,7 +416,6 @@ class Typing:
             return None
         if len(phrase.parts) != symbol.arity:
             self.faults.append((phrase.mark, 6))
-        self.uses_application |= symbol.role in ('predicate', 'function')
         return 'formula' if symbol.role == 'predicate' else 'term'
 
     def components(self, phrase, is_plus):
@@ -441,7 +438,7 @@ class Typing:
         known, names = {part.mark for part in components}, {part.value for part in parts}
         places = [part.mark for part in parts if part.mark not in known]
         places += [part.mark for part in components if part.word not in ('\\part', 'true', 'false')]
-        for place, sets, _ in self.file.blocks:
+        for place, sets in self.file.blocks:
             given = set()
             for token in (token for names_of_set in sets for token in names_of_set):
                 if token.text not in names or token.text in given:
@@ -450,13 +447,6 @@ class Typing:
             if names - given or any(symbol.role == 'existential' for symbol in self.file.symbols):
                 places.append(place)
         self.faults += [(place, 9) for place in places]
-
-    def refuse_unsupported(self):
-        places = [places[1] for _, _, places in self.file.blocks if len(places) > 1]
-        if self.uses_application:
-            places += [place for place, _, _ in self.file.blocks]
-        if places:
-            raise Refusal(3, f'refused: Unsupported at {min(places)}')
 
 
 # Linear terms, and formulas of the calculus in negation normal form. A name is a number; a quantifier binds the name that is next.

@@ -8,8 +8,8 @@ BEGIN {
     read_sentences(ENVIRON["MESSAGES"])
     make_tables()
     if (status == 0) tell_interpolants()
-    else if (status == 2) tell_unknown()
-    else if (status == 3) tell_refusal()
+    else if (status == 2) { if (command == "smt") tell_unknown_check(); else tell_unknown() }
+    else if (status == 3) { if (command == "smt") tell_script(); else tell_refusal() }
     else if (status == 4) tell_proof()
     else if (status == 5) tell_words()
     else if (status == 6) tell_unread()
@@ -59,6 +59,11 @@ function tell_unknown(    cause, keys) {
     A = budget()
     keys["steps"] = "steps"; keys["overflow"] = "number"; keys["branch"] = "length"
     print (FILE == "" || command == "drill" ? "princess" : FILE) ": note: UNKNOWN: " cause ": " sentence(cause, keys[cause])
+}
+
+function tell_unknown_check() {
+    A = budget()
+    print FILE ": note: unknown: " sentence("script", "unknown")
 }
 
 function tell_interpolants(    rows, i, count) {
@@ -124,7 +129,7 @@ function words_key(words, count,    i, files, seen, is_over) {
     A = words[1]
     if (count == 0) return "none"
     if (A ~ /^-/) return "first"
-    if (A !~ /^(solve|check|elim|drill|least)$/) return "command"
+    if (A !~ /^(solve|check|elim|drill|least|smt)$/) return "command"
     for (i = 2; i <= count; i++) {
         B = words[i]
         if (is_over || B == "-" || B !~ /^-/) { files++; continue }

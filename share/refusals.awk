@@ -20,7 +20,6 @@ function tell_refusal(    words, name, place, k, key) {
     else if (name == "NonLinear") key = "product"
     else if (name == "Parts") key = parts_key(k)
     else if (name == "Many") key = "symbols"
-    else if (name == "Unsupported") key = unsupported_key(k)
     else key = "applied"
     tell_place(FILE, place, name, sentence(name, key))
 }
@@ -217,10 +216,4 @@ function left_out(k,    i, has) {
     for (i = k + 1; i <= n && T[i] != "}"; i++) has[T[i]] = 1
     for (i = 1; i <= n; i++) if (T[i] == "\\part" && !(T[i + 2] in has)) return T[i + 2]
     return "one"
-}
-
-function unsupported_key(k,    i) {
-    if (T[k] == ";") return "set"
-    for (i = 1; i <= n; i++) if (T[i] in DB && i != D[T[i]] && (DB[T[i]] == "\\predicates" || DN[T[i]] > 0)) { A = T[i]; break }
-    return "applied"
 }

@@ -3,18 +3,18 @@ _princess() {
     local word=${COMP_WORDS[COMP_CWORD]} before=${COMP_WORDS[COMP_CWORD - 1]} command=${COMP_WORDS[1]}
     COMPREPLY=()
     if [ "$COMP_CWORD" = 1 ]; then
-        mapfile -t COMPREPLY < <(compgen -W 'solve check elim least drill help build install --help --version --quiet' -- "$word")
+        mapfile -t COMPREPLY < <(compgen -W 'solve check elim least smt drill help build install --help --version --quiet' -- "$word")
         return
     fi
     [ "$before" = --budget ] && return
     case $command in
-        --quiet) [ "$COMP_CWORD" = 2 ] && mapfile -t COMPREPLY < <(compgen -W 'solve check elim least drill' -- "$word") && return ;;
+        --quiet) [ "$COMP_CWORD" = 2 ] && mapfile -t COMPREPLY < <(compgen -W 'solve check elim least smt drill' -- "$word") && return ;;
     esac
     [ "$command" = --quiet ] && command=${COMP_WORDS[2]}
     case $command:$word in
         solve:-*) mapfile -t COMPREPLY < <(compgen -W '--budget --proof --short' -- "$word") ;;
-        elim:-* | least:-* | drill:-*) mapfile -t COMPREPLY < <(compgen -W '--budget' -- "$word") ;;
-        solve:* | elim:* | least:* | check:*) compopt -o filenames 2>/dev/null; mapfile -t COMPREPLY < <(compgen -f -- "$word") ;;
+        elim:-* | least:-* | smt:-* | drill:-*) mapfile -t COMPREPLY < <(compgen -W '--budget' -- "$word") ;;
+        solve:* | elim:* | least:* | smt:* | check:*) compopt -o filenames 2>/dev/null; mapfile -t COMPREPLY < <(compgen -f -- "$word") ;;
         install:*) compopt -o filenames 2>/dev/null; mapfile -t COMPREPLY < <(compgen -d -- "$word") ;;
     esac
 }

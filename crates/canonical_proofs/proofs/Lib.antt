@@ -1,3 +1,9 @@
+pub mod Sharp
+pub mod Trees
+pub mod Shapes
+pub mod Built
+pub mod Ended
+pub mod Printed
 pub mod Sorting
 pub mod Placing
 pub mod Staying

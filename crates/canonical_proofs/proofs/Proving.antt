@@ -38,7 +38,7 @@ use Rattle.search.proofs.Given.{built-given}
 use Rattle.search.proofs.Pures.{pure_pick}
 use Rattle.search.proofs.Retracing.{retraced}
 use Rattle.solution_range.proofs.Parts.{stay_parts}
-use Rattle.printed_proofs.proofs.Ended.{invalid_round, valid_round}
+use Rattle.canonical_proofs.proofs.Ended.{invalid_round, valid_round}
 use Rattle.solution_range.proofs.Values.{solution_in}
 use Rattle.canonical_proofs.proofs.Placing.{IsSolution, solution_put}
 use Rattle.canonical_proofs.proofs.Sorting.{built_sorted}

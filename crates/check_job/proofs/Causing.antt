@@ -18,9 +18,9 @@ use Rattle.answers.specs.Answer.{Answer, line, says_line, refused_answer, refuse
 use Rattle.constraint_lines.specs.Lines.{valued_lines}
 use Rattle.problem_file.specs.Reads.{Refusal}
 use Rattle.problem_file.specs.Refusals.{refusal_name}
-use Rattle.problem_file.proofs.Naming.{comes_of, not_large, not_unsupported}
-use Rattle.problem_file.specs.Refused.{ComesOf, IsRefused, first, special, too_large}
-use Rattle.problem_file.specs.Answers.{Poses, PosesOne, refused, unsupported, posed}
+use Rattle.problem_file.proofs.Naming.{comes_of, not_large}
+use Rattle.problem_file.specs.Refused.{ComesOf, IsRefused, first, too_large}
+use Rattle.problem_file.specs.Answers.{Poses, PosesOne, refused, posed}
 use Rattle.problem_file.specs.Encoded.{AnswersEncoded, Fits, LeavesRange, large, leaves as outside, runs}
 use Rattle.problem_file.proofs.Answering.{one_of_file, posed_answered}
 use Rattle.problem_file.proofs.Encoded.{fitting_answered, one_of_encoded, same_encoded}
@@ -127,21 +127,18 @@ other a s (inr h) zero four e = four (sym e ∙ h)
 
 overflow_by : (proof bytes : List ℕ) (a : Answer) → IsChecked proof bytes a → a.status ≡ 2 → PosesOne bytes LeavesRange
 overflow_by proof bytes a (refused r h e) z = let bad = sym z ∙ ap status_of e in absurd cc
-overflow_by proof bytes a (unsupported at h e) z = let bad = sym z ∙ ap status_of e in absurd cc
 overflow_by proof bytes a (posed p h (large l e)) z = let bad = sym z ∙ ap status_of e in absurd cc
 overflow_by proof bytes a (posed p h (outside l e)) z = (p, h, l)
 overflow_by proof bytes a (posed p h (runs f k)) z = absurd (other a 2 (row_status p proof a k) (λ e. cc) (λ e. cc) z)
 
 refused_by : (proof bytes : List ℕ) (a : Answer) → IsChecked proof bytes a → a.status ≡ 3 → IsRefused bytes
 refused_by proof bytes a (refused r h e) z = first r h
-refused_by proof bytes a (unsupported at h e) z = special at h
 refused_by proof bytes a (posed p h (large l e)) z = too_large (p, h, l)
 refused_by proof bytes a (posed p h (outside l e)) z = let bad = sym z ∙ ap status_of e in absurd cc
 refused_by proof bytes a (posed p h (runs f k)) z = absurd (other a 3 (row_status p proof a k) (λ e. cc) (λ e. cc) z)
 
 never_one : (proof bytes : List ℕ) (a : Answer) → IsChecked proof bytes a → a.status ≢ 1
 never_one proof bytes a (refused r h e) z = let bad = sym z ∙ ap status_of e in cc
-never_one proof bytes a (unsupported at h e) z = let bad = sym z ∙ ap status_of e in cc
 never_one proof bytes a (posed p h (large l e)) z = let bad = sym z ∙ ap status_of e in cc
 never_one proof bytes a (posed p h (outside l e)) z = let bad = sym z ∙ ap status_of e in cc
 never_one proof bytes a (posed p h (runs f k)) z = other a 1 (row_status p proof a k) (λ e. cc) (λ e. cc) z
@@ -150,13 +147,11 @@ never_one proof bytes a (posed p h (runs f k)) z = other a 1 (row_status p proof
 
 refused_status : (proof bytes : List ℕ) (a : Answer) → IsChecked proof bytes a → IsRefused bytes → a.status ≡ 3
 refused_status proof bytes a checked (first r h) = ap status_of (one_answer proof bytes a _ checked (refused r h refl))
-refused_status proof bytes a checked (special at h) = ap status_of (one_answer proof bytes a _ checked (unsupported at h refl))
 refused_status proof bytes a checked (too_large h) = ap status_of (one_answer proof bytes a _ checked (posed h.0 h.1 (large h.2 refl)))
 
 -- the text of a refusal of the problem's file comes of that refusal alone
 only_first : (proof bytes : List ℕ) (a : Answer) → IsChecked proof bytes a → (r : Refusal) → a ≡ refused_answer (refusal_name r) → IsRefused bytes → ComesOf bytes r
 only_first proof bytes a checked r e (first q h) = comes_of bytes a r q e h (one_answer proof bytes a _ checked (refused q h refl))
-only_first proof bytes a checked r e (special at h) = absurd (not_unsupported a r at e (one_answer proof bytes a _ checked (unsupported at h refl)))
 only_first proof bytes a checked r e (too_large h) = absurd (not_large a r e (one_answer proof bytes a _ checked (posed h.0 h.1 (large h.2 refl))))
 
 not_accepted : (p : Problem) (proof : List ℕ) (a : Answer) → (a.status ≡ 0) ⊎ (a.status ≡ 4) → (a.status ≡ 0 → HoldsProof p proof) → (¬ (HoldsProof p proof)) → a.status ≡ 4
@@ -185,6 +180,5 @@ causes proof bytes a is = record {
   never = never_one proof bytes a is;
   refused = λ r h. one_answer proof bytes a _ is (refused r h refl);
   only = λ r e. only_first proof bytes a is r e (refused_by proof bytes a is (ap status_of e));
-  unsupported = λ at h. one_answer proof bytes a _ is (unsupported at h refl);
   large = λ h. one_answer proof bytes a _ is (posed h.0 h.1 (large h.2 refl));
 }

@@ -28,7 +28,7 @@ use Rattle.answers.specs.Answer.{Answer, IsAnswerStatus}
 use Rattle.constraint_lines.specs.Meaning.{CoversRoot}
 use Rattle.constraint_lines.proofs.Losing.{lost_refuted}
 use Rattle.constraint_lines.proofs.Supporting.{closed_holds, supports}
-use Rattle.problem_file.specs.Answers.{Poses, refused, unsupported, posed}
+use Rattle.problem_file.specs.Answers.{Poses, refused, posed}
 use Rattle.problem_file.specs.Encoded.{large, leaves, runs}
 use Rattle.problem_file.proofs.Bytes.{reads_formed}
 use Rattle.problem_file.proofs.Reduced.{problem_reduced}
@@ -125,7 +125,6 @@ row_means w proof bytes p a poses (row.invalid x c charges j e) =
 
 pub means : (w : Meaning) (proof bytes : List ℕ) (a : Answer) → IsChecked proof bytes a → CheckMeans w bytes a
 means w proof bytes a (refused r h e) = silent w bytes a 3 (ap (λ b. b.status) e) (λ z. cc)
-means w proof bytes a (unsupported at h e) = silent w bytes a 3 (ap (λ b. b.status) e) (λ z. cc)
 means w proof bytes a (posed p h (large l e)) = silent w bytes a 3 (ap (λ b. b.status) e) (λ z. cc)
 means w proof bytes a (posed p h (leaves l e)) = silent w bytes a 2 (ap (λ b. b.status) e) (λ z. cc)
 means w proof bytes a (posed p h (runs f k)) = row_means w proof bytes p a h k
@@ -143,7 +142,6 @@ row_status proof p a (row.invalid x c charges j e) = subst (λ b. IsAnswerStatus
 
 pub checked_status : (proof bytes : List ℕ) (a : Answer) → IsChecked proof bytes a → IsAnswerStatus a.status
 checked_status proof bytes a (refused r h e) = subst (λ b. IsAnswerStatus b.status) (sym e) refl
-checked_status proof bytes a (unsupported at h e) = subst (λ b. IsAnswerStatus b.status) (sym e) refl
 checked_status proof bytes a (posed p h (large l e)) = subst (λ b. IsAnswerStatus b.status) (sym e) refl
 checked_status proof bytes a (posed p h (leaves l e)) = subst (λ b. IsAnswerStatus b.status) (sym e) refl
 checked_status proof bytes a (posed p h (runs f k)) = row_status proof p a k

@@ -12,7 +12,7 @@ use Rattle.answers.specs.Answer.{Answer, placed, refused_answer, refused_proof_a
 use Rattle.problem_file.specs.Reads.{Refusal, FirstRefusal}
 use Rattle.problem_file.specs.Refusals.{refusal_name}
 use Rattle.problem_file.specs.Refused.{ComesOf, IsRefused}
-use Rattle.problem_file.specs.Answers.{Poses, PosesOne, PosesUnsupported}
+use Rattle.problem_file.specs.Answers.{Poses, PosesOne}
 use Rattle.problem_file.specs.Encoded.{Fits, IsLarge, LeavesRange}
 use Rattle.check_job.specs.Checked.{Judged}
 use Rattle.check_job.specs.Exactly.{HoldsProof}
@@ -41,5 +41,4 @@ pub record Causes (proof bytes : List ℕ) (answer : Answer) : Type 0 where
   pub never : answer.status ≢ 1
   pub refused : (r : Refusal) → FirstRefusal bytes r → answer ≡ refused_answer (refusal_name r)
   pub only : (r : Refusal) → answer ≡ refused_answer (refusal_name r) → ComesOf bytes r
-  pub unsupported : (at : ℕ) → PosesUnsupported bytes at → answer ≡ refused_answer (placed (codes "Unsupported") at)
   pub large : PosesOne bytes IsLarge → answer ≡ refused_answer (codes "Large")

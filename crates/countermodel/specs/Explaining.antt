@@ -10,8 +10,10 @@ use Rattle.pri_typing.specs.declared.problem.Problem.{Problem}
 use Rattle.encoding.specs.Problems.{problem_root}
 use Rattle.open_trees.specs.Rows.{table_at}
 use Rattle.open_trees.specs.Walk.{Stop, walk}
-use Rattle.refuted_runs.specs.Refuting.{found_at}
 use Rattle.countermodel.specs.declared.explaining.Counterexample.{Counterexample}
+-- the words of what `explain` answers
+pub use Rattle.open_walk.specs.Doing.{Does}
+pub use Rattle.refuted_runs.specs.Refuting.{IsCounterexample, found_at, universals_of}
 
 -- what there is at a leaf: its table, and the values of the universal constants
 abbrev pub at_leaf : Problem → Stop → Traced (Option (Table × List ℤ))

@@ -7,8 +7,8 @@ use Rattle.answers.specs.Answer.{Answer, placed, refused_answer, unknown_answer}
 use Rattle.problem_file.specs.Reads.{Refusal}
 use Rattle.problem_file.specs.Refusals.{refusal_name}
 use Rattle.problem_file.specs.Refused.{ComesOf}
-use Rattle.problem_file.proofs.Naming.{comes_of, not_impure, not_large, not_unsupported}
-use Rattle.problem_file.specs.Answers.{Poses, refused, unsupported, posed}
+use Rattle.problem_file.proofs.Naming.{comes_of, not_impure, not_large}
+use Rattle.problem_file.specs.Answers.{Poses, refused, posed}
 use Rattle.problem_file.specs.Encoded.{Fits, LeavesRange, impure, pure, large, leaves, runs}
 use Rattle.elim_job.specs.Eliminated.{AnswersEnd, made, steps, overflow, elimination_end, IsEliminated}
 use Rattle.elim_job.specs.Causes as cause
@@ -54,7 +54,6 @@ from_end : (budget : ℕ) (bytes : List ℕ) (a : Answer) (P : Answer → Type 0
     → ((p : Problem) (end : Ending (List (List Literal))) (b : Answer) → AnswersEnd p end b → P b → Q end) → IsEliminated budget bytes a → P a
     → (P (unknown_answer (codes "overflow")) × PosesPure bytes LeavesRange) ⊎ Ends budget bytes Q
 from_end budget bytes a P Q none some (refused r h e) is = absurd (none (refusal_name r) (subst P e is))
-from_end budget bytes a P Q none some (unsupported at h e) is = absurd (none (placed (codes "Unsupported") at) (subst P e is))
 from_end budget bytes a P Q none some (posed p h (impure at k e)) is = absurd (none (placed (codes "Impure") at) (subst P e is))
 from_end budget bytes a P Q none some (posed p h (pure k (large l e))) is = absurd (none (codes "Large") (subst P e is))
 from_end budget bytes a P Q none some (posed p h (pure k (leaves l e))) is = inl (subst P e is, (p, h, (k, l)))
@@ -70,7 +69,6 @@ second_of (inr y) = inr y
 
 refused_by : (budget : ℕ) (bytes : List ℕ) (a : Answer) → IsEliminated budget bytes a → a.status ≡ 3 → IsRefused bytes
 refused_by budget bytes a (refused r h e) z = cause.first r h
-refused_by budget bytes a (unsupported at h e) z = cause.special at h
 refused_by budget bytes a (posed p h (impure at k e)) z = cause.impure at (p, h, k)
 refused_by budget bytes a (posed p h (pure k (large l e))) z = cause.too_large (p, h, (k, l))
 refused_by budget bytes a (posed p h (pure k (leaves l e))) z = let bad = sym z ∙ ap status_of e in absurd cc
@@ -78,7 +76,6 @@ refused_by budget bytes a (posed p h (pure k (runs f r))) z = absurd (other_stat
 
 never_invalid : (budget : ℕ) (bytes : List ℕ) (a : Answer) → IsEliminated budget bytes a → a.status ≢ 1
 never_invalid budget bytes a (refused r h e) z = let bad = sym z ∙ ap status_of e in cc
-never_invalid budget bytes a (unsupported at h e) z = let bad = sym z ∙ ap status_of e in cc
 never_invalid budget bytes a (posed p h (impure at k e)) z = let bad = sym z ∙ ap status_of e in cc
 never_invalid budget bytes a (posed p h (pure k (large l e))) z = let bad = sym z ∙ ap status_of e in cc
 never_invalid budget bytes a (posed p h (pure k (leaves l e))) z = let bad = sym z ∙ ap status_of e in cc
@@ -94,14 +91,12 @@ ended budget bytes a p end eliminated poses none fits is =
 
 refused_status : (budget : ℕ) (bytes : List ℕ) (a : Answer) → IsEliminated budget bytes a → IsRefused bytes → a.status ≡ 3
 refused_status budget bytes a eliminated (cause.first r h) = ap status_of (one_answer budget bytes a _ eliminated (refused r h refl))
-refused_status budget bytes a eliminated (cause.special at h) = ap status_of (one_answer budget bytes a _ eliminated (unsupported at h refl))
 refused_status budget bytes a eliminated (cause.impure at h) = ap status_of (one_answer budget bytes a _ eliminated (posed h.0 h.1 (impure at h.2 refl)))
 refused_status budget bytes a eliminated (cause.too_large h) = ap status_of (one_answer budget bytes a _ eliminated (posed h.0 h.1 (pure h.2.0 (large h.2.1 refl))))
 
 -- the text of a refusal comes of that refusal alone
 only_first : (budget : ℕ) (bytes : List ℕ) (a : Answer) → IsEliminated budget bytes a → (r : Refusal) → a ≡ refused_answer (refusal_name r) → IsRefused bytes → ComesOf bytes r
 only_first budget bytes a eliminated r e (cause.first q h) = comes_of bytes a r q e h (one_answer budget bytes a _ eliminated (refused q h refl))
-only_first budget bytes a eliminated r e (cause.special at h) = absurd (not_unsupported a r at e (one_answer budget bytes a _ eliminated (unsupported at h refl)))
 only_first budget bytes a eliminated r e (cause.impure at h) = absurd (not_impure a r at e (one_answer budget bytes a _ eliminated (posed h.0 h.1 (impure at h.2 refl))))
 only_first budget bytes a eliminated r e (cause.too_large h) = absurd (not_large a r e (one_answer budget bytes a _ eliminated (posed h.0 h.1 (pure h.2.0 (large h.2.1 refl)))))
 
@@ -127,7 +122,6 @@ causes budget bytes a eliminated = record {
   never = never_invalid budget bytes a eliminated;
   refused = λ r h. one_answer budget bytes a _ eliminated (refused r h refl);
   only = λ r e. only_first budget bytes a eliminated r e (refused_by budget bytes a eliminated (ap status_of e));
-  unsupported = λ at h. one_answer budget bytes a _ eliminated (unsupported at h refl);
   impure = λ at h. one_answer budget bytes a _ eliminated (posed h.0 h.1 (impure at h.2 refl));
   large = λ h. one_answer budget bytes a _ eliminated (posed h.0 h.1 (pure h.2.0 (large h.2.1 refl)));
 }

@@ -11,7 +11,7 @@ use Rattle.encoding.specs.Problems.{problem_root}
 use Rattle.answers.specs.Answer.{Answer, unknown_answer, IsAnswerStatus}
 use Rattle.constraint_text.proofs.Printed.{text_same}
 use Rattle.problem_file.specs.Reads.{AreSame}
-use Rattle.problem_file.specs.Answers.{Poses, refused, unsupported, posed}
+use Rattle.problem_file.specs.Answers.{Poses, refused, posed}
 use Rattle.problem_file.specs.Encoded.{AnswersEncoded, AnswersPure, Fits, impure, pure, large, leaves, runs}
 use Rattle.problem_file.proofs.Answering.{one_of_file, posed_answered}
 use Rattle.problem_file.proofs.Encoded.{fitting_answered, one_of_encoded, one_of_pure, pure_answered, root_same, same_encoded, same_pure}
@@ -70,7 +70,6 @@ end_status p end a (overflow numbers stands is e) = subst (λ b. IsAnswerStatus 
 
 pub eliminated_status : (budget : ℕ) (bytes : List ℕ) (a : Answer) → IsEliminated budget bytes a → IsAnswerStatus a.status
 eliminated_status budget bytes a (refused r h e) = subst (λ b. IsAnswerStatus b.status) (sym e) refl
-eliminated_status budget bytes a (unsupported at h e) = subst (λ b. IsAnswerStatus b.status) (sym e) refl
 eliminated_status budget bytes a (posed p h (impure at k e)) = subst (λ b. IsAnswerStatus b.status) (sym e) refl
 eliminated_status budget bytes a (posed p h (pure k (large l e))) = subst (λ b. IsAnswerStatus b.status) (sym e) refl
 eliminated_status budget bytes a (posed p h (pure k (leaves l e))) = subst (λ b. IsAnswerStatus b.status) (sym e) refl

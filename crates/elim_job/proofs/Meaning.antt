@@ -22,7 +22,7 @@ use Rattle.answers.specs.Answer.{Answer}
 use Rattle.constraint_text.specs.Constraint.{IsTextOf, constraint_line}
 use Rattle.constraint_text.proofs.Printed.{speaks, true_where}
 use Rattle.problem_file.specs.Reads.{Reads}
-use Rattle.problem_file.specs.Answers.{refused, unsupported, posed}
+use Rattle.problem_file.specs.Answers.{refused, posed}
 use Rattle.problem_file.specs.Encoded.{impure, pure, large, leaves, runs}
 use Rattle.problem_file.proofs.Bytes.{reads_formed, reads_pure}
 use Rattle.problem_file.proofs.Reduced.{problem_reduced}
@@ -95,7 +95,6 @@ end_means w budget bytes p a reads without (overflow numbers stands is e) = noth
 
 pub means : (w : Meaning) (budget : ℕ) (bytes : List ℕ) (a : Answer) → IsEliminated budget bytes a → ElimMeans w bytes a
 means w budget bytes a (refused r h e) = nothing_made w bytes a 3 (ap (λ b. b.status) e) (λ z. cc)
-means w budget bytes a (unsupported at h e) = nothing_made w bytes a 3 (ap (λ b. b.status) e) (λ z. cc)
 means w budget bytes a (posed p h (impure at k e)) = nothing_made w bytes a 3 (ap (λ b. b.status) e) (λ z. cc)
 means w budget bytes a (posed p h (pure k (large l e))) = nothing_made w bytes a 3 (ap (λ b. b.status) e) (λ z. cc)
 means w budget bytes a (posed p h (pure k (leaves l e))) = nothing_made w bytes a 2 (ap (λ b. b.status) e) (λ z. cc)

@@ -9,7 +9,7 @@ use Rattle.answers.specs.Answer.{Answer, placed, refused_answer, unknown_answer}
 use Rattle.problem_file.specs.Reads.{Refusal, FirstRefusal}
 use Rattle.problem_file.specs.Refusals.{refusal_name}
 use Rattle.problem_file.specs.Refused.{ComesOf}
-use Rattle.problem_file.specs.Answers.{Poses, PosesOne, PosesUnsupported}
+use Rattle.problem_file.specs.Answers.{Poses, PosesOne}
 use Rattle.problem_file.specs.Encoded.{Fits, IsLarge, LeavesRange}
 use Rattle.elim_job.specs.Eliminated.{elimination_end}
 
@@ -35,10 +35,9 @@ PosesImpure bytes at = PosesOne bytes (λ p. p.first_application ≡ Some at)
 abbrev pub Ends : ℕ → List ℕ → (Ending (List (List Literal)) → Type 0) → Type 0
 Ends budget bytes Is = PosesPure bytes (λ p. Fits p × Is (elimination_end budget p))
 
--- the file is refused: by its first refusal, at something unsupported, at an application, or as large
+-- the file is refused: by its first refusal, at an application, or as large
 pub data IsRefused (bytes : List ℕ) : Type 0 where
   first : (r : Refusal) → FirstRefusal bytes r → IsRefused bytes
-  special : (at : ℕ) → PosesUnsupported bytes at → IsRefused bytes
   impure : (at : ℕ) → PosesImpure bytes at → IsRefused bytes
   too_large : PosesPure bytes IsLarge → IsRefused bytes
 
@@ -51,7 +50,6 @@ pub record Causes (budget : ℕ) (bytes : List ℕ) (answer : Answer) : Type 0 w
   pub never : answer.status ≢ 1
   pub refused : (r : Refusal) → FirstRefusal bytes r → answer ≡ refused_answer (refusal_name r)
   pub only : (r : Refusal) → answer ≡ refused_answer (refusal_name r) → ComesOf bytes r
-  pub unsupported : (at : ℕ) → PosesUnsupported bytes at → answer ≡ refused_answer (placed (codes "Unsupported") at)
   pub impure : (at : ℕ) → PosesImpure bytes at → answer ≡ refused_answer (placed (codes "Impure") at)
   pub large : PosesPure bytes IsLarge → answer ≡ refused_answer (codes "Large")
 

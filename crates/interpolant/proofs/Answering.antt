@@ -8,9 +8,10 @@ use Rattle.purse.specs.declared.fault.ElimFault.TheVariants.{Memory}
 use Rattle.purse.specs.Trace.{Funds}
 use Rattle.pri_typing.specs.declared.problem.Cut.{Cut}
 use Rattle.pri_typing.specs.declared.problem.Problem.{Problem}
-use Rattle.pri_typing.specs.Problems.{assumed_by}
+use Rattle.pri_typing.specs.Problems.{IsWithoutApplication, assumed_by}
 use Rattle.pri_typing.specs.WellFormed.{IsWellFormed}
 use Rattle.clause_set.specs.declared.literal.Literal.{Literal}
+use Rattle.clause_set.specs.Literals.{dnf_truth}
 use Rattle.formula.specs.declared.calculus.Core.{Core}
 use Rattle.formula.specs.Form.{Form, is_pure}
 use Rattle.formula.specs.Reduced.{HasReducedTerms}
@@ -20,6 +21,7 @@ use Rattle.elim_rules.specs.Presburger.{IsPresburger}
 use Rattle.elim_rules.proofs.Reduced.{presburger_of}
 use Rattle.encoding.specs.Problems.{constants, is_large, parts_root}
 use Rattle.function_encoding.specs.declared.answer.EncodeRefusal.{EncodeRefusal}
+use Rattle.function_encoding.specs.declared.answer.EncodeRefusal.TheVariants.{Memory as NoMemory}
 use Rattle.function_encoding.specs.Encoded.{Encodes}
 use Rattle.function_encoding.proofs.Roots.{made_value}
 use Rattle.interpolant.specs.declared.fault.Interpolant.{Interpolant}
@@ -28,9 +30,12 @@ use Rattle.interpolant.specs.declared.fault.InterpolantFault.TheVariants.{Elim, 
 use Rattle.encoding.specs.Occurrences.{occurs}
 use Rattle.function_encoding.specs.Marks.{AreMarks, is_marked}
 use Rattle.interpolant.specs.Run.{Eliminates, Interpolates, interpolating, projecting}
-use Rattle.interpolant.specs.Sides.{IsBetween, cut_of, set_of}
+use Rattle.cut_sides.specs.Between.{IsStrongest}
+use Rattle.cut_sides.specs.Sides.{cut_of}
+use Rattle.interpolant.specs.Sides.{IsBetween}
+use Rattle.interpolant.proofs.Applications.{assumed_pure}
 use Rattle.interpolant.proofs.Projected.{projecting-same}
-use Rattle.interpolant.proofs.Standing.{between_is, encodable}
+use Rattle.interpolant.proofs.Standing.{between_is, encodable, strongest_is}
 use Rattle.interpolant.proofs.Steps.{elim_memory, elim_value}
 
 -- ---- room
@@ -80,31 +85,45 @@ pub run_done : (p : Problem) (first second : List ℕ) (f : Core) (marks : List 
     → AreMarks (constants p) (assumed_by p second) marks → Eliminates (projecting (is_marked marks) (length marks) (form f)) old (Ok d) new → Interpolates p first second old (Ok (record { formula = d })) new
 run_done p first second f marks d e m h = (encodable (parts_root p first) f e, as_run p first second f marks e m h)
 
-pub between_done : (p : Problem) (first second : List ℕ) (f : Core) (marks : List Bool) (d : List (List Literal)) {old new : Funds} → IsWellFormed p → is_pure (form f) ≡ true → HasReducedTerms (form f) → Encodes (parts_root p first) (Ok f)
-    → AreMarks (constants p) (assumed_by p second) marks → Eliminates (projecting (is_marked marks) (length marks) (form f)) old (Ok d) new
+presburger : (p : Problem) (first : List ℕ) (f : Core) → IsWithoutApplication (assumed_by p first) → HasReducedTerms (form f) → Encodes (parts_root p first) (Ok f) → IsPresburger (parts_root p first).value
+presburger p first f plain reduced e =
+    let is = made_value e.1 in
+    subst IsPresburger is (presburger_of (form f) (subst (λ z. is_pure z ≡ true) (sym is) (assumed_pure p first plain)) reduced)
+
+pub between_done : (p : Problem) (first second : List ℕ) (f : Core) (marks : List Bool) (d : List (List Literal)) {old new : Funds} → IsWellFormed p → IsWithoutApplication (assumed_by p first) → HasReducedTerms (form f)
+    → Encodes (parts_root p first) (Ok f) → AreMarks (constants p) (assumed_by p second) marks → Eliminates (projecting (is_marked marks) (length marks) (form f)) old (Ok d) new
     → (w : Meaning) → IsBetween w p (assumed_by p first) (assumed_by p second) d
-between_done p first second f marks d formed pure reduced e m h =
-    between_is p first second formed (subst IsPresburger (made_value e.1) (presburger_of (form f) pure reduced)) d (elim_value (as_run p first second f marks e m h))
+between_done p first second f marks d formed plain reduced e m h =
+    between_is p first second formed (presburger p first f plain reduced e) d (elim_value (as_run p first second f marks e m h))
+
+pub strongest_done : (p : Problem) (first second : List ℕ) (f : Core) (marks : List Bool) (d : List (List Literal)) {old new : Funds} → IsWellFormed p → IsWithoutApplication (assumed_by p first) → HasReducedTerms (form f)
+    → Encodes (parts_root p first) (Ok f) → AreMarks (constants p) (assumed_by p second) marks → Eliminates (projecting (is_marked marks) (length marks) (form f)) old (Ok d) new
+    → (w : Meaning) → IsStrongest w p (assumed_by p first) (assumed_by p second) (λ e. dnf_truth d e ≡ true)
+strongest_done p first second f marks d formed plain reduced e m h =
+    strongest_is p first second formed (presburger p first f plain reduced e) d (elim_value (as_run p first second f marks e m h))
 
 -- the marks as a slice
 pub slice_marks : (n : ℕ) (p : Problem) (set : List ℕ) (items slice : List Bool) → slice ≡ items → AreMarks n (assumed_by p set) items → AreMarks n (assumed_by p set) slice
 slice_marks n p set items slice is m = subst (AreMarks n (assumed_by p set)) (sym is) m
 
 -- ---- a cut
-cut_read : (p : Problem) (k : ℕ) (cuts : List Cut) (cut : Cut) → cuts ≡ p.cuts → k < length p.cuts → cut ≡ get_or cuts k cut → cut ≡ cut_of p k
-cut_read p k cuts cut is lt h = get_or_read p.cuts k cut lt (subst (λ xs. cut ≡ get_or xs k cut) is h) (record { sets = [] })
+pub not_together : (p : Problem) (first second : List ℕ) (old : Funds) (refusal : EncodeRefusal) (r : Result Interpolant InterpolantFault) → IsErrAnd r (λ x. x ≡ Encode refusal) → refusal ≡ NoMemory → Interpolates p first second old r old
+not_together p first second old refusal r is memory = not_encoded p first second old refusal r is (subst (λ z. Encodes (parts_root p first) (Err z)) (sym memory) tt)
 
-pub sets_read : (p : Problem) (k : ℕ) (cuts : List Cut) (cut : Cut) (sets : List (List ℕ)) → cuts ≡ p.cuts → k < length p.cuts → cut ≡ get_or cuts k cut → sets ≡ (get_or cuts k cut).sets → sets ≡ (cut_of p k).sets
-sets_read p k cuts cut sets is lt read h = h ∙ ap (λ (c : Cut). c.sets) (sym read ∙ cut_read p k cuts cut is lt read)
-
-pub set_read : (cut : Cut) (j : ℕ) (sets : List (List ℕ)) (set out : List ℕ) → sets ≡ cut.sets → length cut.sets ≡ 2 → j < 2 → set ≡ get_or sets j set → out ≡ set → out ≡ set_of cut j
-set_read cut j sets set out is two lt read h = h ∙ get_or_read cut.sets j set (omega (arith, two, lt)) (subst (λ xs. set ≡ get_or xs j set) is read) []
-
+-- the calls for the same sets
 pub of_sets : (p : Problem) (first second a b : List ℕ) (old new : Funds) (r : Result Interpolant InterpolantFault) → first ≡ a → second ≡ b → Interpolates p first second old r new → Interpolates p a b old r new
 of_sets p first second a b old new r is same h = subst (λ z. Interpolates p z b old r new) is (subst (λ z. Interpolates p first z old r new) same h)
 
-pub of_sides : (p : Problem) (first second a b : List ℕ) (r : Result Interpolant InterpolantFault) → first ≡ a → second ≡ b
-    → IfOk r (λ i. (w : Meaning) → IsBetween w p (assumed_by p first) (assumed_by p second) i.formula) → IfOk r (λ i. (w : Meaning) → IsBetween w p (assumed_by p a) (assumed_by p b) i.formula)
-of_sides p first second a b r is same h =
-    subst (λ z. IfOk r (λ i. (w : Meaning) → IsBetween w p (assumed_by p z) (assumed_by p b) i.formula)) is
-    (subst (λ z. IfOk r (λ i. (w : Meaning) → IsBetween w p (assumed_by p first) (assumed_by p z) i.formula)) same h)
+-- what is said of the interpolant of two sets
+abbrev pub Stand : Problem → Result Interpolant InterpolantFault → List ℕ → List ℕ → Type 0
+Stand p r first second = IfOk r (λ i. (w : Meaning) → IsBetween w p (assumed_by p first) (assumed_by p second) i.formula)
+
+abbrev pub AreStrongest : Problem → Result Interpolant InterpolantFault → List ℕ → List ℕ → Type 0
+AreStrongest p r first second = IfOk r (λ i. (w : Meaning) → IsStrongest w p (assumed_by p first) (assumed_by p second) (λ e. dnf_truth i.formula e ≡ true))
+
+pub with_sets : (P : List ℕ → List ℕ → Type 0) (first second a b : List ℕ) → first ≡ a → second ≡ b → P first second → P a b
+with_sets P first second a b is same h = subst (λ z. P z b) is (subst (P first) same h)
+
+-- the cut of a problem at a place of the slice of its cuts
+pub cut_read : (p : Problem) (k : ℕ) (cuts : List Cut) (cut : Cut) → cuts ≡ p.cuts → k < length p.cuts → cut ≡ get_or cuts k cut → cut ≡ cut_of p k
+cut_read p k cuts cut is lt h = get_or_read p.cuts k cut lt (subst (λ xs. cut ≡ get_or xs k cut) is h) (record { sets = [] })

@@ -5,6 +5,7 @@ pub mod Eliminated
 pub mod Projected
 pub mod Steps
 pub mod Mixing
+pub mod Applications
 pub mod Standing
 pub mod Answering
 pub mod Smaller

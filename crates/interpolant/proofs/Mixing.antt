@@ -1,39 +1,31 @@
 -- Two lists of integers put together, at which what speaks of the one's names or of what both have alike keeps its truth.
-use Rattle.std.proofs.Common.{◌≡◌, ◌≢◌, ◌<◌, ◌≤◌, ℕ, zero, suc, ℤ, Bool, true, false, cond, nat_eq, nat_lt, List, [], ◌∷◌, length, refl, sym, ◌∙◌, ap, subst, arith}
+use Rattle.std.proofs.Common.{◌≡◌, ◌≢◌, ◌<◌, ◌≤◌, ℕ, zero, suc, ℤ, Bool, true, false, cond, nat_eq, nat_lt, List, [], ◌∷◌, length, refl, sym, ◌∙◌, ap, subst, arith, ◌||◌, inl, inr}
+use Rattle.std.specs.List.{AllByRecursion}
+use Rattle.std.proofs.lemmas.Bool.{cases_lt}
 use Rattle.std.proofs.lemmas.Bool.Decides.{nat_tests}
 use Rattle.integers.specs.Entry.{entry, put}
-use Rattle.integers.proofs.Entries.{entry-put_other, entry-put_same, length-put, put-entry}
+use Rattle.integers.proofs.Entries.{entry-past, entry-put_other, entry-put_same, length-put}
 use Rattle.typed_formula.specs.declared.typed.Sort.{Sort}
 use Rattle.typed_formula.specs.declared.typed.Sort.TheVariants.{Int}
 use Rattle.typed_formula.specs.Formula.{Formula}
 use Rattle.typed_formula.specs.Sorts.{IsValueOf, AreValuesOf}
 use Rattle.typed_formula.specs.Truth.{Meaning, Truth}
 use Rattle.pri_typing.specs.declared.problem.Problem.{Problem}
+use Rattle.clause_set.specs.declared.literal.Literal.{Literal}
+use Rattle.clause_set.specs.Literals.{clause_truth, dnf_truth}
+use Rattle.clause_set.specs.Names.{has}
+use Rattle.equation_rules.proofs.Lists.{none-any}
+use Rattle.equation_rules.proofs.Solving.{unused-truth}
+use Rattle.elim_rules.specs.Whole as clauses
 use Rattle.encoding.specs.Meaning.{AreTypedIn, type_at}
 use Rattle.encoding.specs.Occurrences.{occurs}
 use Rattle.encoding.specs.Problems.{constants, types}
 use Rattle.encoding.proofs.Conditions.{pointwise}
-use Rattle.interpolant.specs.Sides.{Lacks}
 use Rattle.interpolant.proofs.Alike.{put_alike}
 use Rattle.interpolant.proofs.Occurrences.{absent_is}
 
--- a list of n integers at which b is true, and which is e at the names that stay
-pub record Like (w : Meaning) (b : Formula) (stays : ℕ → Bool) (n : ℕ) (e d : List ℤ) : Type 0 where
-  pub many : length d ≡ n
-  pub second : Truth w b d
-  pub same : (x : ℕ) → stays x ≡ true → entry d x ≡ entry e x
-
 other_name : (kept : ℕ → Bool) (x y : ℕ) → kept x ≡ false → kept y ≡ true → x ≢ y
 other_name kept x y gone stands is = let both : kept x ≡ kept y = ap kept is in cc
-
-pub like_put : (w : Meaning) (b : Formula) (stays : ℕ → Bool) (n : ℕ) (e d : List ℤ) (x : ℕ) (v : ℤ) → x < n → stays x ≡ false → Lacks x b → Like w b stays n e d → Like w b stays n e (put d x v)
-like_put w b stays n e d x v lt is lacks h =
-    let m = h.many in
-    record {
-      many = length-put d x v (omega (arith, lt, m)) ∙ m;
-      second = put_alike x w b d v (omega (arith, lt, m)) lacks h.second;
-      same = λ y stands. entry-put_other d x y v (other_name stays x y is stands) ∙ h.same y stands;
-    }
 
 -- d at the names below n that are kept, e at the others
 abbrev pub mixed : (ℕ → Bool) → ℕ → List ℤ → List ℤ → List ℤ
@@ -90,22 +82,6 @@ mixed_first w a (suc x) d e le t =
     let long = length-mixed kept x d e (omega (arith, le)) in
     step_of kept x d e (Truth w a) (λ is. rest) (λ is. put_alike x w a (mixed kept x d e) (entry e x) (omega (arith, le, long)) ((absent_is x a).0 is) rest)
 
--- and what speaks of names that both lists have alike
-pub mixed_second : (w : Meaning) (a b : Formula) (m : ℕ) (d e : List ℤ) → m ≤ length d → ((x : ℕ) → occurs x b ≡ true → entry d x ≡ entry e x) → Truth w b d
-    → Truth w b (mixed (λ x. occurs x a) m d e)
-mixed_second w a b zero d e le same t = t
-mixed_second w a b (suc x) d e le same t =
-    let kept : ℕ → Bool = λ y. occurs y a in
-    let l : List ℤ = mixed kept x d e in
-    let rest = mixed_second w a b x d e (omega (arith, le)) same t in
-    let long = length-mixed kept x d e (omega (arith, le)) in
-    let lt : x < length l = omega (arith, le, long) in
-    step_of kept x d e (Truth w b) (λ is. rest) (λ is. by l lt rest (mixed_above kept x d e x (omega arith)) (occurs x b) refl)
-  where
-    by : (l : List ℤ) → x < length l → Truth w b l → entry l x ≡ entry d x → (c : Bool) → occurs x b ≡ c → Truth w b (put l x (entry e x))
-    by l lt rest own true is = subst (λ v. Truth w b (put l x v)) (own ∙ same x is) (subst (Truth w b) (sym (put-entry l x lt)) rest)
-    by l lt rest own false is = put_alike x w b l (entry e x) lt ((absent_is x b).0 is) rest
-
 type_past : (ss : List Sort) (x : ℕ) → length ss ≤ x → type_at ss x ≡ Int
 type_past [] x le = refl
 type_past (s ∷ ss) zero le = absurd (omega (arith, le))
@@ -129,3 +105,55 @@ pub mixed_typed : (p : Problem) (a : Formula) (d e : List ℤ) → length d ≡ 
 mixed_typed p a d e many few long typed own =
     (pointwise (types p) (mixed (λ x. occurs x a) (constants p) d e) (length-mixed (λ x. occurs x a) (constants p) d e (omega (arith, many)) ∙ many ∙ sym few)).1
     (λ x. typed_at (λ y. occurs y a) (types p) (constants p) d e x few long typed own)
+
+-- ---- lists that are alike at some names
+
+-- a list of n integers that is e at the names that stay
+pub record IsSameAt (stays : ℕ → Bool) (n : ℕ) (e d : List ℤ) : Type 0 where
+  pub many : length d ≡ n
+  pub same : (x : ℕ) → stays x ≡ true → entry d x ≡ entry e x
+
+pub same_put : (stays : ℕ → Bool) (n : ℕ) (e d : List ℤ) (x : ℕ) (v : ℤ) → x < n → stays x ≡ false → IsSameAt stays n e d → IsSameAt stays n e (put d x v)
+same_put stays n e d x v lt is h =
+    let m = h.many in
+    record { many = length-put d x v (omega (arith, lt, m)) ∙ m; same = λ y stands. entry-put_other d x y v (other_name stays x y is stands) ∙ h.same y stands }
+
+-- where both lists have a name alike, so has the mixed one
+pub mixed_same : (kept : ℕ → Bool) (n : ℕ) (d e : List ℤ) (x : ℕ) → x < n → entry d x ≡ entry e x → entry (mixed kept n d e) x ≡ entry e x
+mixed_same kept n d e x lt same = by (kept x) refl
+  where
+    by : (b : Bool) → kept x ≡ b → entry (mixed kept n d e) x ≡ entry e x
+    by true is = mixed_kept kept n d e x is ∙ same
+    by false is = mixed_other kept n d e x is lt
+
+-- past their ends lists are alike
+pub agree_past : (n : ℕ) (d e : List ℤ) (x : ℕ) → length d ≡ n → length e ≡ n → (x < n → entry d x ≡ entry e x) → entry d x ≡ entry e x
+agree_past n d e x m l h = elim (cases_lt x n) [ inl lt ↦ h lt | inr le ↦ entry-past d x (omega (arith, m, le)) ∙ sym (entry-past e x (omega (arith, l, le))) ]
+
+same_list : (e d : List ℤ) → length e ≡ length d → ((x : ℕ) → entry e x ≡ entry d x) → e ≡ d
+same_list [] [] l h = refl
+same_list [] (v ∷ d) l h = absurd (omega (arith, l))
+same_list (u ∷ e) [] l h = absurd (omega (arith, l))
+same_list (u ∷ e) (v ∷ d) l h = ap (λ z. z ∷ e) (h 0) ∙ ap (λ z. v ∷ z) (same_list e d (omega (arith, l)) (λ x. h (suc x)))
+
+clauses_unused : (x : ℕ) (d : List (List Literal)) (e : List ℤ) (v : ℤ) → AllByRecursion (clauses.Lacks x) d → dnf_truth d (put e x v) ≡ dnf_truth d e
+clauses_unused x [] e v h = refl
+clauses_unused x (c ∷ d) e v h = ap (λ b. b || dnf_truth d (put e x v)) (unused-truth x c e v (none-any (has x) c h.0)) ∙ ap (λ b. clause_truth c e || b) (clauses_unused x d e v h.1)
+
+mixed_left : (kept : ℕ → Bool) (n : ℕ) (left : List (List Literal)) (d e : List ℤ) → ((x : ℕ) → x < n → kept x ≡ false → AllByRecursion (clauses.Lacks x) left)
+    → (m : ℕ) → m ≤ n → dnf_truth left (mixed kept m d e) ≡ dnf_truth left d
+mixed_left kept n left d e gone zero le = refl
+mixed_left kept n left d e gone (suc x) le =
+    let rest = mixed_left kept n left d e gone x (omega (arith, le)) in
+    step_of kept x d e (λ l. dnf_truth left l ≡ dnf_truth left d) (λ is. rest) (λ is. clauses_unused x left (mixed kept x d e) (entry e x) (gone x (omega (arith, le)) is) ∙ rest)
+
+-- clauses without the names that do not stay are true alike at lists that are alike at those that do
+pub left_same : (stays : ℕ → Bool) (n : ℕ) (left : List (List Literal)) (d e : List ℤ) → length d ≡ n → length e ≡ n → ((x : ℕ) → x < n → stays x ≡ false → AllByRecursion (clauses.Lacks x) left)
+    → ((x : ℕ) → stays x ≡ true → entry d x ≡ entry e x) → dnf_truth left d ≡ dnf_truth left e
+left_same stays n left d e m l gone same =
+    sym (mixed_left stays n left d e gone n (omega arith))
+    ∙ ap (dnf_truth left) (same_list (mixed stays n d e) e (length-mixed stays n d e (omega (arith, m)) ∙ m ∙ sym l) (λ x. by x (stays x) refl))
+  where
+    by : (x : ℕ) (b : Bool) → stays x ≡ b → entry (mixed stays n d e) x ≡ entry e x
+    by x true is = mixed_kept stays n d e x is ∙ same x is
+    by x false is = agree_past n (mixed stays n d e) e x (length-mixed stays n d e (omega (arith, m)) ∙ m) l (λ lt. mixed_other stays n d e x is lt)

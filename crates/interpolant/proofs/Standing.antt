@@ -1,5 +1,5 @@
 -- The projection of what the first side assumes stands between the two sides.
-use Rattle.std.proofs.Common.{◌≡◌, ℕ, ℤ, Bool, true, false, List, [], ◌∷◌, ◌++◌, length, get_or, inl, inr, refl, sym, ◌∙◌, ap, subst, arith}
+use Rattle.std.proofs.Common.{◌≡◌, ℕ, ℤ, Bool, true, false, List, [], length, inl, inr, refl, sym, ◌∙◌, subst, arith}
 use Rattle.std.specs.Prelude.{Ok, Contains}
 use Rattle.typed_formula.specs.Formula.{Formula}
 use Rattle.typed_formula.specs.Truth.{Meaning, Truth}
@@ -9,7 +9,6 @@ use Rattle.pri_typing.specs.declared.problem.Cut.{Cut}
 use Rattle.pri_typing.specs.declared.problem.Problem.{Problem}
 use Rattle.pri_typing.specs.Problems.{Holds, IsPlainlyValid, assumed_by}
 use Rattle.pri_typing.specs.WellFormed.{IsWellFormed}
-use Rattle.pri_typing.proofs.Sides.{sides_contradict}
 use Rattle.clause_set.specs.declared.literal.Literal.{Literal}
 use Rattle.clause_set.specs.Literals.{dnf_truth}
 use Rattle.formula.specs.declared.calculus.Core.{Core}
@@ -19,8 +18,6 @@ use Rattle.elim_rules.specs.Elimination.{Tells}
 use Rattle.elim_rules.specs.Presburger.{IsPresburger}
 use Rattle.elim_rules.specs.Whole.{eliminating, IsExact}
 use Rattle.elim_rules.proofs.Whole.{anywhere, eliminating-exact}
-use Rattle.typed_formula.specs.declared.typed.Sort.{Sort}
-use Rattle.typed_formula.specs.Sorts.{AreValuesOf}
 use Rattle.encoding.specs.Meaning.{AreTypedIn}
 use Rattle.encoding.specs.Problems.{constants, parts_root, types}
 use Rattle.encoding.proofs.Conditions.{pointwise}
@@ -29,8 +26,12 @@ use Rattle.function_encoding.specs.Encoded.{Encodes}
 use Rattle.quant_elim.proofs.Unfolded.{eliminating-over}
 use Rattle.encoding.specs.Occurrences.{occurs}
 use Rattle.interpolant.specs.Run.{IsEncodable, others_out, interpolating}
-use Rattle.interpolant.specs.Sides.{AreTyped, Contradict, IsBetween, set_of, side}
-use Rattle.interpolant.proofs.Mixing.{Like, like_put, mixed, length-mixed, mixed_typed, mixed_first, mixed_second}
+use Rattle.cut_sides.specs.Between.{AgreeOn, AreTyped, IsStrongest}
+use Rattle.cut_sides.specs.Sides.{first_side, other_side}
+use Rattle.cut_sides.proofs.Lines.{sides_apart}
+use Rattle.cut_sides.proofs.Standing.{strongest_contradicts, strongest_follows}
+use Rattle.interpolant.specs.Sides.{IsBetween}
+use Rattle.interpolant.proofs.Mixing.{IsSameAt, agree_past, left_same, mixed, length-mixed, mixed_same, mixed_typed, mixed_first, same_put}
 use Rattle.interpolant.proofs.Eliminated.{eliminating-lacks}
 use Rattle.interpolant.proofs.Encoded.{parts_lack}
 use Rattle.interpolant.proofs.Occurrences.{absent_is}
@@ -72,19 +73,46 @@ module _ (p : Problem) (first second : List ℕ) (formed : IsWellFormed p) (pres
   unfolding interpolating
   left_is = projected-is stays n (parts_root p first).value
 
+  -- a list at which the first side is true, and which is e at the names of the second, gives one that is typed
+  typed_back : (w : Meaning) (e : List ℤ) → AreTyped p e → dnf_truth (others_out stays n all).value e ≡ true → ¬ ((d : List ℤ) → AreTyped p d → AgreeOn b e d → ¬ (Truth w a d))
+  typed_back w e l t k =
+      let P : List ℤ → Type 0 = IsSameAt stays n e in
+      let back : Back P all = others-back stays n all P exact.formed (λ x lt is v d h. same_put stays n e d x v lt is h)
+      (record { list = e; kept = record { many = l.many; same = λ x is. refl }; holds = t }) in
+      let d = back.list in
+      let many : length d ≡ n = (back.kept).many in
+      let whole = first_true w d many back.holds in
+      let mix = mixed (λ x. occurs x a) n d e in
+      let long = length-mixed (λ x. occurs x a) n d e (omega (arith, many)) ∙ many in
+      k mix (record { many = long; typed = mixed_typed p a d e many (types_many p formed) l.many l.typed whole.1 })
+      (record { long = long ∙ sym l.many; same = λ x lt is. mixed_same (λ x. occurs x a) n d e x (let m = l.many in omega (arith, lt, m)) ((back.kept).same x is) })
+      (mixed_first w a n d e (omega (arith, many)) whole.0)
+
+  -- where the first side is true at a list that is e at the names of the second, what is left is true at e
+  typed_kept : (w : Meaning) (e d : List ℤ) → AreTyped p e → AreTyped p d → AgreeOn b e d → Truth w a d → dnf_truth (others_out stays n all).value e ≡ true
+  typed_kept w e d l m same t =
+      let many = m.many in
+      let kept = others-kept stays n all d exact.formed (omega (arith, many)) (all_true w d m t) in
+      sym (left_same stays n (others_out stays n all).value d e many l.many (λ x lt is. others-gone stays n x all lt is exact.formed)
+      (λ x is. agree_past n d e x many l.many (λ lt. same.same x (let k = l.many in omega (arith, lt, k)) is))) ∙ kept
+
+  left_strongest : (w : Meaning) → IsStrongest w p a b (λ e. dnf_truth (others_out stays n all).value e ≡ true)
+  left_strongest w e l = (
+    typed_back w e l,
+    λ h. by (dnf_truth (others_out stays n all).value e) refl h,
+  )
+    where
+      by : (c : Bool) → dnf_truth (others_out stays n all).value e ≡ c → ¬ ((d : List ℤ) → AreTyped p d → AgreeOn b e d → ¬ (Truth w a d)) → c ≡ true
+      by true is h = refl
+      by false is h = absurd (h (λ d m same t. let bad = sym is ∙ typed_kept w e d l m same t in cc))
+
+  pub strongest_is : (d : List (List Literal)) → d ≡ (interpolating p first second).value → (w : Meaning) → IsStrongest w p a b (λ e. dnf_truth d e ≡ true)
+  strongest_is d is w = subst (λ z. IsStrongest w p a b (λ e. dnf_truth z e ≡ true)) (sym (is ∙ left_is)) (left_strongest w)
+
   left : (w : Meaning) → IsBetween w p a b (others_out stays n all).value
   left w = record {
-    follows = λ e l t. others-kept stays n all e exact.formed (let m = l.many in omega (arith, m)) (all_true w e l t);
-    contradicts = λ c e l t k.
-        let P : List ℤ → Type 0 = Like w b stays n e in
-        let back : Back P all = others-back stays n all P exact.formed (λ x lt is v d h. like_put w b stays n e d x v lt is ((absent_is x b).0 is) h)
-        (record { list = e; kept = record { many = l.many; second = k; same = λ x is. refl }; holds = t }) in
-        let d = back.list in
-        let many : length d ≡ n = (back.kept).many in
-        let whole = first_true w d many back.holds in
-        let e' = mixed (λ x. occurs x a) n d e in
-        c e' (record { many = length-mixed (λ x. occurs x a) n d e (omega (arith, many)) ∙ many; typed = mixed_typed p a d e many (types_many p formed) l.many l.typed whole.1 })
-        (mixed_first w a n d e (omega (arith, many)) whole.0) (mixed_second w a b n d e (omega (arith, many)) (back.kept).same (back.kept).second);
+    follows = strongest_follows w p a b (λ e. dnf_truth (others_out stays n all).value e ≡ true) (left_strongest w);
+    contradicts = λ c e. strongest_contradicts w p a b (λ e. dnf_truth (others_out stays n all).value e ≡ true) (left_strongest w) c e;
     shared = λ x lt h. elim h [
       | inl k ↦ others-lack stays n x all exact.formed (eliminating-lacks n x (parts_root p first).value lt (parts_lack x p first lt k ((absent_is x a).1 k)))
       | inr k ↦ others-gone stays n x all lt ((absent_is x b).1 k) exact.formed
@@ -103,26 +131,6 @@ encodable work f h =
     record { small = h.0; stay = ((passes_where_runs work.events (at start []) (at start []) (omega arith)).0 passes.end).stay }
 
 -- ---- cuts
-two_sets : (sets : List (List ℕ)) → length sets ≡ 2 → sets ≡ get_or sets 0 [] ∷ get_or sets 1 [] ∷ []
-two_sets [] h = absurd (omega (arith, h))
-two_sets (x ∷ []) h = absurd (omega (arith, h))
-two_sets (x ∷ y ∷ []) h = refl
-two_sets (x ∷ y ∷ z ∷ more) h = absurd (omega (arith, h))
-
-no_types : (ss : List Sort) → length ss ≡ 0 → ss ≡ []
-no_types [] h = refl
-no_types (s ∷ ss) h = absurd (omega (arith, h))
-
-pub sides_apart : (w : Meaning) (p : Problem) (cut : Cut) → IsWellFormed p → p.existentials ≡ [] → Contains p.cuts cut → length cut.sets ≡ 2 → ¬ (IsPlainlyValid p) → Holds w p []
-    → Contradict w p (side p cut 0) (side p cut 1)
-sides_apart w p cut formed alone among two plain holds e l =
-    let none : length p.existentials ≡ 0 = ap length alone in
-    let m = l.many in
-    let few = formed.existential_types.many in
-    let empty : p.existential_types ≡ [] = no_types p.existential_types (omega (arith, few, none)) in
-    sides_contradict w p cut (set_of cut 0) (set_of cut 1) e formed among plain (two_sets cut.sets two) holds (omega (arith, m, none))
-    (subst (λ ss. AreValuesOf (ss ++ p.universal_types) e) empty l.typed)
-
-pub between_apart : (w : Meaning) (p : Problem) (cut : Cut) (d : List (List Literal)) → IsWellFormed p → p.existentials ≡ [] → Contains p.cuts cut → length cut.sets ≡ 2 → ¬ (IsPlainlyValid p) → Holds w p []
-    → IsBetween w p (side p cut 0) (side p cut 1) d → (e : List ℤ) → AreTyped p e → dnf_truth d e ≡ true → ¬ (Truth w (side p cut 1) e)
-between_apart w p cut d formed alone among two plain holds is e l t = is.contradicts (sides_apart w p cut formed alone among two plain holds) e l t
+pub between_apart : (w : Meaning) (p : Problem) (cut : Cut) (j : ℕ) (d : List (List Literal)) → IsWellFormed p → p.existentials ≡ [] → Contains p.cuts cut → ¬ (IsPlainlyValid p) → Holds w p []
+    → IsBetween w p (first_side p cut j) (other_side p cut j) d → (e : List ℤ) → AreTyped p e → dnf_truth d e ≡ true → ¬ (Truth w (other_side p cut j) e)
+between_apart w p cut j d formed alone among plain holds is e l t = is.contradicts (sides_apart w p cut j formed alone among plain holds) e l t

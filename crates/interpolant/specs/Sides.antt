@@ -1,42 +1,20 @@
--- What stands between the two sides of a cut (Craig, Three uses of the Herbrand-Gentzen theorem in relating model theory
+-- What stands between two formulas (Craig, Three uses of the Herbrand-Gentzen theorem in relating model theory
 -- and proof theory, 1957).
-use Rattle.std.specs.Prelude.{◌≡◌, ◌≢◌, ◌⊎◌, ◌<◌, ℕ, ℤ, true, List, [], length}
-use Rattle.std.specs.List.{AllByRecursion, slice_index_or}
+use Rattle.std.specs.Prelude.{◌≡◌, ◌≢◌, ◌⊎◌, ◌<◌, ℕ, ℤ, true, List}
+use Rattle.std.specs.List.{AllByRecursion}
 use Rattle.typed_formula.specs.Formula.{Formula, Expression, name}
-use Rattle.typed_formula.specs.Sorts.{AreValuesOf}
 use Rattle.typed_formula.specs.Truth.{Meaning, Truth}
-use Rattle.pri_typing.specs.declared.problem.Cut.{Cut}
 use Rattle.pri_typing.specs.declared.problem.Problem.{Problem}
 use Rattle.pri_typing.specs.Everywhere.{Everywhere}
-use Rattle.pri_typing.specs.Problems.{assumed_by}
 use Rattle.pri_typing.specs.WellFormed.{of_terms}
 use Rattle.clause_set.specs.declared.literal.Literal.{Literal}
 use Rattle.clause_set.specs.Literals.{dnf_truth}
 use Rattle.elim_rules.specs.Whole as clauses
 use Rattle.elim_rules.specs.Whole.{AreOver}
-use Rattle.encoding.specs.Problems.{constants, types}
+use Rattle.encoding.specs.Problems.{constants}
+use Rattle.cut_sides.specs.Between.{AreTyped, Contradict}
 
--- the cut of a problem with this number
-abbrev pub cut_of : Problem → ℕ → Cut
-cut_of p k = slice_index_or p.cuts k (record { sets = [] })
-
--- its set with this number
-abbrev pub set_of : Cut → ℕ → List ℕ
-set_of cut j = slice_index_or cut.sets j []
-
--- what the parts of that set assume
-abbrev pub side : Problem → Cut → ℕ → Formula
-side p cut j = assumed_by p (set_of cut j)
-
--- as many integers as constants, each a value of its constant's type
-pub record AreTyped (p : Problem) (e : List ℤ) : Type 0 where
-  pub many : length e ≡ constants p
-  pub typed : AreValuesOf (types p) e
-
--- the two formulas are true together at no values of the constants' types
-abbrev pub Contradict : Meaning → Problem → Formula → Formula → Type 0
-Contradict w p f g = (e : List ℤ) → AreTyped p e → Truth w f e → ¬ (Truth w g e)
-
+-- the term is no name, or another one than x
 abbrev pub IsOtherName : ℕ → ℕ → Expression → Type 0
 IsOtherName x n (name y) = x ≢ y
 IsOtherName x n _ = Unit {0}

@@ -1,5 +1,5 @@
-// Craig interpolants of parts of a problem without predicates and functions: what the first side assumes, without its
-// quantifiers and without the constants that do not occur in what the second side assumes.
+// Craig interpolants of parts of a problem, of which those of the first side have no predicates and functions: what the first side
+// assumes, without its quantifiers and without the constants that do not occur in what the second side assumes.
 #![tactic(auto)]
 
 mod fault;
@@ -8,5 +8,5 @@ mod parts;
 mod projection;
 
 pub use fault::{Interpolant, InterpolantFault};
-pub use laws::{apart_law, occurrence_law, size_law};
-pub use parts::{between, between_parts};
+pub use laws::{apart_law, occurrence_law, plain_law, size_law};
+pub use parts::{between, between_at, between_parts, between_sides};

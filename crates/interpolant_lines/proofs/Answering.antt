@@ -1,15 +1,15 @@
--- The calls for blocks answer their lines.
-use Rattle.std.proofs.Common.{◌≡◌, ◌≢◌, inl, inr, ◌<◌, ◌≤◌, ◌+◌, ℕ, true, false, if◌then◌else◌, List, [], ◌∷◌, ◌++◌, length, drop, get_or, Result, Ok, Err, IfOk, OnOk, refl, sym, ◌∙◌, ap, subst, Contains, append_assoc, append-nil}
-use Rattle.std.specs.List.{concat}
+-- The calls for seams answer their lines.
+use Rattle.std.proofs.Common.{◌≡◌, ◌≢◌, ◌<◌, ◌≤◌, ◌+◌, ◌-◌, ℕ, zero, suc, Bool, true, false, if◌then◌else◌, List, [], ◌∷◌, ◌++◌, length, drop, get_or, Option, Some, None, is_some, Result, Ok, Err, IfOk, OnOk, refl, sym, ◌∙◌, ap, subst, Contains, append_assoc, append-nil, arith, codes}
+use Rattle.std.specs.List.{concat, slice_index_or}
 use Rattle.std.specs.Global.{Vec}
 use Rattle.linear_term.specs.declared.range.Memory.{Memory}
-use Rattle.purse.specs.declared.fault.ElimFault.TheVariants as elim_fault
-use Rattle.purse.specs.Runs.{raw_stay}
-use Rattle.purse.specs.Trace.{Funds, at, End, done, stand}
-use Rattle.purse.specs.Work.{Refused, Leaves}
-use Rattle.purse.proofs.Charging.{drop-item, drop_all}
+use Rattle.purse.specs.declared.fault.ElimFault.TheVariants as elimination
+use Rattle.purse.specs.Trace.{Funds}
+use Rattle.purse.proofs.Charging.{drop_all}
+use Rattle.typed_formula.specs.Formula.{Formula}
 use Rattle.typed_formula.specs.Truth.{Meaning}
-use Rattle.pri_typing.specs.Problems.{meaning_of}
+use Rattle.formula.specs.Tree.{form}
+use Rattle.pri_typing.specs.Problems.{Holds, IsPlainlyValid, meaning_of}
 use Rattle.pri_typing.specs.declared.problem.Cut.{Cut}
 use Rattle.pri_typing.specs.declared.problem.Problem.{Problem}
 use Rattle.encoding.specs.Problems.{is_large, parts_root}
@@ -17,130 +17,335 @@ use Rattle.function_encoding.specs.declared.answer.EncodeRefusal.TheVariants as 
 use Rattle.interpolant.specs.declared.fault.Interpolant.{Interpolant}
 use Rattle.interpolant.specs.declared.fault.InterpolantFault.{InterpolantFault}
 use Rattle.interpolant.specs.declared.fault.InterpolantFault.TheVariants.{Elim, Encode}
-use Rattle.interpolant.specs.Run.{Interpolates}
-use Rattle.interpolant.specs.Sides.{set_of}
-use Rattle.problem_file.proofs.Encoded.{left_stays}
+use Rattle.cut_sides.specs.Sides.{Case, arithmetic, first_itself, second_denied, none as no_case, case_of, cut_of, first_sets}
 use Rattle.constraint_text.specs.Constraint.{IsLineOf, IsTextOf, interpolant_line}
-use Rattle.interpolant_lines.specs.Blocks.{block_run, block_end, after_block, unknown_line, IsBlockLine, found, steps, overflow, AreBlockLines, IsBlocksText}
-use Rattle.interpolant_lines.specs.Told.{TellsFault}
+use Rattle.pred_interpolant.specs.declared.fault.MiddleFault.{MiddleFault}
+use Rattle.pred_interpolant.specs.declared.fault.MiddleFault.TheVariants as fault
+use Rattle.pred_interpolant.specs.declared.fault.MiddleFormula.{MiddleFormula}
+use Rattle.pred_interpolant.specs.declared.fault.MiddleFormula.TheVariants.{Arithmetic, General}
+use Rattle.pred_interpolant.specs.Made.{FindsBy, uninterpolated}
+use Rattle.pred_interpolant.specs.Middle.{IsObligation, above, below, obligation_root, said}
+use Rattle.proof_tree.specs.declared.run.Verdict.TheVariants as verdict
+use Rattle.proof_tree.specs.Proves.{Proves}
+use Rattle.proof_tree.specs.Views.{proof_of}
+use Rattle.middle_runs.specs.declared.proved.Middle.{Middle}
+use Rattle.middle_runs.specs.declared.proved.Proved.{Proved}
+use Rattle.middle_runs.specs.Meaning.{IsProved}
+use Rattle.middle_runs.specs.Runs.{MakesMiddle}
+use Rattle.interpolant_lines.specs.Blocks.{after_line, after_lines, unknown_line, IsSeamLine, found, unknown, AreLines, IsLinesText, IsTextBy, IsTypedText}
+use Rattle.interpolant_lines.specs.Ends.{Cause, cause_text, plain as plainly, prints, tells, left_by, line_end, formula_by, is_applied, is_plainly_valid, middle_by, normal_end, seam_case}
+use Rattle.interpolant_lines.specs.Proved.{AreObligationsProved, HasProvingTree}
+use Rattle.interpolant_lines.specs.Seams.{Seam, seams, seams_from, seams_of}
+use Rattle.interpolant_lines.specs.Told.{TellsFault, TellsFormula, TellsMiddleFault}
+use Rattle.interpolant_lines.proofs.Running.{Called, IsMade, IsNoWant, cause_of, middle_made, middle_unmade, run_found, run_missed}
 
--- ---- one block
+-- ---- which work is done
 
--- the purse behind a run
-behind : (p : Problem) (b : Cut) (old new : Funds) (end : End) → raw_stay (parts_root p (set_of b 0)).events ≡ true → block_end p b old ≡ end → (stand end).funds ≡ new → new ≡ after_block p b old
-behind p b old new end stays is stands =
-    sym stands ∙ sym (ap (λ s. if s then (stand (block_end p b old)).funds else old) stays ∙ ap (λ e. (stand e).funds) is)
+applied_not : (p : Problem) → p.first_application ≡ None → is_applied p ≡ false
+applied_not p h = ap is_some h
 
-left_as_was : (p : Problem) (b : Cut) (old new : Funds) → raw_stay (parts_root p (set_of b 0)).events ≡ false → new ≡ old → new ≡ after_block p b old
-left_as_was p b old new leaves is = is ∙ sym (ap (λ s. if s then (stand (block_end p b old)).funds else old) leaves)
+applied_so : (p : Problem) → p.first_application ≢ None → is_applied p ≡ true
+applied_so p h = by p.first_application h
+  where
+    by : (x : Option ℕ) → x ≢ None → is_some x ≡ true
+    by None k = absurd (k refl)
+    by (Some x) k = refl
+
+pure_end : (p : Problem) (b : Seam) (old : Funds) → p.first_application ≡ None → line_end p b old ≡ normal_end p b old
+pure_end p b old h = ap (λ a. if a then (if is_plainly_valid p then tells plainly old else middle_by p b (seam_case p b) old) else normal_end p b old) (applied_not p h)
+
+pure_case : (p : Problem) (b : Seam) → p.first_application ≡ None → seam_case p b ≡ arithmetic
+pure_case p b h = ap (λ a. if a then case_of p b.cut b.at else arithmetic) (applied_not p h)
+
+applied_end : (p : Problem) (b : Seam) (old : Funds) → p.first_application ≢ None → line_end p b old ≡ (if is_plainly_valid p then tells plainly old else middle_by p b (seam_case p b) old)
+applied_end p b old h = ap (λ a. if a then (if is_plainly_valid p then tells plainly old else middle_by p b (seam_case p b) old) else normal_end p b old) (applied_so p h)
+
+applied_case : (p : Problem) (b : Seam) → p.first_application ≢ None → seam_case p b ≡ case_of p b.cut b.at
+applied_case p b h = ap (λ a. if a then case_of p b.cut b.at else arithmetic) (applied_so p h)
+
+pub some_applied : (p : Problem) → is_applied p ≡ true → p.first_application ≢ None
+some_applied p h n = let bad : true ≡ false = sym h ∙ applied_not p n in cc
+
+not_plain : (p : Problem) → ¬ (IsPlainlyValid p) → is_plainly_valid p ≡ false
+not_plain p h = by (is_plainly_valid p) h
+  where
+    by : (x : Bool) → ¬ (x ≡ true) → x ≡ false
+    by true k = absurd (k refl)
+    by false k = refl
+
+middle_end : (p : Problem) (b : Seam) (old : Funds) → p.first_application ≢ None → ¬ (IsPlainlyValid p) → line_end p b old ≡ middle_by p b (case_of p b.cut b.at) old
+middle_end p b old h k =
+    applied_end p b old h ∙ ap (λ v. if v then tells plainly old else middle_by p b (seam_case p b) old) (not_plain p k) ∙ ap (λ c. middle_by p b c old) (applied_case p b h)
+
+-- ---- one line
 
 -- what a call has answered, for its line and for its purse
-record Answered (p : Problem) (b : Cut) (old : Funds) (text : List ℕ) (new : Funds) : Type 0 where
-  line : IsBlockLine p b old text
-  left : new ≡ after_block p b old
+record Answered (p : Problem) (b : Seam) (old : Funds) (text : List ℕ) (new : Funds) : Type 0 where
+  line : IsSeamLine p b old text
+  left : new ≡ after_line p b old
 
-abbrev Called : Problem → Cut → Funds → Result Interpolant InterpolantFault → Funds → Type 0
-Called p b = Interpolates p (set_of b 0) (set_of b 1)
+answered_found : (p : Problem) (b : Seam) (old new : Funds) (x text : List ℕ) → line_end p b old ≡ prints new → IsTextBy p b (seam_case p b) x → text ≡ interpolant_line x
+    → (p.first_application ≢ None → AreObligationsProved p b (formula_by p b (seam_case p b))) → Answered p b old text new
+answered_found p b old new x text is t e proved = record { line = found new x is t e proved; left = sym (ap left_by is) }
 
-interpolant_told : (p : Problem) (b : Cut) (old new : Funds) (i : Interpolant) (text : List ℕ) → Called p b old (Ok i) new → IsLineOf interpolant_line p i.formula text → Answered p b old text new
-interpolant_told p b old new i text h l =
-    let ended = ((h.1).did []).charged.ok i.formula refl in
-    let stays = (h.0).stay in
-    let is : block_end p b old ≡ done (at new ((h.1).did []).notes) = (ended.1).end in
+answered_unknown : (p : Problem) (b : Seam) (old new : Funds) (c : Cause) (text : List ℕ) → line_end p b old ≡ tells c new → text ≡ unknown_line (cause_text c) → Answered p b old text new
+answered_unknown p b old new c text is e = record { line = unknown c new is e; left = sym (ap left_by is) }
+
+interpolant_told : (p : Problem) (b : Seam) (old new : Funds) (i : Interpolant) (text : List ℕ) → p.first_application ≡ None → Called p b old (Ok i) new → IsLineOf interpolant_line p i.formula text → Answered p b old text new
+interpolant_told p b old new i text none h l =
+    let f = run_found p b old new i h in
+    answered_found p b old new l.x text (pure_end p b old none ∙ f.0)
+    (subst (λ c. IsTextBy p b c l.x) (sym (pure_case p b none)) (subst (λ d. IsTextOf p d l.x) (sym f.1) l.printed)) l.line (λ some. absurd (some none))
+
+run_cause : (x : InterpolantFault) (text : List ℕ) → TellsFault x text → IsNoWant (uninterpolated x) × (text ≡ unknown_line (cause_text (cause_of (uninterpolated x))))
+run_cause (Elim (elimination.Steps log)) text t = (tt, t.2 ∙ ap unknown_line t.1)
+run_cause (Elim (elimination.Overflow log place)) text t = (tt, t.2 ∙ ap unknown_line t.1)
+run_cause (Elim elimination.Memory) text t = absurd t.1
+run_cause (Encode refusal.Large) text t = absurd t.1
+run_cause (Encode (refusal.Overflow place)) text t = (tt, t.2 ∙ ap unknown_line t.1)
+run_cause (Encode refusal.Memory) text t = absurd t.1
+
+fault_told : (p : Problem) (b : Seam) (old new : Funds) (x : InterpolantFault) (text : List ℕ) → p.first_application ≡ None → is_large (parts_root p (first_sets b.cut b.at)).value ≡ false
+    → Called p b old (Err x) new → TellsFault x text → Answered p b old text new
+fault_told p b old new x text none small h t =
+    let k = run_cause x text t in answered_unknown p b old new _ text (pure_end p b old none ∙ run_missed p b old new x small h k.0) k.1
+
+middle_cause : (x : MiddleFault) (text : List ℕ) → TellsMiddleFault x text → IsNoWant x × (text ≡ unknown_line (cause_text (cause_of x)))
+middle_cause fault.Symbols text t = (tt, t.2 ∙ ap unknown_line t.1)
+middle_cause fault.Steps text t = (tt, t.2 ∙ ap unknown_line t.1)
+middle_cause (fault.Overflow place) text t = (tt, t.2 ∙ ap unknown_line t.1)
+middle_cause fault.Branch text t = (tt, t.2 ∙ ap unknown_line t.1)
+middle_cause fault.Large text t = (tt, t.2 ∙ ap unknown_line t.1)
+middle_cause fault.Memory text t = absurd t.1
+
+-- the seam of a cut with a number
+abbrev pub numbered : Problem → ℕ → ℕ → Seam
+numbered p cut place = record { cut = cut_of p cut; at = place }
+
+formula_text_told : (p : Problem) (cut place : ℕ) (c : Case) (old left : Funds) (m : MiddleFormula) (text : List ℕ) → FindsBy p cut place c old m left → TellsFormula p m text
+    → (x : List ℕ) × IsTextBy p (numbered p cut place) c x × (text ≡ interpolant_line x)
+formula_text_told p cut place arithmetic old left (Arithmetic d) text h t =
+    (t.x, subst (λ k. IsTextOf p k t.x) (sym (run_found p (numbered p cut place) old left _ h).1) t.printed, t.line)
+formula_text_told p cut place arithmetic old left (General f) text h t = absurd h
+formula_text_told p cut place first_itself old left (Arithmetic d) text h t = absurd h
+formula_text_told p cut place first_itself old left (General f) text h t = (t.x, subst (λ g. IsTypedText p g t.x) h.0 t.printed, t.line)
+formula_text_told p cut place second_denied old left (Arithmetic d) text h t = absurd h
+formula_text_told p cut place second_denied old left (General f) text h t = (t.x, subst (λ g. IsTypedText p g t.x) h.0 t.printed, t.line)
+formula_text_told p cut place no_case old left m text h t = absurd h
+
+-- the trees of the call are those of its obligations
+tree_of : (p : Problem) (f : Formula) (m : Proved) → IsObligation p f m.encoded → IsProved m → HasProvingTree p f
+tree_of p f m o h =
+    let root : form m.encoded.root ≡ (obligation_root p f).value = o.encoded.root ∙ ap (λ g. (obligation_root p g).value) o.is in
     record {
-      line = found l.x (stays, (at new ((h.1).did []).notes, is)) (subst (λ d. IsTextOf p d l.x) ended.0 l.printed) l.line;
-      left = behind p b old new _ stays is refl;
+      tree = proof_of m.tree.root;
+      conclusion = m.tree.conclusion;
+      charges = m.tree.charges;
+      proves = subst (λ n. Proves (obligation_root p f).value n (proof_of m.tree.root) m.tree.conclusion m.tree.charges (verdict.Valid [])) o.encoded.constants
+          (subst (λ g. Proves g m.encoded.constants (proof_of m.tree.root) m.tree.conclusion m.tree.charges (verdict.Valid [])) root h);
     }
 
-fault_told : (p : Problem) (b : Cut) (old new : Funds) (fault : InterpolantFault) (text : List ℕ) → Called p b old (Err fault) new → TellsFault fault text → Answered p b old text new
-fault_told p b old new (Elim (elim_fault.Steps log)) text h t =
-    let notes = ((h.1).did []).notes in
-    let ended : Refused (block_run p b).events (at old []) (at new notes) = ((h.1).did []).charged.steps refl in
-    record {
-      line = steps ((h.0).stay, (at new notes, ended.end)) (t.2 ∙ ap unknown_line t.1);
-      left = behind p b old new _ (h.0).stay ended.end refl;
-    }
-fault_told p b old new (Elim (elim_fault.Overflow log place)) text h t =
-    let notes = ((h.1).did []).notes in
-    let ended : Leaves (block_run p b).events (at old []) (at new notes) place = ((h.1).did []).charged.overflow place refl in
-    record {
-      line = overflow (inr (ended.numbers, at new notes, ended.end)) (t.2 ∙ ap unknown_line t.1);
-      left = behind p b old new _ (h.0).stay ended.end refl;
-    }
-fault_told p b old new (Elim elim_fault.Memory) text h t = absurd t.1
-fault_told p b old new (Encode refusal.Large) text h t = absurd t.1
-fault_told p b old new (Encode (refusal.Overflow place)) text h t =
-    let leaves = left_stays (parts_root p (set_of b 0)) place h.0.1 in
-    record {
-      line = overflow (inl leaves) (t.2 ∙ ap unknown_line t.1);
-      left = left_as_was p b old new leaves h.1;
-    }
-fault_told p b old new (Encode refusal.Memory) text h t = absurd t.1
+pub record HasTrees (p : Problem) (cut place : ℕ) (m : Middle) : Type 0 where
+  pub is_below : IsObligation p (below p cut place m.formula) m.below.encoded
+  pub is_above : IsObligation p (above p cut place m.formula) m.above.encoded
+  pub proved_below : IsProved m.below
+  pub proved_above : IsProved m.above
+
+trees_of : (p : Problem) (cut place : ℕ) (m : Middle) → HasTrees p cut place m → AreObligationsProved p (numbered p cut place) (said p m.formula)
+trees_of p cut place m h = record { below = tree_of p _ m.below h.is_below h.proved_below; above = tree_of p _ m.above h.is_above h.proved_above }
+
+middle_told : (p : Problem) (cut place : ℕ) (old new : Funds) (m : Middle) (text : List ℕ) → p.first_application ≢ None → ¬ (IsPlainlyValid p) → MakesMiddle p cut place old (Ok m) new
+    → HasTrees p cut place m → TellsFormula p m.formula text → Answered p (numbered p cut place) old text new
+middle_told p cut place old new m text some plain h trees t =
+    let made : IsMade p cut place old new m.formula = middle_made p cut place old new m h in
+    let told = formula_text_told p cut place (case_of p (cut_of p cut) place) old made.left m.formula text made.finds t in
+    answered_found p (numbered p cut place) old new told.0 text (middle_end p (numbered p cut place) old some plain ∙ made.ends)
+    (subst (λ c. IsTextBy p (numbered p cut place) c told.0) (sym (applied_case p (numbered p cut place) some)) told.1) told.2
+    (λ s. subst (λ c. AreObligationsProved p (numbered p cut place) (formula_by p (numbered p cut place) c)) (sym (applied_case p (numbered p cut place) some))
+    (subst (AreObligationsProved p (numbered p cut place)) (sym made.is) (trees_of p cut place m trees)))
+
+middle_fault_told : (p : Problem) (cut place : ℕ) (old new : Funds) (x : MiddleFault) (text : List ℕ) → p.first_application ≢ None → ¬ (IsPlainlyValid p)
+    → is_large (parts_root p (first_sets (cut_of p cut) place)).value ≡ false → MakesMiddle p cut place old (Err x) new → TellsMiddleFault x text → Answered p (numbered p cut place) old text new
+middle_fault_told p cut place old new x text some plain small h t =
+    let k = middle_cause x text t in
+    answered_unknown p (numbered p cut place) old new _ text (middle_end p (numbered p cut place) old some plain ∙ middle_unmade p cut place old new x small h k.0) k.1
+
+plain_told : (p : Problem) (b : Seam) (old : Funds) (text : List ℕ) → p.first_application ≢ None → is_plainly_valid p ≡ true → text ≡ unknown_line (codes "plain") → Answered p b old text old
+plain_told p b old text some valid e =
+    answered_unknown p b old old plainly text (applied_end p b old some ∙ ap (λ v. if v then tells plainly old else middle_by p b (seam_case p b) old) valid) e
 
 -- the same of answers of the code
-module _ (p : Problem) (b : Cut) (old new : Funds) where
+module _ (p : Problem) (b : Seam) (old new : Funds) where
   all_told : (r : Result (Vec ℕ) Memory) (P : List ℕ → Type 0) → ((text : List ℕ) → P text → Answered p b old text new) → IfOk r (λ t. P t.items) → IfOk r (λ t. Answered p b old t.items new)
   all_told (Ok t) P so h = so t.items h
   all_told (Err m) P so h = tt
 
-  line_told : (r : Result (Vec ℕ) Memory) → IfOk r (λ t. Answered p b old t.items new) → IfOk r (λ t. IsBlockLine p b old t.items)
+  line_told : (r : Result (Vec ℕ) Memory) → IfOk r (λ t. Answered p b old t.items new) → IfOk r (λ t. IsSeamLine p b old t.items)
   line_told (Ok t) h = h.line
   line_told (Err m) h = tt
 
-  left_told : (r : Result (Vec ℕ) Memory) → IfOk r (λ t. Answered p b old t.items new) → OnOk r (new ≡ after_block p b old)
+  left_told : (r : Result (Vec ℕ) Memory) → IfOk r (λ t. Answered p b old t.items new) → OnOk r (new ≡ after_line p b old)
   left_told (Ok t) h = h.left
   left_told (Err m) h = tt
 
-  pub found_line : (i : Interpolant) (r : Result (Vec ℕ) Memory) → Called p b old (Ok i) new → IfOk r (λ t. IsLineOf interpolant_line p i.formula t.items) → IfOk r (λ t. IsBlockLine p b old t.items)
-  found_line i r h k = line_told r (all_told r (IsLineOf interpolant_line p i.formula) (λ text. interpolant_told p b old new i text h) k)
+  module _ (r : Result (Vec ℕ) Memory) where
+    found_all : (i : Interpolant) → p.first_application ≡ None → Called p b old (Ok i) new → IfOk r (λ t. IsLineOf interpolant_line p i.formula t.items) → IfOk r (λ t. Answered p b old t.items new)
+    found_all i none h = all_told r (IsLineOf interpolant_line p i.formula) (λ text. interpolant_told p b old new i text none h)
 
-  pub found_left : (i : Interpolant) (r : Result (Vec ℕ) Memory) → Called p b old (Ok i) new → IfOk r (λ t. IsLineOf interpolant_line p i.formula t.items) → OnOk r (new ≡ after_block p b old)
-  found_left i r h k = left_told r (all_told r (IsLineOf interpolant_line p i.formula) (λ text. interpolant_told p b old new i text h) k)
+    pub found_line : (i : Interpolant) → p.first_application ≡ None → Called p b old (Ok i) new → IfOk r (λ t. IsLineOf interpolant_line p i.formula t.items) → IfOk r (λ t. IsSeamLine p b old t.items)
+    found_line i none h k = line_told r (found_all i none h k)
 
-  pub unknown_told : (fault : InterpolantFault) (r : Result (Vec ℕ) Memory) → Called p b old (Err fault) new → IfOk r (λ t. TellsFault fault t.items) → IfOk r (λ t. IsBlockLine p b old t.items)
-  unknown_told fault r h k = line_told r (all_told r (TellsFault fault) (λ text. fault_told p b old new fault text h) k)
+    pub found_left : (i : Interpolant) → p.first_application ≡ None → Called p b old (Ok i) new → IfOk r (λ t. IsLineOf interpolant_line p i.formula t.items) → OnOk r (new ≡ after_line p b old)
+    found_left i none h k = left_told r (found_all i none h k)
 
-  pub unknown_left : (fault : InterpolantFault) (r : Result (Vec ℕ) Memory) → Called p b old (Err fault) new → IfOk r (λ t. TellsFault fault t.items) → OnOk r (new ≡ after_block p b old)
-  unknown_left fault r h k = left_told r (all_told r (TellsFault fault) (λ text. fault_told p b old new fault text h) k)
+    missed_all : (x : InterpolantFault) → p.first_application ≡ None → is_large (parts_root p (first_sets b.cut b.at)).value ≡ false → Called p b old (Err x) new → IfOk r (λ t. TellsFault x t.items) → IfOk r (λ t. Answered p b old t.items new)
+    missed_all x none small h = all_told r (TellsFault x) (λ text. fault_told p b old new x text none small h)
+
+    pub missed_line : (x : InterpolantFault) → p.first_application ≡ None → is_large (parts_root p (first_sets b.cut b.at)).value ≡ false → Called p b old (Err x) new → IfOk r (λ t. TellsFault x t.items) → IfOk r (λ t. IsSeamLine p b old t.items)
+    missed_line x none small h k = line_told r (missed_all x none small h k)
+
+    pub missed_left : (x : InterpolantFault) → p.first_application ≡ None → is_large (parts_root p (first_sets b.cut b.at)).value ≡ false → Called p b old (Err x) new → IfOk r (λ t. TellsFault x t.items) → OnOk r (new ≡ after_line p b old)
+    missed_left x none small h k = left_told r (missed_all x none small h k)
+
+  plain_all : (r : Result (Vec ℕ) Memory) → p.first_application ≢ None → is_plainly_valid p ≡ true → new ≡ old → IfOk r (λ t. t.items ≡ unknown_line (codes "plain")) → IfOk r (λ t. Answered p b old t.items new)
+  plain_all r some valid same = all_told r (λ text. text ≡ unknown_line (codes "plain")) (λ text e. subst (λ g. Answered p b old text g) (sym same) (plain_told p b old text some valid e))
+
+  pub plain_line : (r : Result (Vec ℕ) Memory) → p.first_application ≢ None → is_plainly_valid p ≡ true → new ≡ old → IfOk r (λ t. t.items ≡ unknown_line (codes "plain")) → IfOk r (λ t. IsSeamLine p b old t.items)
+  plain_line r some valid same k = line_told r (plain_all r some valid same k)
+
+  pub plain_left : (r : Result (Vec ℕ) Memory) → p.first_application ≢ None → is_plainly_valid p ≡ true → new ≡ old → IfOk r (λ t. t.items ≡ unknown_line (codes "plain")) → OnOk r (new ≡ after_line p b old)
+  plain_left r some valid same k = left_told r (plain_all r some valid same k)
+
+-- of a call with these numbers
+module _ (p : Problem) (cut place k j : ℕ) (same_cut : k ≡ cut) (same_place : j ≡ place) (old new : Funds) (some : p.first_application ≢ None) (not : ¬ (IsPlainlyValid p)) (r : Result (Vec ℕ) Memory) where
+  placed : (x : Result Middle MiddleFault) → MakesMiddle p k j old x new → MakesMiddle p cut place old x new
+  placed x h = subst (λ z. MakesMiddle p z place old x new) same_cut (subst (λ z. MakesMiddle p k z old x new) same_place h)
+
+  placed_trees : (m : Middle) → HasTrees p k j m → HasTrees p cut place m
+  placed_trees m h = subst (λ z. HasTrees p z place m) same_cut (subst (λ z. HasTrees p k z m) same_place h)
+
+  middle_all : (m : Middle) → MakesMiddle p k j old (Ok m) new → HasTrees p k j m → IfOk r (λ t. TellsFormula p m.formula t.items) → IfOk r (λ t. Answered p (numbered p cut place) old t.items new)
+  middle_all m h trees = all_told p (numbered p cut place) old new r (TellsFormula p m.formula) (λ text. middle_told p cut place old new m text some not (placed (Ok m) h) (placed_trees m trees))
+
+  pub middle_line : (m : Middle) → MakesMiddle p k j old (Ok m) new → HasTrees p k j m → IfOk r (λ t. TellsFormula p m.formula t.items) → IfOk r (λ t. IsSeamLine p (numbered p cut place) old t.items)
+  middle_line m h trees told = line_told p (numbered p cut place) old new r (middle_all m h trees told)
+
+  pub middle_left : (m : Middle) → MakesMiddle p k j old (Ok m) new → HasTrees p k j m → IfOk r (λ t. TellsFormula p m.formula t.items) → OnOk r (new ≡ after_line p (numbered p cut place) old)
+  middle_left m h trees told = left_told p (numbered p cut place) old new r (middle_all m h trees told)
+
+  unmade_all : (x : MiddleFault) → is_large (parts_root p (first_sets (cut_of p cut) place)).value ≡ false → MakesMiddle p k j old (Err x) new → IfOk r (λ t. TellsMiddleFault x t.items)
+      → IfOk r (λ t. Answered p (numbered p cut place) old t.items new)
+  unmade_all x small h = all_told p (numbered p cut place) old new r (TellsMiddleFault x) (λ text. middle_fault_told p cut place old new x text some not small (placed (Err x) h))
+
+  pub unmade_line : (x : MiddleFault) → is_large (parts_root p (first_sets (cut_of p cut) place)).value ≡ false → MakesMiddle p k j old (Err x) new → IfOk r (λ t. TellsMiddleFault x t.items)
+      → IfOk r (λ t. IsSeamLine p (numbered p cut place) old t.items)
+  unmade_line x small h told = line_told p (numbered p cut place) old new r (unmade_all x small h told)
+
+  pub unmade_left : (x : MiddleFault) → is_large (parts_root p (first_sets (cut_of p cut) place)).value ≡ false → MakesMiddle p k j old (Err x) new → IfOk r (λ t. TellsMiddleFault x t.items)
+      → OnOk r (new ≡ after_line p (numbered p cut place) old)
+  unmade_left x small h told = left_told p (numbered p cut place) old new r (unmade_all x small h told)
+
+-- a problem that holds without values has no existential constant
+pub no_existentials : (w : Meaning) (p : Problem) → Holds w p [] → p.existentials ≡ []
+no_existentials w p h = by p.existentials h.many
+  where
+    by : (xs : List (List ℕ)) → 0 ≡ length xs → xs ≡ []
+    by [] e = refl
+    by (x ∷ xs) e = absurd (omega (arith, e))
 
 -- an interpretation
 pub some_meaning : Meaning
 some_meaning = meaning_of (record { truths = []; values = [] })
 
 -- what is encoded is not too large
-pub not_large : (p : Problem) (b : Cut) (old new : Funds) (fault : InterpolantFault) → is_large (parts_root p (set_of b 0)).value ≡ false → Called p b old (Err fault) new → fault ≢ Encode refusal.Large
+pub not_large : (p : Problem) (b : Seam) (old new : Funds) (fault : InterpolantFault) → is_large (parts_root p (first_sets b.cut b.at)).value ≡ false → Called p b old (Err fault) new → fault ≢ Encode refusal.Large
 not_large p b old new fault small h is =
-    let large : is_large (parts_root p (set_of b 0)).value ≡ true = (subst (λ f. Called p b old (Err f) new) is h).0 in
+    let large : is_large (parts_root p (first_sets b.cut b.at)).value ≡ true = (subst (λ f. Called p b old (Err f) new) is h).0 in
     let bad : true ≡ false = sym large ∙ small in
     cc
 
--- ---- all blocks
+-- ---- several lines
 
--- what is left of the blocks: with the lines for the rest the text is whole
-abbrev pub Goes : Problem → List Cut → Funds → List ℕ → Funds → Type 0
-Goes p bs now text old = (rest : List (List ℕ)) → AreBlockLines p bs now rest → IsBlocksText p old (text ++ concat rest)
+lines_join : (p : Problem) (bs cs : List Seam) (old : Funds) (xs ys : List (List ℕ)) → AreLines p bs old xs → AreLines p cs (after_lines p bs old) ys → AreLines p (bs ++ cs) old (xs ++ ys)
+lines_join p [] cs old [] ys h k = k
+lines_join p [] cs old (x ∷ xs) ys h k = absurd h
+lines_join p (b ∷ bs) cs old [] ys h k = absurd h
+lines_join p (b ∷ bs) cs old (x ∷ xs) ys h k = (h.0, lines_join p bs cs (after_line p b old) xs ys h.1 k)
 
-pub goes_all : (p : Problem) (old : Funds) → Goes p p.cuts old [] old
-goes_all p old rest h = record { lines = rest; are = h; whole = refl }
+after_join : (p : Problem) (bs cs : List Seam) (old : Funds) → after_lines p (bs ++ cs) old ≡ after_lines p cs (after_lines p bs old)
+after_join p [] cs old = refl
+after_join p (b ∷ bs) cs old = after_join p bs cs (after_line p b old)
 
-pub goes_next : (p : Problem) (b : Cut) (bs cs : List Cut) (now new old : Funds) (text line : List ℕ) → cs ≡ b ∷ bs → IsBlockLine p b now line → new ≡ after_block p b now → Goes p cs now text old
-    → Goes p bs new (text ++ line) old
-goes_next p b bs cs now new old text line is told left h rest more =
-    subst (IsBlocksText p old) (sym (append_assoc text line (concat rest)))
-    (h (line ∷ rest) (subst (λ xs. AreBlockLines p xs now (line ∷ rest)) (sym is) (told, subst (λ g. AreBlockLines p bs g rest) left more)))
+concat_join : (xs ys : List (List ℕ)) → concat (xs ++ ys) ≡ concat xs ++ concat ys
+concat_join [] ys = refl
+concat_join (x ∷ xs) ys = ap (λ z. x ++ z) (concat_join xs ys) ∙ sym (append_assoc x (concat xs) (concat ys))
 
-pub goes_end : (p : Problem) (bs : List Cut) (now old : Funds) (text : List ℕ) → bs ≡ [] → Goes p bs now text old → IsBlocksText p old text
-goes_end p bs now old text none h = subst (IsBlocksText p old) (append-nil text) (h [] (subst (λ xs. AreBlockLines p xs now []) (sym none) tt))
+-- what is left of the seams: with the lines for the rest the text is whole, and behind them the purse is as it will be
+pub record Goes (p : Problem) (bs : List Seam) (now : Funds) (text : List ℕ) (all : List Seam) (old : Funds) : Type 0 where
+  pub goes : (rest : List (List ℕ)) → AreLines p bs now rest → IsLinesText p all old (text ++ concat rest)
+  pub left : after_lines p bs now ≡ after_lines p all old
 
--- the cuts as a slice: its item at a place is one of them, and the first of those that are left
-pub among_cuts : (cuts slice : List Cut) (i : ℕ) (cut : Cut) → slice ≡ cuts → i < length slice → cut ≡ get_or slice i cut → Contains cuts cut
-among_cuts cuts slice i cut is lt read = subst (λ xs. Contains xs cut) is (i, lt, sym read)
+pub goes_all : (p : Problem) (all : List Seam) (old : Funds) → Goes p all old [] all old
+goes_all p all old = record { goes = λ rest h. record { lines = rest; are = h; whole = refl }; left = refl }
 
-pub next_cut : (cuts slice : List Cut) (i : ℕ) (cut : Cut) → slice ≡ cuts → i < length slice → cut ≡ get_or slice i cut → drop i cuts ≡ cut ∷ drop (i + 1) cuts
-next_cut cuts slice i cut is lt read = subst (λ xs. drop i xs ≡ cut ∷ drop (i + 1) xs) is (drop-item slice i cut lt read)
+-- with the lines of some more
+pub goes_more : (p : Problem) (bs cs ds : List Seam) (now new old : Funds) (text more whole : List ℕ) (all : List Seam) → cs ≡ bs ++ ds → whole ≡ text ++ more → IsLinesText p bs now more → new ≡ after_lines p bs now
+    → Goes p cs now text all old → Goes p ds new whole all old
+goes_more p bs cs ds now new old text more whole all is made told left h =
+    subst (λ t. Goes p ds new t all old) (sym made) (subst (λ g. Goes p ds g (text ++ more) all old) (sym left) (record {
+      goes = λ rest k.
+          subst (IsLinesText p all old) (ap (λ z. text ++ z) (concat_join told.lines rest) ∙ sym (append_assoc text (concat told.lines) (concat rest)) ∙ ap (λ z. (text ++ z) ++ concat rest) (sym told.whole))
+          (h.goes (told.lines ++ rest) (subst (λ xs. AreLines p xs now (told.lines ++ rest)) (sym is) (lines_join p bs ds now told.lines rest told.are k)));
+      left = sym (after_join p bs ds now) ∙ ap (λ xs. after_lines p xs now) (sym is) ∙ h.left;
+    }))
 
-pub none_left : (cuts slice : List Cut) (i : ℕ) → slice ≡ cuts → length slice ≤ i → drop i cuts ≡ []
-none_left cuts slice i is le = subst (λ xs. drop i xs ≡ []) is (drop_all slice i le)
+-- with one line more
+pub goes_next : (p : Problem) (b : Seam) (cs ds : List Seam) (now new old : Funds) (text line whole : List ℕ) (all : List Seam) → cs ≡ b ∷ ds → whole ≡ text ++ line → IsSeamLine p b now line → new ≡ after_line p b now
+    → Goes p cs now text all old → Goes p ds new whole all old
+goes_next p b cs ds now new old text line whole all is made told left h =
+    goes_more p (b ∷ []) cs ds now new old text line whole all is made (record { lines = line ∷ []; are = (told, tt); whole = sym (append-nil line) }) left h
 
-pub goes_with : (p : Problem) (bs : List Cut) (now old : Funds) (text more : List ℕ) → more ≡ text → Goes p bs now text old → Goes p bs now more old
-goes_with p bs now old text more is h = subst (λ t. Goes p bs now t old) (sym is) h
+pub goes_end : (p : Problem) (bs : List Seam) (now old : Funds) (text : List ℕ) (all : List Seam) → bs ≡ [] → Goes p bs now text all old → IsLinesText p all old text
+goes_end p bs now old text all none h = subst (IsLinesText p all old) (append-nil text) (h.goes [] (subst (λ xs. AreLines p xs now []) (sym none) tt))
+
+pub goes_left : (p : Problem) (bs : List Seam) (now old : Funds) (text : List ℕ) (all : List Seam) → bs ≡ [] → Goes p bs now text all old → now ≡ after_lines p all old
+goes_left p bs now old text all none h = ap (λ xs. after_lines p xs now) (sym none) ∙ h.left
+
+-- ---- the seams that are left
+
+-- those of a block from a place on, and the ones behind it
+pub seams_next : (b : Cut) (n at : ℕ) → at < n → seams_from b at (n - at) ≡ record { cut = b; at = at } ∷ seams_from b (at + 1) (n - (at + 1))
+seams_next b n at lt =
+    let less : n - at ≡ suc (n - (at + 1)) = omega (arith, lt) in
+    let next : suc at ≡ at + 1 = omega arith in
+    ap (seams_from b at) less ∙ ap (λ k. record { cut = b; at = at } ∷ seams_from b k (n - (at + 1))) next
+
+pub seams_end : (b : Cut) (n at : ℕ) → n ≤ at → seams_from b at (n - at) ≡ []
+seams_end b n at le = let none : n - at ≡ 0 = omega (arith, le) in ap (seams_from b at) none
+
+-- the cut with a number is one of them, and its seams are the first of those that are left
+get_numbered : (cuts : List Cut) (i : ℕ) (c d : Cut) → i < length cuts → get_or cuts i c ≡ slice_index_or cuts i d
+get_numbered [] i c d lt = absurd (omega (arith, lt))
+get_numbered (b ∷ bs) zero c d lt = refl
+get_numbered (b ∷ bs) (suc i) c d lt = get_numbered bs i c d (omega (arith, lt))
+
+pub among_cuts : (p : Problem) (i : ℕ) → i < length p.cuts → Contains p.cuts (cut_of p i)
+among_cuts p i lt = (i, lt, get_numbered p.cuts i (cut_of p i) (record { sets = [] }) lt)
+
+-- its sets, as the code reads them
+pub sets_many : (p : Problem) (i : ℕ) (slice : List Cut) (c : Cut) (read : List (List ℕ)) → slice ≡ p.cuts → i < length p.cuts → read ≡ (get_or slice i c).sets → length read ≡ length (cut_of p i).sets
+sets_many p i slice c read is lt e =
+    ap length e ∙ ap (λ cuts. length (get_or cuts i c).sets) is ∙ ap (λ (b : Cut). length b.sets) (get_numbered p.cuts i c (record { sets = [] }) lt)
+
+seams_numbered : (cuts : List Cut) (i : ℕ) (d : Cut) → i < length cuts → seams (drop i cuts) ≡ seams_of (slice_index_or cuts i d) ++ seams (drop (i + 1) cuts)
+seams_numbered [] i d lt = absurd (omega (arith, lt))
+seams_numbered (b ∷ bs) zero d lt = refl
+seams_numbered (b ∷ bs) (suc i) d lt =
+    let next : suc (i + 1) ≡ suc i + 1 = omega arith in
+    seams_numbered bs i d (omega (arith, lt)) ∙ ap (λ k. seams_of (slice_index_or bs i d) ++ seams (drop k (b ∷ bs))) next
+
+pub next_cut : (p : Problem) (i : ℕ) → i < length p.cuts → seams (drop i p.cuts) ≡ seams_of (cut_of p i) ++ seams (drop (i + 1) p.cuts)
+next_cut p i lt = seams_numbered p.cuts i (record { sets = [] }) lt
+
+pub none_left : (cuts : List Cut) (i : ℕ) → length cuts ≤ i → seams (drop i cuts) ≡ []
+none_left cuts i le = ap seams (drop_all cuts i le)

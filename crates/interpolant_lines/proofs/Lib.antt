@@ -1,3 +1,6 @@
+mod Apart
+mod Texts
+mod Running
 mod Answering
 pub mod Budgets
 pub mod Listing

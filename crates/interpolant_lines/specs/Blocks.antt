@@ -1,74 +1,69 @@
--- What is answered to the `\interpolant` blocks of a problem: a line for each, of a run on the purse as what went before left it.
-use Rattle.std.specs.Prelude.{◌≡◌, ◌⊎◌, ℕ, true, false, if◌then◌else◌, List, [], ◌∷◌, ◌++◌, codes}
+-- What is answered to the `\interpolant` blocks of a problem: a line for each of their seams, of work on the purse as what went
+-- before left it.
+use Rattle.std.specs.Prelude.{◌≡◌, ◌≢◌, ℕ, List, [], ◌∷◌, ◌++◌, codes, None}
 use Rattle.std.specs.List.{concat}
-use Rattle.linear_term.specs.declared.range.Place.{Place}
-use Rattle.purse.specs.Runs.{raw_stay}
-use Rattle.purse.specs.Trace.{Funds, At, at, End, done, refused, out_of_range, stand, Traced}
-use Rattle.purse.specs.Trace as trace
+use Rattle.typed_formula.specs.Formula.{Formula}
+use Rattle.purse.specs.Trace.{Funds}
 use Rattle.pri_typing.specs.declared.problem.Cut.{Cut}
 use Rattle.pri_typing.specs.declared.problem.Problem.{Problem}
-use Rattle.clause_set.specs.declared.literal.Literal.{Literal}
-use Rattle.encoding.specs.Problems.{parts_root}
-use Rattle.interpolant.specs.Run.{interpolating}
-use Rattle.interpolant.specs.Sides.{set_of}
+use Rattle.pri_typing.specs.Problems.{Says}
+use Rattle.cut_sides.specs.Sides.{Case, arithmetic, first_itself, second_denied, none}
 use Rattle.answers.specs.Answer.{line}
 use Rattle.constraint_text.specs.Constraint.{IsTextOf, interpolant_line}
+use Rattle.typed_printer.specs.Plain.{plain as plain_form}
+use Rattle.typed_printer.specs.TypedText.{formula_text}
+use Rattle.interpolant_lines.specs.Ends.{Cause, cause_text, formula_by, left_by, line_end, prints, seam_case, seam_run, tells}
+use Rattle.interpolant_lines.specs.Proved.{AreObligationsProved}
+use Rattle.interpolant_lines.specs.Seams.{Seam, seams}
 
--- the interpolant of the two sets of a block, with its run
-abbrev pub block_run : Problem → Cut → Traced (List (List Literal))
-block_run p b = interpolating p (set_of b 0) (set_of b 1)
-
--- how the run ends on a purse that stands so
-abbrev pub block_end : Problem → Cut → Funds → End
-block_end p b old = trace.cut (block_run p b).events (at old [])
-
--- the numbers of what is encoded for it stay in the range: else there is no run
-abbrev pub Stays : Problem → Cut → Type 0
-Stays p b = raw_stay (parts_root p (set_of b 0)).events ≡ true
-
-abbrev pub Leaves : Problem → Cut → Type 0
-Leaves p b = raw_stay (parts_root p (set_of b 0)).events ≡ false
-
--- how the purse stands behind a block
-abbrev pub after_block : Problem → Cut → Funds → Funds
-after_block p b old = if raw_stay (parts_root p (set_of b 0)).events then (stand (block_end p b old)).funds else old
+-- how the purse stands behind the line of a seam
+abbrev pub after_line : Problem → Seam → Funds → Funds
+after_line p s old = left_by (line_end p s old)
 
 -- and behind several
-abbrev pub after_blocks : Problem → List Cut → Funds → Funds
-after_blocks p [] old = old
-after_blocks p (b ∷ bs) old = after_blocks p bs (after_block p b old)
-
--- the run of a block comes to its end, on a purse that stands so
-abbrev pub IsDone : Problem → Cut → Funds → Type 0
-IsDone p b old = Stays p b × ((new : At) × (block_end p b old ≡ done new))
-
--- or the budget ends in it
-abbrev pub IsOutOfSteps : Problem → Cut → Funds → Type 0
-IsOutOfSteps p b old = Stays p b × ((new : At) × (block_end p b old ≡ refused new))
-
--- or a number leaves the range, in what is encoded for it or in the run
-abbrev pub IsOutOfRange : Problem → Cut → Funds → Type 0
-IsOutOfRange p b old = Leaves p b ⊎ ((numbers : List Place) × (new : At) × (block_end p b old ≡ out_of_range numbers new))
+abbrev pub after_lines : Problem → List Seam → Funds → Funds
+after_lines p [] old = old
+after_lines p (s ∷ ss) old = after_lines p ss (after_line p s old)
 
 -- the line where there is no interpolant, with the cause
 abbrev pub unknown_line : List ℕ → List ℕ
 unknown_line cause = line (codes "interpolant unknown: " ++ cause)
 
--- the text is the line of the block, on a purse that stands so
-pub data IsBlockLine (p : Problem) (b : Cut) (old : Funds) (text : List ℕ) : Type 0 where
-  found : (x : List ℕ) → IsDone p b old → IsTextOf p (block_run p b).value x → text ≡ interpolant_line x → IsBlockLine p b old text
-  steps : IsOutOfSteps p b old → text ≡ unknown_line (codes "steps") → IsBlockLine p b old text
-  overflow : IsOutOfRange p b old → text ≡ unknown_line (codes "overflow") → IsBlockLine p b old text
+-- x is the text of a formula over the symbols of the problem, and is read back as its plain form
+pub record IsTypedText (p : Problem) (f : Formula) (x : List ℕ) : Type 0 where
+  pub text : x ≡ formula_text p 0 f
+  pub says : Says x p (plain_form f)
 
--- the lines of blocks, in their order, each on the purse that the one before left
+-- x is the text of the formula that stands at a seam by the case
+abbrev pub IsTextBy : Problem → Seam → Case → List ℕ → Type 0
+IsTextBy p s arithmetic x = IsTextOf p (seam_run p s).value x
+IsTextBy p s first_itself x = IsTypedText p (formula_by p s first_itself) x
+IsTextBy p s second_denied x = IsTypedText p (formula_by p s second_denied) x
+IsTextBy p s none x = ⊥
+
+-- the text is the line of the seam, on a purse that stands so; where the problem has applications, its obligations are proved
+pub data IsSeamLine (p : Problem) (s : Seam) (old : Funds) (text : List ℕ) : Type 0 where
+  found : (left : Funds) (x : List ℕ) → line_end p s old ≡ prints left → IsTextBy p s (seam_case p s) x → text ≡ interpolant_line x
+      → (p.first_application ≢ None → AreObligationsProved p s (formula_by p s (seam_case p s))) → IsSeamLine p s old text
+  unknown : (c : Cause) (left : Funds) → line_end p s old ≡ tells c left → text ≡ unknown_line (cause_text c) → IsSeamLine p s old text
+
+-- the lines of seams, in their order, each on the purse that the one before left
+abbrev pub AreLines : Problem → List Seam → Funds → List (List ℕ) → Type 0
+AreLines p [] old [] = Unit {0}
+AreLines p [] old (text ∷ texts) = ⊥
+AreLines p (s ∷ ss) old [] = ⊥
+AreLines p (s ∷ ss) old (text ∷ texts) = IsSeamLine p s old text × AreLines p ss (after_line p s old) texts
+
+-- the text is that of the lines of these seams
+pub record IsLinesText (p : Problem) (ss : List Seam) (old : Funds) (text : List ℕ) : Type 0 where
+  pub lines : List (List ℕ)
+  pub are : AreLines p ss old lines
+  pub whole : text ≡ concat lines
+
+-- the lines of blocks: of the seams of each, in their order
 abbrev pub AreBlockLines : Problem → List Cut → Funds → List (List ℕ) → Type 0
-AreBlockLines p [] old [] = Unit {0}
-AreBlockLines p [] old (text ∷ texts) = ⊥
-AreBlockLines p (b ∷ bs) old [] = ⊥
-AreBlockLines p (b ∷ bs) old (text ∷ texts) = IsBlockLine p b old text × AreBlockLines p bs (after_block p b old) texts
+AreBlockLines p bs old texts = AreLines p (seams bs) old texts
 
 -- the text is that of the lines of all blocks of the problem
-pub record IsBlocksText (p : Problem) (old : Funds) (text : List ℕ) : Type 0 where
-  pub lines : List (List ℕ)
-  pub are : AreBlockLines p p.cuts old lines
-  pub whole : text ≡ concat lines
+abbrev pub IsBlocksText : Problem → Funds → List ℕ → Type 0
+IsBlocksText p old text = IsLinesText p (seams p.cuts) old text

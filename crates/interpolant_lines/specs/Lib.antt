@@ -1,3 +1,6 @@
+pub mod Seams
+pub mod Ends
+pub mod Proved
 pub mod Blocks
 pub mod Causes
 pub mod Meaning

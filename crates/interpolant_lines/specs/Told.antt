@@ -1,16 +1,23 @@
--- What is told of a block whose call found no interpolant.
+-- What is told of a seam whose call found no interpolant, and of a formula that was found.
 use Rattle.std.specs.Prelude.{◌≡◌, ℕ, List, codes}
-use Rattle.purse.specs.declared.fault.ElimFault.TheVariants.{Steps, Overflow, Memory}
+use Rattle.typed_formula.specs.Formula.{Formula, formula}
+use Rattle.purse.specs.declared.fault.ElimFault.TheVariants as elimination
 use Rattle.function_encoding.specs.declared.answer.EncodeRefusal.TheVariants as refusal
+use Rattle.pri_typing.specs.declared.problem.Problem.{Problem}
 use Rattle.interpolant.specs.declared.fault.InterpolantFault.{InterpolantFault}
 use Rattle.interpolant.specs.declared.fault.InterpolantFault.TheVariants.{Elim, Encode}
-use Rattle.interpolant_lines.specs.Blocks.{unknown_line}
+use Rattle.pred_interpolant.specs.declared.fault.MiddleFault.{MiddleFault}
+use Rattle.pred_interpolant.specs.declared.fault.MiddleFault.TheVariants as fault
+use Rattle.pred_interpolant.specs.declared.fault.MiddleFormula.{MiddleFormula}
+use Rattle.pred_interpolant.specs.declared.fault.MiddleFormula.TheVariants.{Arithmetic, General}
+use Rattle.constraint_text.specs.Constraint.{IsLineOf, interpolant_line}
+use Rattle.interpolant_lines.specs.Blocks.{IsTypedText, unknown_line}
 
--- the text is what the call has met; there is none where memory was wanting
+-- the text is what the call for a run has met; there is none where memory was wanting
 abbrev pub IsCause : InterpolantFault → List ℕ → Type 0
-IsCause (Elim (Steps log)) text = text ≡ codes "steps"
-IsCause (Elim (Overflow log place)) text = text ≡ codes "overflow"
-IsCause (Elim Memory) text = ⊥
+IsCause (Elim (elimination.Steps log)) text = text ≡ codes "steps"
+IsCause (Elim (elimination.Overflow log place)) text = text ≡ codes "overflow"
+IsCause (Elim elimination.Memory) text = ⊥
 IsCause (Encode refusal.Large) text = ⊥
 IsCause (Encode (refusal.Overflow place)) text = text ≡ codes "overflow"
 IsCause (Encode refusal.Memory) text = ⊥
@@ -18,3 +25,27 @@ IsCause (Encode refusal.Memory) text = ⊥
 -- the text is the line that tells it
 abbrev pub TellsFault : InterpolantFault → List ℕ → Type 0
 TellsFault fault text = (cause : List ℕ) × IsCause fault cause × (text ≡ unknown_line cause)
+
+-- the text is what the call for a formula with two proofs has met; there is none where memory was wanting
+abbrev pub IsMiddleCause : MiddleFault → List ℕ → Type 0
+IsMiddleCause fault.Symbols text = text ≡ codes "symbols"
+IsMiddleCause fault.Steps text = text ≡ codes "steps"
+IsMiddleCause (fault.Overflow place) text = text ≡ codes "overflow"
+IsMiddleCause fault.Branch text = text ≡ codes "branch"
+IsMiddleCause fault.Large text = text ≡ codes "large"
+IsMiddleCause fault.Memory text = ⊥
+
+-- the text is the line that tells it
+abbrev pub TellsMiddleFault : MiddleFault → List ℕ → Type 0
+TellsMiddleFault fault text = (cause : List ℕ) × IsMiddleCause fault cause × (text ≡ unknown_line cause)
+
+-- the text is the line of a formula over the symbols of the problem
+pub record IsTypedLine (p : Problem) (f : Formula) (text : List ℕ) : Type 0 where
+  pub x : List ℕ
+  pub printed : IsTypedText p f x
+  pub line : text ≡ interpolant_line x
+
+-- the text is the line of a formula that was found
+abbrev pub TellsFormula : Problem → MiddleFormula → List ℕ → Type 0
+TellsFormula p (Arithmetic d) text = IsLineOf interpolant_line p d text
+TellsFormula p (General f) text = IsTypedLine p (formula f) text

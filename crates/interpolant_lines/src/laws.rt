@@ -3,25 +3,25 @@
 ghost use Rattle.interpolant_lines.specs.Blocks.{AreBlockLines};
 ghost use Rattle.interpolant_lines.specs.Causes.{AreBlocksCaused};
 ghost use Rattle.interpolant_lines.specs.Meaning.{AreInterpolantLines};
-ghost use Rattle.pri_typing.specs.Problems.{Holds};
+ghost use Rattle.pri_typing.specs.Problems.{Holds, IsPure};
 ghost use Rattle.pri_typing.specs.WellFormed.{IsWellFormed};
 ghost use Rattle.pri_typing.specs.declared.problem.Problem.{Problem};
 ghost use Rattle.problem_file.specs.Reads.{AreSame};
-ghost use Rattle.problem_file.specs.Special.{HasPlainCuts};
 ghost use Rattle.purse.specs.Trace.{Funds};
-ghost use Rattle.std.specs.Prelude.{◌≡◌, ℕ, List, []};
+ghost use Rattle.std.specs.Prelude.{◌≡◌, ◌↔◌, ℕ, List, [], None};
 ghost use Rattle.typed_formula.specs.Truth.{Meaning};
 
-/// The blocks of a problem have one list of lines, which is that of the same problem; there is a line for each block, and each
-/// comes exactly where its row says.
+/// The blocks of a problem have one list of lines, which is that of the same problem; there is one line less for each block than
+/// it has sets, and each comes exactly where its row says.
 pub fn lines_law()
     ensures one { (p : Problem) (old : Funds) (xs ys : List (List ℕ)) → AreBlockLines p p.cuts old xs → AreBlockLines p p.cuts old ys → xs ≡ ys }
     ensures same { (p q : Problem) (old : Funds) (xs : List (List ℕ)) → AreSame p q → AreBlockLines p p.cuts old xs → AreBlockLines q q.cuts old xs }
     ensures caused { (p : Problem) (old : Funds) (xs : List (List ℕ)) → AreBlockLines p p.cuts old xs → AreBlocksCaused p old xs }
 {}
 
-/// The lines of the blocks of a problem that holds print interpolants, or say that none is known, in whatever interpretation.
+/// The lines of the blocks of a problem that holds print interpolants, or say that none is known, in whatever interpretation; and
+/// those of a block follow from one another with the sets between them.
 pub fn meaning_law()
-    ensures { (w : Meaning) (p : Problem) (old : Funds) (xs : List (List ℕ)) → IsWellFormed p → HasPlainCuts p → Holds w p [] → AreBlockLines p p.cuts old xs
-        → AreInterpolantLines w p p.cuts xs }
+    ensures { (w : Meaning) (p : Problem) (old : Funds) (xs : List (List ℕ)) → IsWellFormed p → ((p.first_application ≡ None) ↔ IsPure p) → Holds w p []
+        → AreBlockLines p p.cuts old xs → AreInterpolantLines w p xs }
 {}

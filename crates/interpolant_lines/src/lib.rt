@@ -3,6 +3,8 @@
 
 mod laws;
 mod lines;
+mod plainly;
+mod telling;
 
 pub use laws::{lines_law, meaning_law};
 pub use lines::interpolant_lines;

@@ -1,87 +1,178 @@
 // The lines of blocks.
 
+ghost use Rattle.cut_sides.specs.Sides.{cut_of, first_sets};
 ghost use Rattle.encoding.specs.Problems.{is_large, parts_root, problem_root};
-ghost use Rattle.function_encoding.specs.declared.answer.EncodeRefusal.TheVariants as refusal;
-ghost use Rattle.interpolant.specs.Sides.{set_of};
-ghost use Rattle.interpolant.specs.declared.fault.InterpolantFault.TheVariants.{Encode};
-ghost use Rattle.interpolant_lines.specs.Blocks.{IsBlockLine, IsBlocksText, after_block};
-ghost use Rattle.interpolant_lines.specs.Told.{IsCause, TellsFault};
-ghost use Rattle.pri_typing.specs.Problems.{IsPure};
+ghost use Rattle.interpolant_lines.specs.Blocks.{IsBlocksText, IsLinesText, IsSeamLine, after_line, after_lines};
+ghost use Rattle.interpolant_lines.specs.Seams.{seams_of};
+ghost use Rattle.interpolant_lines.specs.Told.{TellsFormula};
+ghost use Rattle.pred_interpolant.specs.Middle.{IsOver};
+ghost use Rattle.pri_typing.specs.Problems.{Holds, IsPlainlyValid, IsPure};
 ghost use Rattle.pri_typing.specs.WellFormed.{HasDistinctNames, HasIdentifiers, IsWellFormed};
-ghost use Rattle.problem_file.specs.Special.{HasPlainCuts};
-ghost use Rattle.std.specs.Prelude.{◌≡◌, ◌≢◌, ◌<◌, ◌^◌, false, length, IfOk, OnOk};
+ghost use Rattle.std.specs.Prelude.{◌≡◌, ◌≢◌, ◌≤◌, ◌<◌, ◌^◌, ◌↔◌, ℕ, [], false, List, length, IfOk, None, OnOk};
+ghost use Rattle.typed_formula.specs.Truth.{Meaning};
 
+use crate::plainly::is_plainly_valid;
+use crate::telling::{fault_line, middle_fault_line, typed_line, unknown_line};
 use constraint_text::interpolant_line;
-use function_encoding::EncodeRefusal;
-use interpolant::{InterpolantFault, between_parts};
+use interpolant::between_sides;
 use linear_term::Memory;
+use middle_runs::middle;
+use pred_interpolant::MiddleFormula;
 use pri_typing::{Cut, Problem};
-use purse::{ElimFault, Purse};
+use purse::Purse;
 use std::alloc::Global;
 
-/// The lines of all `\interpolant` blocks of a problem whose encoding is not too large, in their order; each is that of a run on
-/// the purse as the ones before left it. The one error is want of memory.
+/// The lines of all `\interpolant` blocks of a problem that holds and whose encoding is not too large, in their order; each is
+/// of work on the purse as the ones before left it. The one error is want of memory.
 pub fn interpolant_lines(alloc: Global, p: &Problem, purse: &mut Purse) -> Result<Vec<u8>, Memory>
     requires well_formed { IsWellFormed p.now }
     requires distinct { HasDistinctNames p.now }
     requires identifiers { HasIdentifiers p.now }
-    requires cuts { HasPlainCuts p.now }
+    requires pure { (p.now.first_application ≡ None) ↔ IsPure p.now }
+    requires holds { (w : Meaning) → Holds w p.now [] }
     requires small { is_large (problem_root p.now).value ≡ false }
     requires budget { purse.old.budget < 2 ^ 32 }
     ensures { IfOk result (λ text. IsBlocksText p.now purse.old text.items) }
 {
     let mut text = Vec::new(alloc);
-    for cut in p.cuts.as_slice() {
-        let line = block_line(alloc, p, cut, purse)?;
+    let cuts = p.cuts.as_slice();
+    for number in 0..cuts.len() {
+        let lines = block_lines(alloc, p, number, purse)?;
+        text.extend_from_slice(lines.as_slice())?;
+    }
+    Ok(text)
+}
+
+// The lines of a block: one for each place between two of its sets.
+fn block_lines(
+    alloc: Global,
+    p: &Problem,
+    number: usize,
+    purse: &mut Purse,
+) -> Result<Vec<u8>, Memory>
+    requires well_formed { IsWellFormed p.now }
+    requires distinct { HasDistinctNames p.now }
+    requires identifiers { HasIdentifiers p.now }
+    requires pure { (p.now.first_application ≡ None) ↔ IsPure p.now }
+    requires holds { (w : Meaning) → Holds w p.now [] }
+    requires within { number < length p.now.cuts }
+    requires small { (set : List ℕ) → is_large (parts_root p.now set).value ≡ false }
+    requires budget { purse.old.budget < 2 ^ 32 }
+    ensures lines { IfOk result (λ text. IsLinesText p.now (seams_of (cut_of p.now number)) purse.old text.items) }
+    ensures left { OnOk result (purse.new ≡ after_lines p.now (seams_of (cut_of p.now number)) purse.old) }
+{
+    let mut text = Vec::new(alloc);
+    let sets = p.cuts.as_slice()[number].sets.as_slice();
+    for at in 1..sets.len() {
+        let line = seam_line(alloc, p, number, at, purse)?;
         text.extend_from_slice(line.as_slice())?;
     }
     Ok(text)
 }
 
-// The line of a block of two sets.
-fn block_line(alloc: Global, p: &Problem, cut: &Cut, purse: &mut Purse) -> Result<Vec<u8>, Memory>
+// The line of the place behind the first `at` sets of the block with this number.
+fn seam_line(
+    alloc: Global,
+    p: &Problem,
+    number: usize,
+    at: usize,
+    purse: &mut Purse,
+) -> Result<Vec<u8>, Memory>
+    requires well_formed { IsWellFormed p.now }
+    requires distinct { HasDistinctNames p.now }
+    requires identifiers { HasIdentifiers p.now }
+    requires pure { (p.now.first_application ≡ None) ↔ IsPure p.now }
+    requires holds { (w : Meaning) → Holds w p.now [] }
+    requires within { number < length p.now.cuts }
+    requires inside { at ≤ length (cut_of p.now number).sets }
+    requires small { is_large (parts_root p.now (first_sets (cut_of p.now number) at)).value ≡ false }
+    requires budget { purse.old.budget < 2 ^ 32 }
+    ensures line { IfOk result (λ text. IsSeamLine p.now (record { cut = cut_of p.now number; at = at }) purse.old text.items) }
+    ensures left { OnOk result (purse.new ≡ after_line p.now (record { cut = cut_of p.now number; at = at }) purse.old) }
+{
+    if p.first_application.is_none() {
+        return pure_line(alloc, p, &p.cuts.as_slice()[number], at, purse);
+    }
+    if is_plainly_valid(p) {
+        return unknown_line(alloc, b"plain");
+    }
+    middle_line(alloc, p, number, at, purse)
+}
+
+// The line of a seam of a problem without applications.
+fn pure_line(
+    alloc: Global,
+    p: &Problem,
+    cut: &Cut,
+    at: usize,
+    purse: &mut Purse,
+) -> Result<Vec<u8>, Memory>
     requires well_formed { IsWellFormed p.now }
     requires distinct { HasDistinctNames p.now }
     requires identifiers { HasIdentifiers p.now }
     requires pure { IsPure p.now }
-    requires two { length cut.now.sets ≡ 2 }
-    requires small { is_large (parts_root p.now (set_of cut.now 0)).value ≡ false }
+    requires none { p.now.first_application ≡ None }
+    requires inside { at ≤ length cut.now.sets }
+    requires small { is_large (parts_root p.now (first_sets cut.now at)).value ≡ false }
     requires budget { purse.old.budget < 2 ^ 32 }
-    ensures line { IfOk result (λ text. IsBlockLine p.now cut.now purse.old text.items) }
-    ensures left { OnOk result (purse.new ≡ after_block p.now cut.now purse.old) }
+    ensures line { IfOk result (λ text. IsSeamLine p.now (record { cut = cut.now; at = at }) purse.old text.items) }
+    ensures left { OnOk result (purse.new ≡ after_line p.now (record { cut = cut.now; at = at }) purse.old) }
 {
-    let sets = cut.sets.as_slice();
-    let first = sets[0].as_slice();
-    let second = sets[1].as_slice();
-    match between_parts(alloc, p, first, second, purse) {
+    match between_sides(alloc, p, cut, at, purse) {
         Ok(found) => interpolant_line(alloc, p, &found.formula),
-        Err(fault) => unknown_line(alloc, &fault),
+        Err(fault) => fault_line(alloc, &fault),
     }
 }
 
-// The line of a block without an interpolant.
-fn unknown_line(alloc: Global, fault: &InterpolantFault) -> Result<Vec<u8>, Memory>
-    requires { fault.now ≢ Encode refusal.Large }
-    ensures { IfOk result (λ text. TellsFault fault.now text.items) }
+// A number as one of 32 bits; no memory holds so many things that it is none.
+fn small(n: usize) -> Result<u32, Memory>
+    ensures { IfOk result (λ m. m ≡ n) }
 {
-    let cause = cause(fault)?;
-    let mut text = Vec::from_slice(alloc, b"interpolant unknown: ")?;
-    text.extend_from_slice(cause)?;
-    text.push(b'\n')?;
-    Ok(text)
+    if n > u32::MAX as usize {
+        return Err(Memory);
+    }
+    Ok(n as u32)
 }
 
-// Why there is none.
-fn cause(fault: &InterpolantFault) -> Result<&'static [u8], Memory>
-    requires { fault.now ≢ Encode refusal.Large }
-    ensures { IfOk result (λ text. IsCause fault.now text.now) }
+// The line of a seam of a problem with applications that is not plainly valid.
+fn middle_line(
+    alloc: Global,
+    p: &Problem,
+    number: usize,
+    at: usize,
+    purse: &mut Purse,
+) -> Result<Vec<u8>, Memory>
+    requires well_formed { IsWellFormed p.now }
+    requires distinct { HasDistinctNames p.now }
+    requires identifiers { HasIdentifiers p.now }
+    requires applied { p.now.first_application ≢ None }
+    requires plain { ¬ (IsPlainlyValid p.now) }
+    requires holds { (w : Meaning) → Holds w p.now [] }
+    requires within { number < length p.now.cuts }
+    requires inside { at ≤ length (cut_of p.now number).sets }
+    requires small { is_large (parts_root p.now (first_sets (cut_of p.now number) at)).value ≡ false }
+    requires budget { purse.old.budget < 2 ^ 32 }
+    ensures line { IfOk result (λ text. IsSeamLine p.now (record { cut = cut_of p.now number; at = at }) purse.old text.items) }
+    ensures left { OnOk result (purse.new ≡ after_line p.now (record { cut = cut_of p.now number; at = at }) purse.old) }
 {
-    match fault {
-        InterpolantFault::Elim(ElimFault::Steps(_)) => Ok(b"steps"),
-        InterpolantFault::Elim(ElimFault::Overflow(_, _)) => Ok(b"overflow"),
-        InterpolantFault::Elim(ElimFault::Memory) => Err(Memory),
-        InterpolantFault::Encode(EncodeRefusal::Large) => unreachable!(),
-        InterpolantFault::Encode(EncodeRefusal::Overflow(_)) => Ok(b"overflow"),
-        InterpolantFault::Encode(EncodeRefusal::Memory) => Err(Memory),
+    let number = small(number)?;
+    let at = small(at)?;
+    match middle(alloc, p, number, at, purse) {
+        Ok(found) => middle_found(alloc, p, &found.formula),
+        Err(fault) => middle_fault_line(alloc, &fault),
+    }
+}
+
+// The line of a formula that was found.
+fn middle_found(alloc: Global, p: &Problem, found: &MiddleFormula) -> Result<Vec<u8>, Memory>
+    requires well_formed { IsWellFormed p.now }
+    requires distinct { HasDistinctNames p.now }
+    requires identifiers { HasIdentifiers p.now }
+    requires over { IsOver p.now found.now }
+    ensures { IfOk result (λ text. TellsFormula p.now found.now text.items) }
+{
+    match found {
+        MiddleFormula::Arithmetic(d) => interpolant_line(alloc, p, d),
+        MiddleFormula::General(f) => typed_line(alloc, p, f),
     }
 }

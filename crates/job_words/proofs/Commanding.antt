@@ -6,7 +6,7 @@ use Rattle.clap.specs.declared.parser.matches.Found.{Found}
 use Rattle.answers.specs.declared.form.ProofForm.{ProofForm}
 use Rattle.answers.specs.declared.form.ProofForm.TheVariants.{Whole, Short}
 use Rattle.job_words.specs.Uses.{Text, listed, operands, tally, times, values_of}
-use Rattle.job_words.specs.Jobs.{IsBudget, IsNumber, NamesCheck, NamesDrill, NamesElim, NamesLeast, NamesSolve, asks_short, asks_whole, budget_option, solve_options}
+use Rattle.job_words.specs.Jobs.{IsBudget, IsNumber, NamesCheck, NamesDrill, NamesFile, NamesLeast, NamesSolve, asks_short, asks_whole, budget_option, solve_options}
 use Rattle.job_words.specs.Shapes.{command_app}
 use Rattle.job_words.proofs.Accepted.{IsCommand}
 use Rattle.job_words.proofs.Answering.{budget_is, budget_once, flag_is, flag_once, one_flag, operand_is, operands_are}
@@ -17,6 +17,9 @@ solve_is = record { is_built = refl; whole = refl; places = (refl, refl); strang
 
 pub elim_is : IsCommand (command_app (codes "elim") (codes "FILE" ∷ []) budget_option) (codes "elim") (codes "FILE" ∷ []) budget_option
 elim_is = record { is_built = refl; whole = refl; places = (refl, refl); strange = (refl, tt); distinct_rules = refl; distinct_ids = refl; distinct_names = refl; named = refl }
+
+pub smt_is : IsCommand (command_app (codes "smt") (codes "FILE" ∷ []) budget_option) (codes "smt") (codes "FILE" ∷ []) budget_option
+smt_is = record { is_built = refl; whole = refl; places = (refl, refl); strange = (refl, tt); distinct_rules = refl; distinct_ids = refl; distinct_names = refl; named = refl }
 
 pub least_is : IsCommand (command_app (codes "least") (codes "FILE" ∷ codes "TERM" ∷ []) budget_option) (codes "least") (codes "FILE" ∷ codes "TERM" ∷ []) budget_option
 least_is = record { is_built = refl; whole = refl; places = (refl, (refl, refl)); strange = (refl, (refl, tt)); distinct_rules = refl; distinct_ids = refl; distinct_names = refl; named = refl }
@@ -32,7 +35,7 @@ solve_once line file n a names = (
   (flag_once (times (codes "proof") names.us) (asks_whole a) names.proof_is, (flag_once (times (codes "short") names.us) (asks_short a) names.short_is, tt)),
 )
 
-pub elim_once : (line : List Text) (file : Text) (n : ℕ) (names : NamesElim line file n) → OnceEach budget_option names.us
+pub elim_once : (line : List Text) (file : Text) (n : ℕ) (names : NamesFile line file n) → OnceEach budget_option names.us
 elim_once line file n names = (budget_once (values_of (codes "budget") names.us) n names.budget_is, tt)
 
 pub least_once : (line : List Text) (file term : Text) (n : ℕ) (names : NamesLeast line file term n) → OnceEach budget_option names.us
@@ -71,7 +74,7 @@ not_both line f p s found proof short both file n a names =
     one_alone a ((λ i. proofs i && shorts i) ∙ both)
 
 pub elim_named : (line : List Text) (f : Found) (file : Text) (n : ℕ) → Finds (codes "FILE" ∷ []) budget_option line f → Some file ≡ first_value f (codes "FILE") → IsBudget (listed (first_value f (codes "budget"))) n
-    → NamesElim line file n
+    → NamesFile line file n
 elim_named line f file n found is budget = record {
   us = found.us;
   spells = found.spells;

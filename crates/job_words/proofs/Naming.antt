@@ -6,15 +6,16 @@ use Rattle.std.specs.Str.Parse.{digits_value}
 use Rattle.answers.specs.declared.form.ProofForm.{ProofForm}
 use Rattle.answers.specs.declared.form.ProofForm.TheVariants.{Whole, Short}
 use Rattle.job_words.specs.Uses.{Text, operands, times, values_of}
-use Rattle.job_words.specs.Jobs.{IsBudget, NamesCheck, NamesDrill, NamesElim, NamesJob, NamesLeast, NamesSolve, Task, asks_short, asks_whole, solve, eliminate, minimise, check, drill}
+use Rattle.job_words.specs.Jobs.{IsBudget, NamesCheck, NamesDrill, NamesFile, NamesJob, NamesLeast, NamesSolve, Task, asks_short, asks_whole, solve, eliminate, run_script, minimise, check, drill}
 use Rattle.job_words.proofs.Answering.{one_flag}
-use Rattle.job_words.proofs.Commanding.{check_is, drill_is, elim_is, least_is, solve_is}
+use Rattle.job_words.proofs.Commanding.{check_is, drill_is, elim_is, least_is, smt_is, solve_is}
 use Rattle.job_words.proofs.Finds.{same_uses}
 
 -- the command of a job
 abbrev command_of : Task → Text
 command_of (solve file budget asked) = codes "solve"
 command_of (eliminate file budget) = codes "elim"
+command_of (run_script file budget) = codes "smt"
 command_of (minimise file term budget) = codes "least"
 command_of (check file proof) = codes "check"
 command_of (drill count budget) = codes "drill"
@@ -25,10 +26,15 @@ only_solve line none (solve f n a) names = none f n a names.1
 only_solve line none task names =
     let bad : true ≡ false = ap (bytes_eq (codes "solve")) names.0 in cc
 
-pub only_elim : (line : List Text) → ((f : Text) (n : ℕ) → NamesElim line f n → ⊥) → (task : Task) → NamesJob (codes "elim" ∷ line) task → ⊥
+pub only_elim : (line : List Text) → ((f : Text) (n : ℕ) → NamesFile line f n → ⊥) → (task : Task) → NamesJob (codes "elim" ∷ line) task → ⊥
 only_elim line none (eliminate f n) names = none f n names.1
 only_elim line none task names =
     let bad : true ≡ false = ap (bytes_eq (codes "elim")) names.0 in cc
+
+pub only_smt : (line : List Text) → ((f : Text) (n : ℕ) → NamesFile line f n → ⊥) → (task : Task) → NamesJob (codes "smt" ∷ line) task → ⊥
+only_smt line none (run_script f n) names = none f n names.1
+only_smt line none task names =
+    let bad : true ≡ false = ap (bytes_eq (codes "smt")) names.0 in cc
 
 pub only_least : (line : List Text) → ((f t : Text) (n : ℕ) → NamesLeast line f t n → ⊥) → (task : Task) → NamesJob (codes "least" ∷ line) task → ⊥
 only_least line none (minimise f t n) names = none f t n names.1
@@ -72,11 +78,17 @@ one_solve line f g n m p q a b =
     let short = one_flag (asks_short p) (asks_short q) (sym a.short_is ∙ ap (times (codes "short")) us ∙ b.short_is) in
     let form = same_form p q whole short in λ i. solve (file i) (budget i) (form i)
 
-one_elim : (line : List Text) (f g : Text) (n m : ℕ) → NamesElim line f n → NamesElim line g m → eliminate f n ≡ eliminate g m
+one_elim : (line : List Text) (f g : Text) (n m : ℕ) → NamesFile line f n → NamesFile line g m → eliminate f n ≡ eliminate g m
 one_elim line f g n m a b =
     let us = same_uses _ _ _ _ elim_is line a.us b.us a.spells b.spells in
     let file : f ≡ g = ap (λ l. slice_index_or l 0 []) (sym a.file_is ∙ ap operands us ∙ b.file_is) in
     let budget = one_budget (values_of (codes "budget") b.us) n m (subst (λ vs. IsBudget (values_of (codes "budget") vs) n) us a.budget_is) b.budget_is in λ i. eliminate (file i) (budget i)
+
+one_smt : (line : List Text) (f g : Text) (n m : ℕ) → NamesFile line f n → NamesFile line g m → run_script f n ≡ run_script g m
+one_smt line f g n m a b =
+    let us = same_uses _ _ _ _ smt_is line a.us b.us a.spells b.spells in
+    let file : f ≡ g = ap (λ l. slice_index_or l 0 []) (sym a.file_is ∙ ap operands us ∙ b.file_is) in
+    let budget = one_budget (values_of (codes "budget") b.us) n m (subst (λ vs. IsBudget (values_of (codes "budget") vs) n) us a.budget_is) b.budget_is in λ i. run_script (file i) (budget i)
 
 one_least : (line : List Text) (f g t u : Text) (n m : ℕ) → NamesLeast line f t n → NamesLeast line g u m → minimise f t n ≡ minimise g u m
 one_least line f g t u n m a b =
@@ -102,6 +114,7 @@ pub one_job : (words : List Text) (a b : Task) → NamesJob words a → NamesJob
 one_job [] a b x y = absurd x
 one_job (command ∷ line) (solve f n p) (solve g m q) x y = one_solve line f g n m p q x.1 y.1
 one_job (command ∷ line) (eliminate f n) (eliminate g m) x y = one_elim line f g n m x.1 y.1
+one_job (command ∷ line) (run_script f n) (run_script g m) x y = one_smt line f g n m x.1 y.1
 one_job (command ∷ line) (minimise f t n) (minimise g u m) x y = one_least line f g t u n m x.1 y.1
 one_job (command ∷ line) (check f p) (check g q) x y = one_check line f g p q x.1 y.1
 one_job (command ∷ line) (drill n k) (drill m l) x y =

@@ -8,11 +8,12 @@ use Rattle.job_words.specs.declared.jobs.Job.TheVariants as job
 use Rattle.job_words.specs.Uses.{Text, Use, Options, Spells, operands, tally, times, values_of}
 
 -- a job by the bytes of its words: to solve the problem in a file, with its proof in a form or without, to give
--- its constraint, or the least value of a term where it holds, each within a budget, to check the proof in a file, or to solve the
--- problem of a size that the program makes, within a budget
+-- its constraint, or the least value of a term where it holds, each within a budget, to answer the checks of the script in a file,
+-- each within a budget, to check the proof in a file, or to solve the problem of a size that the program makes, within a budget
 pub data Task : Type 0 where
   solve : (file : Text) → (budget : ℕ) → (asked : Option ProofForm) → Task
   eliminate : (file : Text) → (budget : ℕ) → Task
+  run_script : (file : Text) → (budget : ℕ) → Task
   minimise : (file term : Text) → (budget : ℕ) → Task
   check : (file proof : Text) → Task
   drill : (count budget : ℕ) → Task
@@ -21,6 +22,7 @@ pub data Task : Type 0 where
 abbrev pub task_of : Job → Task
 task_of (job.Solve file budget asked) = solve (string_bytes file) budget asked
 task_of (job.Elim file budget) = eliminate (string_bytes file) budget
+task_of (job.Smt file budget) = run_script (string_bytes file) budget
 task_of (job.Least file term budget) = minimise (string_bytes file) (string_bytes term) budget
 task_of (job.Check file proof) = check (string_bytes file) (string_bytes proof)
 task_of (job.Drill count budget) = drill count budget
@@ -29,6 +31,7 @@ task_of (job.Drill count budget) = drill count budget
 abbrev pub files_of : Task → List Text
 files_of (solve file budget asked) = file ∷ []
 files_of (eliminate file budget) = file ∷ []
+files_of (run_script file budget) = file ∷ []
 files_of (minimise file term budget) = file ∷ []
 files_of (check file proof) = file ∷ proof ∷ []
 files_of (drill count budget) = []
@@ -76,8 +79,8 @@ pub record NamesSolve (line : List Text) (file : Text) (budget : ℕ) (asked : O
   pub proof_is : times (codes "proof") us ≡ tally (asks_whole asked)
   pub short_is : times (codes "short") us ≡ tally (asks_short asked)
 
--- the words behind `elim` name a file and a budget
-pub record NamesElim (line : List Text) (file : Text) (budget : ℕ) : Type 0 where
+-- the words behind `elim`, or behind `smt`, name a file and a budget
+pub record NamesFile (line : List Text) (file : Text) (budget : ℕ) : Type 0 where
   pub us : List Use
   pub spells : Spells budget_option line us
   pub file_is : operands us ≡ file ∷ []
@@ -109,7 +112,8 @@ pub record NamesDrill (line : List Text) (count budget : ℕ) : Type 0 where
 abbrev pub NamesJob : List Text → Task → Type 0
 NamesJob [] task = ⊥
 NamesJob (command ∷ line) (solve file budget asked) = (command ≡ codes "solve") × NamesSolve line file budget asked
-NamesJob (command ∷ line) (eliminate file budget) = (command ≡ codes "elim") × NamesElim line file budget
+NamesJob (command ∷ line) (eliminate file budget) = (command ≡ codes "elim") × NamesFile line file budget
+NamesJob (command ∷ line) (run_script file budget) = (command ≡ codes "smt") × NamesFile line file budget
 NamesJob (command ∷ line) (minimise file term budget) = (command ≡ codes "least") × NamesLeast line file term budget
 NamesJob (command ∷ line) (check file proof) = (command ≡ codes "check") × NamesCheck line file proof
 NamesJob (command ∷ line) (drill count budget) = (command ≡ codes "drill") × NamesDrill line count budget

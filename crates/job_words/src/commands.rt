@@ -60,6 +60,20 @@ pub(crate) fn elim_command<'a>(alloc: Global) -> Result<Command<'a>, AllocError>
         .arg(budget)
 }
 
+// `smt FILE [--budget N]`
+pub(crate) fn smt_command<'a>(alloc: Global) -> Result<Command<'a>, AllocError>
+    ensures { IfOk result (λ c. app_of c ≡ command_app (codes "smt") (codes "FILE" ∷ []) budget_option) }
+{
+    let file = Arg::new(alloc, "FILE").required(true);
+    let budget = Arg::new(alloc, "budget").long("budget");
+    Command::new(alloc, "smt")
+        .no_binary_name(true)
+        .disable_help_flag(true)
+        .disable_version_flag(true)
+        .arg(file)?
+        .arg(budget)
+}
+
 // `least FILE TERM [--budget N]`
 pub(crate) fn least_command<'a>(alloc: Global) -> Result<Command<'a>, AllocError>
     ensures { IfOk result (λ c. app_of c ≡ command_app (codes "least") (codes "FILE" ∷ codes "TERM" ∷ []) budget_option) }

@@ -19,6 +19,11 @@ pub enum Job {
         file: String,
         budget: u64,
     },
+    /// To answer the checks of the script in this file, each within a budget.
+    Smt {
+        file: String,
+        budget: u64,
+    },
     /// To give the least value of this term where the problem in this file holds, within a budget.
     Least {
         file: String,

@@ -6,7 +6,7 @@ ghost use Rattle.job_words.specs.Uses.{listed, Text};
 ghost use Rattle.std.specs.Prelude.{◌≡◌, ◌∷◌, ◌&&◌, ℕ, List, map, codes, string_bytes, true, false, None, Some, IfOk, IfErr, MatchResult};
 
 use crate::commands::{
-    check_command, drill_command, elim_command, least_command, read, solve_command,
+    check_command, drill_command, elim_command, least_command, read, smt_command, solve_command,
 };
 use crate::jobs::{Job, WordsFault};
 use crate::numbers::number;
@@ -34,6 +34,7 @@ pub fn job(alloc: Global, words: &[String]) -> Result<Job, WordsFault>
     match command.as_str() {
         "solve" => solve_job(alloc, line),
         "elim" => elim_job(alloc, line),
+        "smt" => smt_job(alloc, line),
         "least" => least_job(alloc, line),
         "check" => check_job(alloc, line),
         "drill" => drill_job(alloc, line),
@@ -74,6 +75,17 @@ fn elim_job(alloc: Global, line: &[String]) -> Result<Job, WordsFault>
     let file = text_in(alloc, &matches, "FILE")?;
     let budget = budget_in(&matches)?;
     Ok(Job::Elim { file, budget })
+}
+
+// `smt FILE [--budget N]`
+fn smt_job(alloc: Global, line: &[String]) -> Result<Job, WordsFault>
+    ensures named { IfOk result (λ job. NamesJob (codes "smt" ∷ map string_bytes line.now) (task_of job)) }
+    ensures refused { IfErr result (λ e. e ≡ WordsFault.Words → (task : Task) → NamesJob (codes "smt" ∷ map string_bytes line.now) task → ⊥) }
+{
+    let matches = read(smt_command(alloc)?, line)?;
+    let file = text_in(alloc, &matches, "FILE")?;
+    let budget = budget_in(&matches)?;
+    Ok(Job::Smt { file, budget })
 }
 
 // `least FILE TERM [--budget N]`

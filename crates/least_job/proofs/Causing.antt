@@ -12,8 +12,8 @@ use Rattle.answers.specs.Answer.{Answer, placed, refused_answer, unknown_answer}
 use Rattle.problem_file.specs.Reads.{Refusal, unread, untyped}
 use Rattle.problem_file.specs.Refusals.{refusal_name}
 use Rattle.problem_file.specs.Refused.{ComesOf}
-use Rattle.problem_file.proofs.Naming.{comes_of, not_impure, not_large, not_unsupported}
-use Rattle.problem_file.specs.Answers.{Poses, refused, unsupported, posed}
+use Rattle.problem_file.proofs.Naming.{comes_of, not_impure, not_large}
+use Rattle.problem_file.specs.Answers.{Poses, refused, posed}
 use Rattle.problem_file.specs.Encoded.{Fits, LeavesRange, impure, pure, large, leaves, runs}
 use Rattle.problem_file.proofs.Encoded.{fitting_answered}
 use Rattle.least_job.specs.Objective.{IsObjective}
@@ -105,7 +105,6 @@ from_end : (term : List ℕ) (budget : ℕ) (bytes : List ℕ) (a : Answer) (P :
     → ((p : Problem) (o : Outcome) → P (outcome_answer p o) → Q o) → IsLeastAnswer term budget bytes a → P a
     → (P (unknown_answer (codes "overflow")) × PosesTerm term bytes (λ p x. LeavesRange p)) ⊎ Ends term budget bytes Q
 from_end term budget bytes a P Q none some (refused r h e) is = absurd (none (refusal_name r) (subst P e is))
-from_end term budget bytes a P Q none some (unsupported at h e) is = absurd (none (placed (codes "Unsupported") at) (subst P e is))
 from_end term budget bytes a P Q none some (posed p h (impure at k e)) is = absurd (none (placed (codes "Impure") at) (subst P e is))
 from_end term budget bytes a P Q none some (posed p h (pure k (refused_text n e))) is = absurd (none (codes "Objective") (subst P e is))
 from_end term budget bytes a P Q none some (posed p h (pure k (stated x o (large l e)))) is = absurd (none (codes "Large") (subst P e is))
@@ -122,7 +121,6 @@ second_of (inr y) = inr y
 
 refused_by : (term : List ℕ) (budget : ℕ) (bytes : List ℕ) (a : Answer) → IsLeastAnswer term budget bytes a → a.status ≡ 3 → IsRefused term bytes
 refused_by term budget bytes a (refused r h e) z = cause.first r h
-refused_by term budget bytes a (unsupported at h e) z = cause.special at h
 refused_by term budget bytes a (posed p h (impure at k e)) z = cause.impure at (p, h, k)
 refused_by term budget bytes a (posed p h (pure k (refused_text n e))) z = cause.no_objective (p, h, (k, n))
 refused_by term budget bytes a (posed p h (pure k (stated x o (large l e)))) z = cause.too_large (p, h, (k, (x, o, l)))
@@ -146,7 +144,6 @@ not_objective (untyped typing.Memory) e = omega (arith, ap name_byte e)
 
 objective_by : (term : List ℕ) (budget : ℕ) (bytes : List ℕ) (a : Answer) → IsLeastAnswer term budget bytes a → a ≡ refused_answer (codes "Objective") → PosesNoObjective term bytes
 objective_by term budget bytes a (refused r h e) z = absurd (not_objective r (sym e ∙ z))
-objective_by term budget bytes a (unsupported at h e) z = absurd (omega (arith, ap name_byte (sym e ∙ z)))
 objective_by term budget bytes a (posed p h (impure at k e)) z = absurd (omega (arith, ap name_byte (sym e ∙ z)))
 objective_by term budget bytes a (posed p h (pure k (refused_text n e))) z = (p, h, (k, n))
 objective_by term budget bytes a (posed p h (pure k (stated x o (large l e)))) z = absurd (omega (arith, ap name_byte (sym e ∙ z)))
@@ -173,7 +170,6 @@ found_so term budget bytes a answered h =
 
 refused_status : (term : List ℕ) (budget : ℕ) (bytes : List ℕ) (a : Answer) → IsLeastAnswer term budget bytes a → IsRefused term bytes → a.status ≡ 3
 refused_status term budget bytes a answered (cause.first r h) = ap status_of (one_answer term budget bytes a _ answered (refused r h refl))
-refused_status term budget bytes a answered (cause.special at h) = ap status_of (one_answer term budget bytes a _ answered (unsupported at h refl))
 refused_status term budget bytes a answered (cause.impure at h) = ap status_of (one_answer term budget bytes a _ answered (posed h.0 h.1 (impure at h.2 refl)))
 refused_status term budget bytes a answered (cause.no_objective h) = ap status_of (one_answer term budget bytes a _ answered (posed h.0 h.1 (pure h.2.0 (refused_text h.2.1 refl))))
 refused_status term budget bytes a answered (cause.too_large h) = ap status_of (one_answer term budget bytes a _ answered (posed h.0 h.1 (pure h.2.0 (stated h.2.1.0 h.2.1.1 (large h.2.1.2 refl)))))
@@ -181,7 +177,6 @@ refused_status term budget bytes a answered (cause.too_large h) = ap status_of (
 -- the text of a refusal comes of that refusal alone
 only_first : (term : List ℕ) (budget : ℕ) (bytes : List ℕ) (a : Answer) → IsLeastAnswer term budget bytes a → (r : Refusal) → a ≡ refused_answer (refusal_name r) → IsRefused term bytes → ComesOf bytes r
 only_first term budget bytes a answered r e (cause.first q h) = comes_of bytes a r q e h (one_answer term budget bytes a _ answered (refused q h refl))
-only_first term budget bytes a answered r e (cause.special at h) = absurd (not_unsupported a r at e (one_answer term budget bytes a _ answered (unsupported at h refl)))
 only_first term budget bytes a answered r e (cause.impure at h) = absurd (not_impure a r at e (one_answer term budget bytes a _ answered (posed h.0 h.1 (impure at h.2 refl))))
 only_first term budget bytes a answered r e (cause.no_objective h) = absurd (not_objective r (sym e ∙ one_answer term budget bytes a _ answered (posed h.0 h.1 (pure h.2.0 (refused_text h.2.1 refl)))))
 only_first term budget bytes a answered r e (cause.too_large h) = absurd (not_large a r e (one_answer term budget bytes a _ answered (posed h.0 h.1 (pure h.2.0 (stated h.2.1.0 h.2.1.1 (large h.2.1.2 refl))))))
@@ -214,7 +209,6 @@ causes term budget bytes a answered = record {
   objective = (objective_by term budget bytes a answered, λ h. one_answer term budget bytes a _ answered (posed h.0 h.1 (pure h.2.0 (refused_text h.2.1 refl))));
   refused = λ r h. one_answer term budget bytes a _ answered (refused r h refl);
   only = λ r e. only_first term budget bytes a answered r e (refused_by term budget bytes a answered (ap status_of e));
-  unsupported = λ at h. one_answer term budget bytes a _ answered (unsupported at h refl);
   impure = λ at h. one_answer term budget bytes a _ answered (posed h.0 h.1 (impure at h.2 refl));
   large = λ h. one_answer term budget bytes a _ answered (posed h.0 h.1 (pure h.2.0 (stated h.2.1.0 h.2.1.1 (large h.2.1.2 refl))));
 }

@@ -17,7 +17,7 @@ use Rattle.encoding.specs.Problems.{problem_root}
 use Rattle.encoding.specs.Root.{names_from}
 use Rattle.answers.specs.Answer.{Answer, IsAnswerStatus, line}
 use Rattle.problem_file.specs.Reads.{AreSame}
-use Rattle.problem_file.specs.Answers.{Poses, refused, unsupported, posed}
+use Rattle.problem_file.specs.Answers.{Poses, refused, posed}
 use Rattle.problem_file.specs.Encoded.{AnswersEncoded, AnswersPure, impure, pure, large, leaves, runs}
 use Rattle.problem_file.proofs.Answering.{one_of_file, posed_answered}
 use Rattle.problem_file.proofs.Encoded.{one_of_encoded, one_of_pure, pure_answered, root_same, same_encoded, same_pure}
@@ -150,6 +150,5 @@ objective_status text budget p a (stated x h (runs f r)) = least_of_status budge
 
 pub least_status : (text : List ℕ) (budget : ℕ) (bytes : List ℕ) (a : Answer) → IsLeastAnswer text budget bytes a → IsAnswerStatus a.status
 least_status text budget bytes a (refused r h e) = subst (λ (b : Answer). IsAnswerStatus b.status) (sym e) refl
-least_status text budget bytes a (unsupported at h e) = subst (λ (b : Answer). IsAnswerStatus b.status) (sym e) refl
 least_status text budget bytes a (posed p h (impure at k e)) = subst (λ (b : Answer). IsAnswerStatus b.status) (sym e) refl
 least_status text budget bytes a (posed p h (pure k r)) = objective_status text budget p a r

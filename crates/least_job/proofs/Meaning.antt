@@ -31,7 +31,7 @@ use Rattle.least_meaning.proofs.Meaning.{means as least_means, same_value}
 use Rattle.least_meaning.proofs.Terms.{over_all, plain_has}
 use Rattle.answers.specs.Answer.{Answer}
 use Rattle.problem_file.specs.Reads.{Reads}
-use Rattle.problem_file.specs.Answers.{refused, unsupported, posed}
+use Rattle.problem_file.specs.Answers.{refused, posed}
 use Rattle.problem_file.specs.Encoded.{impure, pure, large, leaves, runs}
 use Rattle.problem_file.proofs.Bytes.{reads_formed, reads_pure}
 use Rattle.problem_file.proofs.Reduced.{problem_reduced}
@@ -200,6 +200,5 @@ objective_means w term budget bytes p a reads without (stated x is (runs fits r)
 
 pub means : (w : Meaning) (term : List ℕ) (budget : ℕ) (bytes : List ℕ) (a : Answer) → IsLeastAnswer term budget bytes a → LeastAnswers w term bytes a
 means w term budget bytes a (refused r h e) = nothing_said w term bytes a 3 (ap (λ (b : Answer). b.status) e) (λ z. cc) (λ z. cc)
-means w term budget bytes a (unsupported at h e) = nothing_said w term bytes a 3 (ap (λ (b : Answer). b.status) e) (λ z. cc) (λ z. cc)
 means w term budget bytes a (posed p h (impure at k e)) = nothing_said w term bytes a 3 (ap (λ (b : Answer). b.status) e) (λ z. cc) (λ z. cc)
 means w term budget bytes a (posed p h (pure k r)) = objective_means w term budget bytes p a h.reads ((reads_pure bytes p h.reads).0 k) r

@@ -6,7 +6,7 @@ use Rattle.answers.specs.Answer.{Answer, placed, refused_answer, unknown_answer}
 use Rattle.problem_file.specs.Reads.{Refusal, FirstRefusal}
 use Rattle.problem_file.specs.Refusals.{refusal_name}
 use Rattle.problem_file.specs.Refused.{ComesOf}
-use Rattle.problem_file.specs.Answers.{Poses, PosesOne, PosesUnsupported}
+use Rattle.problem_file.specs.Answers.{Poses, PosesOne}
 use Rattle.problem_file.specs.Encoded.{Fits, IsLarge, LeavesRange}
 use Rattle.least_rules.specs.Least.{Minimum, nothing}
 use Rattle.least_job.specs.Objective.{IsNoObjective, IsObjective}
@@ -32,10 +32,9 @@ Ends term budget bytes Is = PosesTerm term bytes (λ p x. Fits p × Is (least_ou
 abbrev pub IsMinimised : Outcome → Type 0
 IsMinimised o = (m : Minimum) × (o ≡ said m) × (m ≢ nothing)
 
--- it is refused: the file by its first refusal, at something unsupported or at an application; the term; or the problem as large
+-- it is refused: the file by its first refusal or at an application; the term; or the problem as large
 pub data IsRefused (term bytes : List ℕ) : Type 0 where
   first : (r : Refusal) → FirstRefusal bytes r → IsRefused term bytes
-  special : (at : ℕ) → PosesUnsupported bytes at → IsRefused term bytes
   impure : (at : ℕ) → PosesImpure bytes at → IsRefused term bytes
   no_objective : PosesNoObjective term bytes → IsRefused term bytes
   too_large : PosesTerm term bytes (λ p x. IsLarge p) → IsRefused term bytes
@@ -51,6 +50,5 @@ pub record Causes (term : List ℕ) (budget : ℕ) (bytes : List ℕ) (answer : 
   pub objective : (answer ≡ refused_answer (codes "Objective")) ↔ PosesNoObjective term bytes
   pub refused : (r : Refusal) → FirstRefusal bytes r → answer ≡ refused_answer (refusal_name r)
   pub only : (r : Refusal) → answer ≡ refused_answer (refusal_name r) → ComesOf bytes r
-  pub unsupported : (at : ℕ) → PosesUnsupported bytes at → answer ≡ refused_answer (placed (codes "Unsupported") at)
   pub impure : (at : ℕ) → PosesImpure bytes at → answer ≡ refused_answer (placed (codes "Impure") at)
   pub large : PosesTerm term bytes (λ p x. IsLarge p) → answer ≡ refused_answer (codes "Large")

@@ -1,7 +1,7 @@
 pub mod Answering
 pub mod Bytes
+pub mod Cuts
 pub mod Encoded
 mod Existing
 pub mod Naming
 pub mod Reduced
-pub mod Supported

@@ -72,9 +72,6 @@ other_letters n a b c d e f g h i j k (untyped typing.Memory) q = k (sym q)
 large_letters : (r : Refusal) → letters (refusal_name r) ≡ 76114 → ⊥
 large_letters = other_letters 76114 (λ z. omega (arith, z)) (λ z. omega (arith, z)) (λ z. omega (arith, z)) (λ z. omega (arith, z)) (λ z. omega (arith, z)) (λ z. omega (arith, z)) (λ z. omega (arith, z)) (λ z. omega (arith, z)) (λ z. omega (arith, z)) (λ z. omega (arith, z)) (λ z. omega (arith, z))
 
-unsupported_letters : (r : Refusal) → letters (refusal_name r) ≡ 85115 → ⊥
-unsupported_letters = other_letters 85115 (λ z. omega (arith, z)) (λ z. omega (arith, z)) (λ z. omega (arith, z)) (λ z. omega (arith, z)) (λ z. omega (arith, z)) (λ z. omega (arith, z)) (λ z. omega (arith, z)) (λ z. omega (arith, z)) (λ z. omega (arith, z)) (λ z. omega (arith, z)) (λ z. omega (arith, z))
-
 impure_letters : (r : Refusal) → letters (refusal_name r) ≡ 73112 → ⊥
 impure_letters = other_letters 73112 (λ z. omega (arith, z)) (λ z. omega (arith, z)) (λ z. omega (arith, z)) (λ z. omega (arith, z)) (λ z. omega (arith, z)) (λ z. omega (arith, z)) (λ z. omega (arith, z)) (λ z. omega (arith, z)) (λ z. omega (arith, z)) (λ z. omega (arith, z)) (λ z. omega (arith, z))
 
@@ -82,12 +79,9 @@ impure_letters = other_letters 73112 (λ z. omega (arith, z)) (λ z. omega (arit
 name_same : (m n : List ℕ) → refused_answer m ≡ refused_answer n → m ≡ n
 name_same m n e = ap (drop 9) (append_cancel_right (codes "refused: " ++ m) (codes "refused: " ++ n) (10 ∷ []) (ap (λ a. a.text) e))
 
--- an answer with the text of a refusal is not that of a large encoding, of something unsupported or of an application
+-- an answer with the text of a refusal is not that of a large encoding or of an application
 pub not_large : (a : Answer) (r : Refusal) → a ≡ refused_answer (refusal_name r) → a ≡ refused_answer (codes "Large") → ⊥
 not_large a r e f = large_letters r (ap letters (name_same (refusal_name r) (codes "Large") (sym e ∙ f)))
-
-pub not_unsupported : (a : Answer) (r : Refusal) (at : ℕ) → a ≡ refused_answer (refusal_name r) → a ≡ refused_answer (placed (codes "Unsupported") at) → ⊥
-not_unsupported a r at e f = unsupported_letters r (ap letters (name_same (refusal_name r) (placed (codes "Unsupported") at) (sym e ∙ f)))
 
 pub not_impure : (a : Answer) (r : Refusal) (at : ℕ) → a ≡ refused_answer (refusal_name r) → a ≡ refused_answer (placed (codes "Impure") at) → ⊥
 not_impure a r at e f = impure_letters r (ap letters (name_same (refusal_name r) (placed (codes "Impure") at) (sym e ∙ f)))

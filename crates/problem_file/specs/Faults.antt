@@ -1,6 +1,6 @@
 -- Why a file's bytes are not held as a problem, as the code has it.
-use Rattle.std.specs.Prelude.{◌≡◌, ◌⊎◌, ℕ, List, length, codes}
-use Rattle.answers.specs.Answer.{answer_of, placed, refused_answer}
+use Rattle.std.specs.Prelude.{◌≡◌, ◌⊎◌, ℕ, List, length}
+use Rattle.answers.specs.Answer.{answer_of, refused_answer}
 use Rattle.answers.specs.declared.output.Output.{Output}
 use Rattle.pri_tokens.specs.Lexemes.{lexemes_of}
 use Rattle.pri_reader.specs.declared.tree.ReadRefusal.TheVariants as reading
@@ -11,14 +11,11 @@ use Rattle.problem_file.specs.declared.fault.FileFault.{FileFault}
 use Rattle.problem_file.specs.declared.fault.FileFault.TheVariants as fault
 use Rattle.problem_file.specs.Reads.{FirstRefusal, unread, untyped}
 use Rattle.problem_file.specs.Refusals.{refusal_name}
-use Rattle.problem_file.specs.Answers.{PosesUnsupported}
 
--- what a fault says of the bytes: it is their first refusal, or the first place of something unsupported; want of memory
--- says nothing
+-- what a fault says of the bytes: it is their first refusal; want of memory says nothing
 abbrev pub RefusesFile : List ℕ → FileFault → Type 0
 RefusesFile bytes (fault.Reading e) = Refuses (file_setting bytes) (length bytes) (lexemes_of bytes) e
 RefusesFile bytes (fault.Typing e) = (e ≡ typing.Memory) ⊎ FirstRefusal bytes (untyped e)
-RefusesFile bytes (fault.Unsupported at) = PosesUnsupported bytes at
 
 -- the output tells the fault; none tells want of memory
 abbrev pub IsTold : FileFault → Output → Type 0
@@ -26,4 +23,3 @@ IsTold (fault.Reading reading.Memory) output = ⊥
 IsTold (fault.Reading e) output = answer_of output ≡ refused_answer (refusal_name (unread e))
 IsTold (fault.Typing typing.Memory) output = ⊥
 IsTold (fault.Typing e) output = answer_of output ≡ refused_answer (refusal_name (untyped e))
-IsTold (fault.Unsupported at) output = answer_of output ≡ refused_answer (placed (codes "Unsupported") at)

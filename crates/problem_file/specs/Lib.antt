@@ -4,4 +4,4 @@ pub mod Faults
 pub mod Reads
 pub mod Refusals
 pub mod Refused
-pub mod Special
+pub mod Cuttable

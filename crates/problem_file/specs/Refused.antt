@@ -2,13 +2,12 @@
 use Rattle.std.specs.Prelude.{◌≡◌, ℕ, List}
 use Rattle.problem_file.specs.Reads.{Refusal, FirstRefusal}
 use Rattle.problem_file.specs.Refusals.{refusal_name}
-use Rattle.problem_file.specs.Answers.{PosesOne, PosesUnsupported}
+use Rattle.problem_file.specs.Answers.{PosesOne}
 use Rattle.problem_file.specs.Encoded.{IsLarge}
 
--- the file is refused: by its first refusal, at something unsupported, or as large
+-- the file is refused: by its first refusal, or as large
 pub data IsRefused (bytes : List ℕ) : Type 0 where
   first : (r : Refusal) → FirstRefusal bytes r → IsRefused bytes
-  special : (at : ℕ) → PosesUnsupported bytes at → IsRefused bytes
   too_large : PosesOne bytes IsLarge → IsRefused bytes
 
 -- the name of this refusal is that of the first refusal of the bytes

@@ -10,6 +10,4 @@ pub enum FileFault {
     Reading(ReadRefusal),
     /// They are a file with a fault.
     Typing(TypeRefusal),
-    /// The problem has something that is not answered yet, and first at this offset.
-    Unsupported(u64),
 }

@@ -1,9 +1,9 @@
 // What is read of a file's bytes, each the contract of a function with nothing to do.
 
-ghost use Rattle.problem_file.specs.Answers.{Poses, PosesUnsupported};
+ghost use Rattle.problem_file.specs.Answers.{Poses};
 ghost use Rattle.problem_file.specs.Reads.{AreSame, FirstRefusal, Reads, Refusal};
 ghost use Rattle.problem_file.specs.Refusals.{IsNamed, refusal_name};
-ghost use Rattle.problem_file.specs.Special.{HasPlainCuts};
+ghost use Rattle.problem_file.specs.Cuttable.{IsCuttable};
 ghost use Rattle.encoding.specs.Problems.{problem_root};
 ghost use Rattle.formula.specs.Reduced.{HasReducedTerms};
 ghost use Rattle.pri_typing.specs.Problems.{IsPure};
@@ -28,13 +28,9 @@ pub fn problem_law()
     ensures pure { (bytes : List ℕ) (p : Problem) → Reads bytes p → (p.first_application ≡ None) ↔ IsPure p }
 {}
 
-/// A problem that bytes pose is answered, or there is a first place of something that is not, and not both. The cuts of one that
-/// is answered have two sets each.
-pub fn unsupported_law()
-    ensures either { (bytes : List ℕ) (p : Problem) (at : ℕ) → Poses bytes p → PosesUnsupported bytes at → ⊥ }
-    ensures place { (bytes : List ℕ) (m n : ℕ) → PosesUnsupported bytes m → PosesUnsupported bytes n → m ≡ n }
-    ensures some { (bytes : List ℕ) (p : Problem) → Reads bytes p → Poses bytes p ⊎ ((at : ℕ) × PosesUnsupported bytes at) }
-    ensures cuts { (bytes : List ℕ) (p : Problem) → Poses bytes p → HasPlainCuts p }
+/// A problem that bytes pose has cuts only where it has no existential constants.
+pub fn cuts_law()
+    ensures { (bytes : List ℕ) (p : Problem) → Poses bytes p → IsCuttable p }
 {}
 
 /// Refusals with one name are one: the name has the cause and the place.

@@ -7,10 +7,9 @@ mod fault;
 mod laws;
 mod reading;
 mod refusals;
-mod special;
 
 pub use encoder::{encode_problem, refuse_encoding};
 pub use fault::FileFault;
-pub use laws::{encoding_law, names_law, one_problem_law, problem_law, unsupported_law};
+pub use laws::{cuts_law, encoding_law, names_law, one_problem_law, problem_law};
 pub use reading::read_problem;
 pub use refusals::refuse;

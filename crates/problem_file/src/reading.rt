@@ -3,27 +3,25 @@
 ghost use Rattle.problem_file.specs.Answers.{Poses};
 ghost use Rattle.problem_file.specs.Faults.{RefusesFile};
 ghost use Rattle.problem_file.specs.Reads.{IsFileOf};
-ghost use Rattle.problem_file.specs.Special.{HasPlainCuts};
+ghost use Rattle.problem_file.specs.Cuttable.{IsCuttable};
 ghost use Rattle.pri_typing.specs.Limits.{IsResolvable};
 ghost use Rattle.pri_typing.specs.WellFormed.{HasDistinctNames, HasIdentifiers, IsWellFormed};
 ghost use Rattle.std.specs.Prelude.{◌<◌, ◌^◌, ℕ, List, length, IfOk, IfErr};
 
 use crate::fault::FileFault;
-use crate::special::first_unsupported;
 use pri_reader::{File, read};
 use pri_typing::{Problem, resolve};
 use std::alloc::Global;
 
 /// The problem that the bytes of a file pose, of which there is at most one, well formed, its symbols with different
-/// identifiers as names, its cuts of two sets each; or their first refusal, or the first place of something that is not
-/// answered yet.
+/// identifiers as names, with cuts only where it has no existential constants; or their first refusal.
 pub fn read_problem(alloc: Global, bytes: &[u8]) -> Result<Problem, FileFault>
     requires { length bytes.now < 2 ^ 32 }
     ensures posed { IfOk result (Poses bytes.now) }
     ensures well_formed { IfOk result IsWellFormed }
     ensures distinct { IfOk result HasDistinctNames }
     ensures identifiers { IfOk result HasIdentifiers }
-    ensures cuts { IfOk result HasPlainCuts }
+    ensures cuts { IfOk result IsCuttable }
     ensures refused { IfErr result (RefusesFile bytes.now) }
 {
     match read(alloc, bytes) {
@@ -42,10 +40,7 @@ fn file_problem(alloc: Global, file: &File) -> Result<Problem, FileFault>
     ensures refused { (bytes : List ℕ) → IsFileOf bytes file.now → IfErr result (RefusesFile bytes) }
 {
     match resolve(alloc, file) {
-        Ok(problem) => match first_unsupported(&problem, file) {
-            Some(at) => Err(FileFault::Unsupported(at)),
-            None => Ok(problem),
-        },
+        Ok(problem) => Ok(problem),
         Err(refusal) => Err(FileFault::Typing(refusal)),
     }
 }

@@ -25,7 +25,6 @@ pub fn refuse(alloc: Global, fault: FileFault) -> Result<Output, Memory>
         FileFault::Typing(TypeRefusal::NonLinear(at)) => (b"NonLinear".as_slice(), at),
         FileFault::Typing(TypeRefusal::Parts(at)) => (b"Parts".as_slice(), at),
         FileFault::Typing(TypeRefusal::Many(at)) => (b"Many".as_slice(), at),
-        FileFault::Unsupported(at) => (b"Unsupported".as_slice(), at),
         FileFault::Reading(ReadRefusal::Memory) => return Err(Memory),
         FileFault::Typing(TypeRefusal::Memory) => return Err(Memory),
     };

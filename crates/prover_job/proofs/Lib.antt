@@ -1,5 +1,6 @@
 mod Telling
 mod Lines
 mod Printed
+mod TypedInner
 mod Output
 mod Opening

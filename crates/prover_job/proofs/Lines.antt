@@ -1,5 +1,5 @@
 -- Lines that are whole and are not `proof:`, before the line that is: behind that stands the part of a file that holds a proof.
-use Rattle.std.proofs.Common.{ℕ, ◌≡◌, ◌∙◌, ◌==◌, Bool, true, false, cond, List, [], ◌∷◌, ◌++◌, Option, Some, None, option_map, unwrap_or, refl, sym, ap, append_assoc, codes}
+use Rattle.std.proofs.Common.{ℕ, ◌≡◌, ◌∙◌, ◌==◌, Bool, true, false, cond, List, [], ◌∷◌, ◌++◌, Option, Some, option_map, unwrap_or, refl, ap, append_assoc, codes}
 use Rattle.std.specs.List.{AllByRecursion, join_with_byte, list_all, onto_first}
 use Rattle.std.proofs.lemmas.List.Splits.{join_with_byte-slice_split}
 use Rattle.pri_tokens.proofs.Tests.{left_true, right_true}

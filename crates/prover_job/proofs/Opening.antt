@@ -1,5 +1,5 @@
 -- The names that a job begins, one file after another.
-use Rattle.std.proofs.Common.{ℕ, zero, suc, ◌≡◌, ◌∙◌, ◌+◌, ◌≤◌, List, [], ◌∷◌, ◌++◌, take, sym, ap, append_assoc, append-nil, arith}
+use Rattle.std.proofs.Common.{ℕ, zero, suc, ◌≡◌, ◌∙◌, ◌+◌, List, [], ◌∷◌, ◌++◌, take, sym, ap, append_assoc, append-nil, arith}
 use Rattle.prover_io.specs.Outside.{BeginsFront, GrowsAtMost}
 
 -- none is begun

@@ -10,14 +10,16 @@ use Rattle.proof_lines.specs.Body.{body}
 use Rattle.tree_text.specs.Shaped.{Holds}
 use Rattle.clause_set.specs.declared.literal.Literal.{Literal}
 use Rattle.pri_typing.specs.declared.problem.Problem.{Problem}
-use Rattle.pri_typing.specs.declared.problem.Cut.{Cut}
 use Rattle.pri_typing.specs.WellFormed.{HasIdentifiers}
-use Rattle.answers.specs.Answer.{Answer, line}
+use Rattle.answers.specs.Answer.{Answer}
 use Rattle.constraint_text.specs.Constraint.{IsTextOf}
 use Rattle.constraint_lines.specs.Lines.{solution_line, valued_lines}
 use Rattle.pri_printer.specs.Printed.{solution_text}
-use Rattle.interpolant_lines.specs.Blocks.{AreBlockLines, IsBlockLine, found, steps, overflow}
-use Rattle.problem_file.specs.Answers.{Poses, PosesOne, refused, unsupported, posed}
+use Rattle.cut_sides.specs.Sides.{Case, arithmetic, first_itself, second_denied, none}
+use Rattle.interpolant_lines.specs.Blocks.{AreLines, IsSeamLine, IsTextBy, found, unknown}
+use Rattle.interpolant_lines.specs.Ends.{Cause, steps as steps_cause, overflow as overflow_cause, symbols, branch as branch_cause, large as large_cause, plain, cause_text, formula_by, seam_case, seam_run}
+use Rattle.interpolant_lines.specs.Seams.{Seam, seams}
+use Rattle.problem_file.specs.Answers.{Poses, PosesOne, refused, posed}
 use Rattle.problem_file.specs.Encoded.{large, leaves, runs}
 use Rattle.problem_file.proofs.Bytes.{reads_identifiers}
 use Rattle.search.specs.Run as run
@@ -32,6 +34,7 @@ use Rattle.check_job.specs.Checked.{IsChecked}
 use Rattle.check_job.proofs.Exactly.{decided}
 use Rattle.prover_job.proofs.Lines.{AreInner, IsOfLines, IsPassed, inner_append, inner_word, no_lines, one_alone, one_more, part_after}
 use Rattle.prover_job.proofs.Printed.{dnf_inner, solution_inner}
+use Rattle.prover_job.proofs.TypedInner.{formula_inner}
 
 abbrev status_of : Answer → ℕ
 status_of a = a.status
@@ -47,27 +50,37 @@ constraint_passed p x d h t = record {
   other = refl;
 }
 
-interpolant_passed : (p : Problem) (x : List ℕ) (d : List (List Literal)) → HasIdentifiers p → IsTextOf p d x → IsPassed (codes "interpolant: " ++ x)
-interpolant_passed p x d h t = record {
-  inner = inner_append (codes "interpolant: ") x (inner_word (codes "interpolant: ") refl) (subst AreInner (sym t.text) (dnf_inner p d h));
-  other = refl;
-}
-
 solution_passed : (p : Problem) (vs : List ℤ) → HasIdentifiers p → IsPassed (codes "solution: " ++ solution_text p vs)
 solution_passed p vs h = record { inner = inner_append (codes "solution: ") (solution_text p vs) (inner_word (codes "solution: ") refl) (solution_inner p vs h); other = refl }
 
-block_line : (p : Problem) (b : Cut) (old : Funds) (text rest : List ℕ) → HasIdentifiers p → IsBlockLine p b old text → IsOfLines rest → IsOfLines (text ++ rest)
-block_line p b old text rest h (found x done printed e) k = subst (λ t. IsOfLines (t ++ rest)) (sym e) (one_more (codes "interpolant: " ++ x) rest (interpolant_passed p x _ h printed) k)
-block_line p b old text rest h (steps out e) k =
-    subst (λ t. IsOfLines (t ++ rest)) (sym e) (one_more (codes "interpolant unknown: " ++ codes "steps") rest (record { inner = inner_word (codes "interpolant unknown: " ++ codes "steps") refl; other = refl }) k)
-block_line p b old text rest h (overflow out e) k =
-    subst (λ t. IsOfLines (t ++ rest)) (sym e) (one_more (codes "interpolant unknown: " ++ codes "overflow") rest (record { inner = inner_word (codes "interpolant unknown: " ++ codes "overflow") refl; other = refl }) k)
+-- the lines of causes
+unknown_passed : (c : Cause) → IsPassed (codes "interpolant unknown: " ++ cause_text c)
+unknown_passed steps_cause = record { inner = inner_word (codes "interpolant unknown: steps") refl; other = refl }
+unknown_passed overflow_cause = record { inner = inner_word (codes "interpolant unknown: overflow") refl; other = refl }
+unknown_passed symbols = record { inner = inner_word (codes "interpolant unknown: symbols") refl; other = refl }
+unknown_passed branch_cause = record { inner = inner_word (codes "interpolant unknown: branch") refl; other = refl }
+unknown_passed large_cause = record { inner = inner_word (codes "interpolant unknown: large") refl; other = refl }
+unknown_passed plain = record { inner = inner_word (codes "interpolant unknown: plain") refl; other = refl }
 
-block_lines : (p : Problem) (bs : List Cut) (old : Funds) (lines : List (List ℕ)) → HasIdentifiers p → AreBlockLines p bs old lines → IsOfLines (concat lines)
-block_lines p [] old [] h are = no_lines
-block_lines p [] old (text ∷ lines) h are = absurd are
-block_lines p (b ∷ bs) old [] h are = absurd are
-block_lines p (b ∷ bs) old (text ∷ lines) h are = block_line p b old text (concat lines) h are.0 (block_lines p bs _ lines h are.1)
+-- the text of an interpolant has no line feed
+text_inner : (p : Problem) (b : Seam) (c : Case) (x : List ℕ) → HasIdentifiers p → IsTextBy p b c x → AreInner x
+text_inner p b arithmetic x h t = subst AreInner (sym t.text) (dnf_inner p (seam_run p b).value h)
+text_inner p b first_itself x h t = subst AreInner (sym t.text) (formula_inner p 0 (formula_by p b first_itself) h)
+text_inner p b second_denied x h t = subst AreInner (sym t.text) (formula_inner p 0 (formula_by p b second_denied) h)
+text_inner p b none x h t = absurd t
+
+seam_line : (p : Problem) (b : Seam) (old : Funds) (text rest : List ℕ) → HasIdentifiers p → IsSeamLine p b old text → IsOfLines rest → IsOfLines (text ++ rest)
+seam_line p b old text rest h (found left x is printed e proved) k =
+    subst (λ t. IsOfLines (t ++ rest)) (sym e) (one_more (codes "interpolant: " ++ x) rest
+    (record { inner = inner_append (codes "interpolant: ") x (inner_word (codes "interpolant: ") refl) (text_inner p b (seam_case p b) x h printed); other = refl }) k)
+seam_line p b old text rest h (unknown c left is e) k =
+    subst (λ t. IsOfLines (t ++ rest)) (sym e) (one_more (codes "interpolant unknown: " ++ cause_text c) rest (unknown_passed c) k)
+
+seam_lines : (p : Problem) (bs : List Seam) (old : Funds) (lines : List (List ℕ)) → HasIdentifiers p → AreLines p bs old lines → IsOfLines (concat lines)
+seam_lines p [] old [] h are = no_lines
+seam_lines p [] old (text ∷ lines) h are = absurd are
+seam_lines p (b ∷ bs) old [] h are = absurd are
+seam_lines p (b ∷ bs) old (text ∷ lines) h are = seam_line p b old text (concat lines) h are.0 (seam_lines p bs _ lines h are.1)
 
 -- the answer has a proof behind it: the problem is valid, or it is invalid and has neither predicates nor functions
 abbrev pub HasProof : List ℕ → Answer → Type 0
@@ -87,10 +100,10 @@ no_proof budget bytes p log x stands a poses is told (inl z) = not_valid (one_or
 no_proof budget bytes p log x stands a poses is told (inr h) = h.1 (p, poses, impure_is budget bytes p log x stands poses is)
 
 end_lines : (budget : ℕ) (bytes : List ℕ) (p : Problem) (a : Answer) → Poses bytes p → AnswersEnd p (run_end budget p) a → HasProof bytes a → IsOfLines a.text
-end_lines budget bytes p a poses (closed vs x stands lines is none told e) good =
+end_lines budget bytes p a poses (closed vs x stands lines is empty told e) good =
     subst IsOfLines (sym (ap text_of e))
     (one_more (codes "VALID") lines (record { inner = inner_word (codes "VALID") refl; other = refl })
-    (subst IsOfLines (sym told.whole) (block_lines p p.cuts stands.funds told.lines (reads_identifiers bytes p poses.reads) told.are)))
+    (subst IsOfLines (sym told.whole) (seam_lines p (seams p.cuts) stands.funds told.lines (reads_identifiers bytes p poses.reads) told.are)))
 end_lines budget bytes p a poses (valid vs x stands text is some printed e) good =
     let h = reads_identifiers bytes p poses.reads in
     subst IsOfLines (sym (ap text_of e))
@@ -104,7 +117,6 @@ end_lines budget bytes p a poses (out_of_range numbers stands is e) good = absur
 
 solved_lines : (budget : ℕ) (bytes : List ℕ) (a : Answer) → IsSolved budget bytes a → HasProof bytes a → IsOfLines a.text
 solved_lines budget bytes a (refused r h e) good = absurd (neither bytes a 3 (ap status_of e) (λ z. cc) (λ z. cc) good)
-solved_lines budget bytes a (unsupported at h e) good = absurd (neither bytes a 3 (ap status_of e) (λ z. cc) (λ z. cc) good)
 solved_lines budget bytes a (posed p h (large l e)) good = absurd (neither bytes a 3 (ap status_of e) (λ z. cc) (λ z. cc) good)
 solved_lines budget bytes a (posed p h (leaves l e)) good = absurd (neither bytes a 2 (ap status_of e) (λ z. cc) (λ z. cc) good)
 solved_lines budget bytes a (posed p h (runs f k)) good = end_lines budget bytes p a h k good

@@ -1,9 +1,7 @@
 -- Printed texts have no line feed within a line.
-use Rattle.std.proofs.Common.{ℕ, zero, suc, ℤ, pos, negsuc, ◌≡◌, ◌+◌, ◌/◌, ◌%◌, ◌==◌, nat_eq, nat_lt, int_lt, Bool, true, false, cond, ◌&&◌, ◌||◌, not, unsigned_abs, List, [], ◌∷◌, ◌++◌, map, length, slice_index_or, refl, codes, arith}
+use Rattle.std.proofs.Common.{ℕ, zero, suc, ℤ, pos, negsuc, ◌≡◌, ◌+◌, ◌/◌, ◌%◌, ◌==◌, nat_eq, nat_lt, Bool, true, false, cond, not, unsigned_abs, List, [], ◌∷◌, ◌++◌, map, slice_index_or, refl, codes, arith}
 use Rattle.std.specs.Fmt.{decimal, digit_glyph, digits, digits_onto, signed_decimal}
 use Rattle.std.specs.List.{AllByRecursion, list_all}
-use Rattle.std.specs.Ordering.{int_eq}
-use Rattle.std.specs.Char.{is_ascii_digit}
 use Rattle.std.proofs.lemmas.Bool.Decides.{nat_tests}
 use Rattle.std.proofs.lemmas.List.Elements.{recursion_from_All}
 use Rattle.linear_term.specs.Linear.{Linear}
@@ -16,10 +14,10 @@ use Rattle.pri_tokens.specs.Written.{IsIdentifier}
 use Rattle.pri_typing.specs.declared.problem.Problem.{Problem}
 use Rattle.pri_typing.specs.declared.problem.Symbol.{Symbol}
 use Rattle.pri_typing.specs.WellFormed.{HasIdentifiers, names_of_symbols}
-use Rattle.pri_printer.specs.Summands.{Summand, alone, times, Signed, constant, monomial, summands}
+use Rattle.pri_printer.specs.Summands.{Summand, alone, times, Signed, summands}
 use Rattle.pri_printer.specs.Quotient.{quotient_name, quotient_number}
 use Rattle.pri_printer.specs.Printed.{constants_of, dnf_text, solution_text}
-use Rattle.pri_printer.specs.Text.{added_texts, adding_text, behind_each, clause_text, divides_text, exists_text, later_text, listed_text, literal_text, normal_form_text, sum_text, summand_text, term_text, value_text, value_texts}
+use Rattle.pri_printer.specs.Text.{added_texts, adding_text, behind_each, clause_text, divides_text, later_text, listed_text, literal_text, normal_form_text, sum_text, summand_text, term_text, value_text, value_texts}
 use Rattle.prover_job.proofs.Lines.{AreInner, IsInner, inner_append, inner_word}
 
 -- ---- numbers and names
@@ -32,7 +30,7 @@ glyph_inner u d = by u (nat_lt d 10)
     by true false = grind (arith, nat_tests)
     by false false = grind (arith, nat_tests)
 
-either_inner : (v : Bool) (xs ys : List ℕ) → AreInner xs → AreInner ys → AreInner (cond v xs ys)
+pub either_inner : (v : Bool) (xs ys : List ℕ) → AreInner xs → AreInner ys → AreInner (cond v xs ys)
 either_inner true xs ys h k = h
 either_inner false xs ys h k = k
 
@@ -42,11 +40,11 @@ digits_inner (suc k) n acc h =
     let more : AreInner (digit_glyph false (n % 10) ∷ acc) = (glyph_inner false (n % 10), h) in
     either_inner (n / 10 == 0) (digit_glyph false (n % 10) ∷ acc) (digits_onto k 10 false (n / 10) (digit_glyph false (n % 10) ∷ acc)) more (digits_inner k (n / 10) (digit_glyph false (n % 10) ∷ acc) more)
 
-decimal_inner : (n : ℕ) → AreInner (decimal n)
+pub decimal_inner : (n : ℕ) → AreInner (decimal n)
 unfolding digits
 decimal_inner n = digits_inner 64 n [] tt
 
-signed_inner : (z : ℤ) → AreInner (signed_decimal z)
+pub signed_inner : (z : ℤ) → AreInner (signed_decimal z)
 signed_inner (pos n) = decimal_inner n
 signed_inner (negsuc n) = (refl, decimal_inner (suc n))
 
@@ -67,23 +65,23 @@ is_name_inner (b ∷ bs) h = (starts_inner b (left_true (starts_name b) (list_al
 identifier_inner : (text : List ℕ) → IsIdentifier text → AreInner text
 identifier_inner text h = is_name_inner text (left_true (is_name text) (not (is_one_of words text)) h)
 
-abbrev AreNames : List (List ℕ) → Type 0
+abbrev pub AreNames : List (List ℕ) → Type 0
 AreNames names = AllByRecursion AreInner names
 
-identifiers_inner : (names : List (List ℕ)) → AllByRecursion IsIdentifier names → AreNames names
+pub identifiers_inner : (names : List (List ℕ)) → AllByRecursion IsIdentifier names → AreNames names
 identifiers_inner [] h = tt
 identifiers_inner (x ∷ names) h = (identifier_inner x h.0, identifiers_inner names h.1)
 
-front_names : (xs ys : List (List ℕ)) → AreNames (xs ++ ys) → AreNames xs
+pub front_names : (xs ys : List (List ℕ)) → AreNames (xs ++ ys) → AreNames xs
 front_names [] ys h = tt
 front_names (x ∷ xs) ys h = (h.0, front_names xs ys h.1)
 
-constants_inner : (p : Problem) → HasIdentifiers p → AreNames (constants_of p)
+pub constants_inner : (p : Problem) → HasIdentifiers p → AreNames (constants_of p)
 constants_inner p h =
     let F = map (λ (y : Symbol). y.name) p.functions in let Q = map (λ (y : Symbol). y.name) p.predicates in
     front_names (constants_of p) F (front_names (constants_of p ++ F) Q (identifiers_inner (names_of_symbols p) (recursion_from_All IsIdentifier (names_of_symbols p) h)))
 
-indexed : (names : List (List ℕ)) (x : ℕ) → AreNames names → AreInner (slice_index_or names x [])
+pub indexed : (names : List (List ℕ)) (x : ℕ) → AreNames names → AreInner (slice_index_or names x [])
 indexed [] x h = tt
 indexed (y ∷ names) zero h = h.0
 indexed (y ∷ names) (suc x) h = indexed names x h.1
@@ -160,7 +158,7 @@ values_inner [] vs h = tt
 values_inner (x ∷ names) [] h = tt
 values_inner (x ∷ names) (v ∷ vs) h = (value_inner x v h.0, values_inner names vs h.1)
 
-commas_inner : (us : List (List ℕ)) → AreNames us → AreInner (behind_each (codes ", ") us)
+pub commas_inner : (us : List (List ℕ)) → AreNames us → AreInner (behind_each (codes ", ") us)
 commas_inner [] h = tt
 commas_inner (u ∷ us) h = inner_append (codes ", ") (u ++ behind_each (codes ", ") us) (inner_word (codes ", ") refl) (inner_append u (behind_each (codes ", ") us) h.0 (commas_inner us h.1))
 

@@ -1,5 +1,5 @@
 -- What a run answers, and what its end means.
-use Rattle.std.proofs.Common.{◌≡◌, ◌≢◌, ◌≤◌, ◌⊎◌, inl, inr, ℕ, ℤ, List, [], ◌∷◌, ◌++◌, length, Option, Some, None, Result, Ok, Err, IfOk, refl, sym, ◌∙◌, ap, subst, append-nil, arith}
+use Rattle.std.proofs.Common.{◌≡◌, ◌≢◌, ◌≤◌, ◌⊎◌, inl, inr, ℕ, List, [], ◌∷◌, ◌++◌, length, Option, Some, None, Result, Ok, Err, IfOk, refl, sym, ◌∙◌, ap, subst, append-nil, arith}
 use Rattle.typed_formula.specs.Truth.{Meaning}
 use Rattle.pri_typing.specs.Problems.{meaning_of}
 use Rattle.prover_io.specs.Outside.{IsLonger, IsWhole}
@@ -10,7 +10,7 @@ use Rattle.answers.specs.declared.output.Output.{Output}
 use Rattle.answers.specs.Outside.{Gives, Meets, PutsAll}
 use Rattle.answers.specs.Files.{AnswersBytes, AnswersSource, most_of_file, most_of_proof, too_long, within}
 use Rattle.answers.proofs.Meeting.{long_answered, meets_more, whole_answered}
-use Rattle.job_words.specs.Jobs.{Task, solve, eliminate, minimise, check, drill, IsBudget, NamesJob}
+use Rattle.job_words.specs.Jobs.{Task, solve, eliminate, run_script, minimise, check, drill, IsBudget, NamesJob}
 use Rattle.problem_gen.specs.Drills.{drill_text}
 use Rattle.solve_job.specs.Proved.{IsSolvedAs, PrintsProofOf, ProvesInvalid, ProvesValid}
 use Rattle.answers.specs.declared.form.ProofForm.{ProofForm}
@@ -35,6 +35,9 @@ use Rattle.elim_job.specs.Eliminated.{IsEliminated}
 use Rattle.elim_job.specs.Meaning.{ElimMeans}
 use Rattle.elim_job.proofs.Causing as elim_causing
 use Rattle.elim_job.proofs.Exactly.{eliminated_status}
+use Rattle.smt_job.specs.Answered.{IsSmtAnswer}
+use Rattle.smt_job.specs.Meaning.{Scripted}
+use Rattle.smt_job.proofs.Meaning.{means_all, smt_status}
 use Rattle.elim_job.proofs.Meaning.{means}
 use Rattle.least_job.specs.Leasts.{IsLeastAnswer}
 use Rattle.least_job.specs.Meaning.{LeastAnswers}
@@ -43,7 +46,7 @@ use Rattle.least_job.proofs.Deciding as least_deciding
 use Rattle.least_job.proofs.Exactly.{least_status}
 use Rattle.least_job.proofs.Meaning as least_meaning
 use Rattle.prover_job.specs.declared.tasks.Stop.{Stop}
-use Rattle.prover_job.specs.Runs.{AnswersTask, AnswersWithProof, IsWithin, SaysChecked, SaysConstraint, SaysLeast, SaysNowhere, SaysValid, SaysRefuted, IsSolveCaused, IsSolveCausedAs, IsElimCaused, IsLeastCaused, IsCheckCaused, IsDrillCaused}
+use Rattle.prover_job.specs.Runs.{AnswersTask, AnswersWithProof, IsWithin, SaysChecked, SaysConstraint, SaysLeast, SaysNowhere, SaysScript, SaysValid, SaysRefuted, IsSolveCaused, IsSolveCausedAs, IsElimCaused, IsLeastCaused, IsCheckCaused, IsDrillCaused}
 
 -- ---- files
 
@@ -87,6 +90,7 @@ with_proof_status told bytes a h = bytes_status most_of_proof (λ proof. IsCheck
 pub task_status : (bytes_of : List ℕ → Option (List ℕ)) (task : Task) (a : Answer) → AnswersTask bytes_of task a → IsAnswerStatus a.status
 task_status bytes_of (solve file budget asked) a h = bytes_status most_of_file (IsSolvedAs asked budget) (solved_as_status asked budget) h.bytes a h.is
 task_status bytes_of (eliminate file budget) a h = bytes_status most_of_file (IsEliminated budget) (eliminated_status budget) h.bytes a h.is
+task_status bytes_of (run_script file budget) a h = bytes_status most_of_file (IsSmtAnswer budget) (smt_status budget) h.bytes a h.is
 task_status bytes_of (minimise file term budget) a h = bytes_status most_of_file (IsLeastAnswer term budget) (least_status term budget) h.bytes a h.is
 task_status bytes_of (check file proof) a h = bytes_status most_of_file (AnswersWithProof (bytes_of proof)) (with_proof_status (bytes_of proof)) h.bytes a h.is
 task_status bytes_of (drill count budget) a h = subst (λ b. IsAnswerStatus b.status) (sym h.drilled) (solved_status budget (drill_text count) h.solved h.solves)
@@ -218,6 +222,34 @@ says_constraint w budget told ends before after met z =
       constrained = bytes_means w budget (given.is).bytes given.answer (given.is).is (sym given.status ∙ z);
     }
 
+-- an answer of `smt` to the bytes of a file means what it does, where a long file's means nothing
+bytes_script : (w : Meaning) (budget : ℕ) (bytes : List ℕ) (a : Answer) → AnswersBytes most_of_file (IsSmtAnswer budget) bytes a → (a.status ≡ 0) ⊎ (a.status ≡ 2) → Scripted w bytes a.text
+bytes_script w budget bytes a (too_long l e) (inl z) = let bad = sym z ∙ ap (λ b. b.status) e in absurd cc
+bytes_script w budget bytes a (too_long l e) (inr z) = let bad = sym z ∙ ap (λ b. b.status) e in absurd cc
+bytes_script w budget bytes a (within l is) z = means_all w budget bytes a is z
+
+script_at : (w : Meaning) (budget n : ℕ) (told : Option (List ℕ)) (ends : ℕ) (before after : Option (List ℕ)) → Meets (AnswersSource most_of_file (IsSmtAnswer budget) told) ends before after
+    → ends ≡ n → (n ≡ 0) ⊎ (n ≡ 2) → (n ≡ 6 → ⊥) → (n ≡ 7 → ⊥) → (n ≡ 8 → ⊥) → SaysScript w told before after
+script_at w budget n told ends before after met z known six seven eight =
+    let given = given_to _ ends n before after met z six seven eight in
+    record {
+      bytes = (given.is).bytes;
+      whole = (given.is).whole;
+      text = (given.answer).text;
+      put = given.put;
+      scripted = bytes_script w budget (given.is).bytes given.answer (given.is).is (by known (sym given.status ∙ z));
+    }
+  where
+    by : {m : ℕ} → (n ≡ 0) ⊎ (n ≡ 2) → m ≡ n → (m ≡ 0) ⊎ (m ≡ 2)
+    by (inl a) e = inl (e ∙ a)
+    by (inr a) e = inr (e ∙ a)
+
+-- at status 0 and at status 2 of `smt` the lines of a script are put, which say what is so of its checks
+pub says_script : (w : Meaning) (budget : ℕ) (told : Option (List ℕ)) (ends : ℕ) (before after : Option (List ℕ)) → Meets (AnswersSource most_of_file (IsSmtAnswer budget) told) ends before after
+    → (ends ≡ 0) ⊎ (ends ≡ 2) → SaysScript w told before after
+says_script w budget told ends before after met (inl z) = script_at w budget 0 told ends before after met z (inl refl) (λ e. cc) (λ e. cc) (λ e. cc)
+says_script w budget told ends before after met (inr z) = script_at w budget 2 told ends before after met z (inr refl) (λ e. cc) (λ e. cc) (λ e. cc)
+
 -- an answer of `least` to the bytes of a file means what it does, where a long file's means nothing
 bytes_least : (w : Meaning) (term : List ℕ) (budget : ℕ) (bytes : List ℕ) (a : Answer) → AnswersBytes most_of_file (IsLeastAnswer term budget) bytes a → LeastAnswers w term bytes a
 bytes_least w term budget bytes a (too_long l e) = record {
@@ -299,6 +331,7 @@ pub named_within : (words : List (List ℕ)) (task : Task) → NamesJob words ta
 named_within [] task h = absurd h
 named_within (command ∷ line) (solve file budget asked) h = budget_small _ budget h.1.budget_is
 named_within (command ∷ line) (eliminate file budget) h = let small = budget_small _ budget h.1.budget_is in omega (arith, small)
+named_within (command ∷ line) (run_script file budget) h = budget_small _ budget h.1.budget_is
 named_within (command ∷ line) (minimise file term budget) h = let small = budget_small _ budget h.1.budget_is in omega (arith, small)
 named_within (command ∷ line) (check file proof) h = tt
 named_within (command ∷ line) (drill count budget) h = (h.1.count_is.within, budget_small _ budget h.1.budget_is)

@@ -1,5 +1,5 @@
 -- What a run answers to its words over a source of named bytes, and what its end means.
-use Rattle.std.specs.Prelude.{◌≡◌, ◌⊎◌, ◌+◌, ◌≤◌, ◌<◌, ◌^◌, ℕ, ℤ, Bool, true, false, List, [], ◌∷◌, ◌++◌, length, Option, Some, None, Contains}
+use Rattle.std.specs.Prelude.{◌≡◌, ◌⊎◌, ◌+◌, ◌≤◌, ◌<◌, ◌^◌, ℕ, Bool, List, [], ◌∷◌, ◌++◌, length, Option, Some, None, Contains}
 use Rattle.typed_formula.specs.Truth.{Meaning}
 use Rattle.typed_formula.specs.Formula.{Expression}
 use Rattle.pri_typing.specs.declared.problem.Problem.{Problem}
@@ -7,7 +7,7 @@ use Rattle.prover_io.specs.Outside.{Broke, IsLonger, IsWhole}
 use Rattle.answers.specs.Answer.{Answer}
 use Rattle.answers.specs.Files.{AnswersSource, most_of_file, most_of_proof}
 use Rattle.answers.specs.Outside.{PutsAll}
-use Rattle.job_words.specs.Jobs.{Task, solve, eliminate, minimise, check, drill, files_of, NamesJob}
+use Rattle.job_words.specs.Jobs.{Task, solve, eliminate, run_script, minimise, check, drill, files_of, NamesJob}
 use Rattle.solve_job.specs.Proved.{IsSolvedAs, ProvesInvalid, ProvesValid, extended}
 use Rattle.answers.specs.declared.form.ProofForm.{ProofForm}
 use Rattle.check_job.specs.Checked.{IsChecked}
@@ -21,6 +21,8 @@ use Rattle.drill_job.specs.Drilled.{IsDrilled, drill_answer}
 use Rattle.elim_job.specs.Eliminated.{IsEliminated}
 use Rattle.elim_job.specs.Causes as elim_causes
 use Rattle.elim_job.specs.Meaning.{Constrained}
+use Rattle.smt_job.specs.Answered.{IsSmtAnswer}
+use Rattle.smt_job.specs.Meaning.{Scripted}
 use Rattle.least_job.specs.Causes as least_causes
 use Rattle.least_job.specs.Decides as least_decides
 use Rattle.least_job.specs.Leasts.{IsLeastAnswer}
@@ -38,6 +40,7 @@ NameNoFile words = (task : Task) → NamesJob words task → files_of task ≡ [
 abbrev pub IsWithin : Task → Type 0
 IsWithin (solve file budget asked) = budget ≤ 1000000000
 IsWithin (eliminate file budget) = budget < 2 ^ 32
+IsWithin (run_script file budget) = budget ≤ 1000000000
 IsWithin (minimise file term budget) = budget < 2 ^ 32
 IsWithin (check file proof) = Unit {0}
 IsWithin (drill count budget) = (count ≤ 1000) × (budget ≤ 1000000000)
@@ -50,6 +53,7 @@ AnswersWithProof told bytes = AnswersSource most_of_proof (λ proof. IsChecked p
 abbrev pub AnswersTask : (List ℕ → Option (List ℕ)) → Task → Answer → Type 0
 AnswersTask bytes_of (solve file budget asked) = AnswersSource most_of_file (IsSolvedAs asked budget) (bytes_of file)
 AnswersTask bytes_of (eliminate file budget) = AnswersSource most_of_file (IsEliminated budget) (bytes_of file)
+AnswersTask bytes_of (run_script file budget) = AnswersSource most_of_file (IsSmtAnswer budget) (bytes_of file)
 AnswersTask bytes_of (minimise file term budget) = AnswersSource most_of_file (IsLeastAnswer term budget) (bytes_of file)
 AnswersTask bytes_of (check file proof) = AnswersSource most_of_file (AnswersWithProof (bytes_of proof)) (bytes_of file)
 AnswersTask bytes_of (drill count budget) = IsDrilled budget count
@@ -62,6 +66,7 @@ IsJobFile task name = (file : List ℕ) × Contains (files_of task) file × (nam
 abbrev pub most_moved : Task → ℕ
 most_moved (solve file budget asked) = most_of_file + 1
 most_moved (eliminate file budget) = most_of_file + 1
+most_moved (run_script file budget) = most_of_file + 1
 most_moved (minimise file term budget) = most_of_file + 1
 most_moved (check file proof) = (most_of_file + 1) + (most_of_proof + 1)
 most_moved (drill count budget) = 0
@@ -134,6 +139,14 @@ pub record SaysNowhere (w : Meaning) (told : Option (List ℕ)) : Type 0 where
   pub bytes : List ℕ
   pub whole : IsWhole told bytes
   pub unsatisfied : Unsatisfied w bytes
+
+-- the bytes of a file, where they are told, are a script, and the text put has a line for each of its checks, which says what is so
+pub record SaysScript (w : Meaning) (told before after : Option (List ℕ)) : Type 0 where
+  pub bytes : List ℕ
+  pub whole : IsWhole told bytes
+  pub text : List ℕ
+  pub put : PutsAll before after text
+  pub scripted : Scripted w bytes text
 
 -- an answer of `solve` that comes exactly where its row says, and decides what it has to, with seven steps a node where
 -- a problem is one of numbers

@@ -4,9 +4,9 @@ ghost use Rattle.answers.specs.Answer.{IsStatus, words_answer};
 ghost use Rattle.answers.specs.Files.{AnswersSource, most_of_file};
 ghost use Rattle.answers.specs.Outside.{Meets};
 ghost use Rattle.answers.specs.declared.form.ProofForm.{ProofForm};
-ghost use Rattle.job_words.specs.Jobs.{NamesJob, Task, check, drill, eliminate, files_of, minimise, solve, task_of};
+ghost use Rattle.job_words.specs.Jobs.{NamesJob, Task, check, drill, eliminate, files_of, minimise, run_script, solve, task_of};
 ghost use Rattle.prover_io.specs.Outside.{BeginsFront, GrowsAtMost, Rose};
-ghost use Rattle.prover_job.specs.Runs.{AnswersTask, AreBegun, BrokeAt, IsCheckCaused, IsDrillCaused, IsElimCaused, IsJobFile, IsLeastCaused, IsSolveCausedAs, IsWithin, NameNoFile, NameNoJob, SaysChecked, SaysConstraint, SaysLeast, SaysNowhere, SaysRefuted, SaysValid, most_moved};
+ghost use Rattle.prover_job.specs.Runs.{AnswersTask, AreBegun, BrokeAt, IsCheckCaused, IsDrillCaused, IsElimCaused, IsJobFile, IsLeastCaused, IsSolveCausedAs, IsWithin, NameNoFile, NameNoJob, SaysChecked, SaysConstraint, SaysLeast, SaysNowhere, SaysRefuted, SaysScript, SaysValid, most_moved};
 ghost use Rattle.std.specs.Prelude.{◌≡◌, ◌≢◌, ◌⊎◌, ℕ, List, [], Option, map, string_bytes};
 
 use crate::tasks::{Stop, job_output};
@@ -18,8 +18,9 @@ use std::alloc::Global;
 use typed_formula::World;
 
 /// Does the job that the words name, and answers the exit status: 0 valid, or the constraint is made, or the proof is accepted, or
-/// the least value is found or there is none, 1 invalid, or the problem holds nowhere, 2 unknown, 3 the file is refused, 4 the proof is refused, 5 the words name no job, 6 the source failed, 7 the sink
-/// failed, 8 no memory, 9 the file or the proof's file is too long. `drill` answers as `solve` does to the problem that it makes.
+/// the least value is found or there is none, or each check of the script is answered, 1 invalid, or the problem holds nowhere,
+/// 2 unknown, or a check of the script is, 3 the file is refused, 4 the proof is refused, 5 the words name no job, 6 the source
+/// failed, 7 the sink failed, 8 no memory, 9 the file or the proof's file is too long. `drill` answers as `solve` does to the problem that it makes.
 /// The interpretation has no call, so what is promised in it is promised in every one.
 pub fn run<S: Source, K: Sink, W: World>(
     alloc: Global,
@@ -39,6 +40,8 @@ pub fn run<S: Source, K: Sink, W: World>(
         → SaysChecked (record { truth = W.truth world.now; value = W.value world.now }) (S.bytes_of source.old file) (K.taken sink.old) (K.taken sink.new) }
     ensures constraint { (file : List ℕ) (budget : ℕ) → NamesJob (map string_bytes words.now) (eliminate file budget) → result ≡ 0
         → SaysConstraint (record { truth = W.truth world.now; value = W.value world.now }) (S.bytes_of source.old file) (K.taken sink.old) (K.taken sink.new) }
+    ensures scripted { (file : List ℕ) (budget : ℕ) → NamesJob (map string_bytes words.now) (run_script file budget) → (result ≡ 0) ⊎ (result ≡ 2)
+        → SaysScript (record { truth = W.truth world.now; value = W.value world.now }) (S.bytes_of source.old file) (K.taken sink.old) (K.taken sink.new) }
     ensures minimised { (file term : List ℕ) (budget : ℕ) → NamesJob (map string_bytes words.now) (minimise file term budget) → result ≡ 0
         → SaysLeast (record { truth = W.truth world.now; value = W.value world.now }) term (S.bytes_of source.old file) (K.taken sink.old) (K.taken sink.new) }
     ensures nowhere { (file term : List ℕ) (budget : ℕ) → NamesJob (map string_bytes words.now) (minimise file term budget) → result ≡ 1

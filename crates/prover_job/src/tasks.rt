@@ -9,6 +9,7 @@ ghost use Rattle.prover_io.specs.Outside.{BeginsFront, Broke, GrowsAtMost, Rose}
 ghost use Rattle.prover_io.specs.declared.whole.ReadFault.{ReadFault};
 ghost use Rattle.prover_job.specs.Runs.{AnswersTask, AnswersWithProof, AreBegun, BrokeAt, IsJobFile, IsWithin, most_moved};
 ghost use Rattle.prover_job.specs.declared.tasks.Stop.{Stop};
+ghost use Rattle.smt_job.specs.Answered.{IsSmtAnswer};
 ghost use Rattle.solve_job.specs.Proved.{IsSolvedAs};
 ghost use Rattle.std.specs.Prelude.{◌≡◌, ◌≢◌, ◌+◌, ◌<◌, ◌≤◌, ◌^◌, ◌++◌, length, IfOk, IsErrOf, OnOk, Some, [], ◌∷◌};
 
@@ -67,6 +68,7 @@ pub(crate) fn job_output<S: Source>(
         } => solve_output(alloc, source, file.as_str(), *budget, *asked),
         Job::Check { file, proof } => check_output(alloc, source, file.as_str(), proof.as_str()),
         Job::Elim { file, budget } => elim_output(alloc, source, file.as_str(), *budget),
+        Job::Smt { file, budget } => smt_output(alloc, source, file.as_str(), *budget),
         Job::Least { file, term, budget } => least_output(
             alloc,
             source,
@@ -119,6 +121,28 @@ fn elim_output<S: Source>(
 {
     match read_all(alloc, source, file, FILE) {
         Ok(bytes) => Ok(elim_job::answer(alloc, bytes.as_slice(), budget)?),
+        Err(fault) => unread(alloc, fault),
+    }
+}
+
+// What `smt` answers to a file.
+fn smt_output<S: Source>(
+    alloc: Global,
+    source: &mut S,
+    file: &str,
+    budget: u64,
+) -> Result<Output, Stop>
+    requires { budget ≤ 1000000000 }
+    ensures answered { IfOk result (λ output. AnswersSource most_of_file (IsSmtAnswer budget) (S.bytes_of source.old file.now) (answer_of output)) }
+    ensures rose { IsErrOf result Stop.Source → Rose (S.faults source.old) (S.faults source.new) }
+    ensures broke { IsErrOf result Stop.Source → Broke (Some file.now) (S.at source.new) (S.broken source.new) }
+    ensures begun { ¬ (IsErrOf result Stop.Memory) → S.at source.new ≡ Some file.now }
+    ensures listed { OnOk result (S.names source.new ≡ S.names source.old ++ file.now ∷ []) }
+    ensures front { BeginsFront (file.now ∷ []) (S.names source.old) (S.names source.new) }
+    ensures moved { GrowsAtMost (S.moved source.old) (S.moved source.new) (most_of_file + 1) }
+{
+    match read_all(alloc, source, file, FILE) {
+        Ok(bytes) => Ok(smt_job::answer(alloc, bytes.as_slice(), budget)?),
         Err(fault) => unread(alloc, fault),
     }
 }

@@ -109,18 +109,64 @@ fn a_budget_ends_in_a_block(rt: HostRuntime) -> Result<(), Fail> {
 const APPLIED: &str =
     "\\predicates { p(int); } \\problem { \\part[a] p(1) | \\part[b] true | \\part[c] true } \\interpolant { a; b, c } \\interpolant { a; b; c }";
 
-const THREE: &str =
-    "\\problem { \\part[a] true | \\part[b] true | \\part[c] true } \\interpolant { a, b; c } \\interpolant { a; b; c }";
+#[test]
+fn blocks_of_applied_problems_are_answered(rt: HostRuntime) -> Result<(), Fail> {
+    for (file, answer) in [
+        (
+            APPLIED,
+            (
+                0,
+                "VALID\ninterpolant: !((!(true)) & (!(true)))\ninterpolant: !((!(true)) & (!(true)))\ninterpolant: !(!(true))\n",
+            ),
+        ),
+        (
+            "\\universalConstants { int c; } \\predicates { p(int); } \\problem { \\part[l] (p(c) & c = 0) & \\part[r] (!p(0)) -> false } \\interpolant { l; r }",
+            (
+                0,
+                "VALID\ninterpolant: \\exists int v0; ((p(v0)) & (v0 = 0))\n",
+            ),
+        ),
+        (
+            "\\predicates { p(int); q(int); } \\problem { \\part[l] (p(0) & !p(0)) & \\part[r] q(0) -> false } \\interpolant { l; r }",
+            (0, "VALID\ninterpolant unknown: symbols\n"),
+        ),
+        (
+            "\\predicates { p(int); } \\problem { true | \\part[a] p(1) | \\part[b] p(2) } \\interpolant { a; b }",
+            (0, "VALID\ninterpolant unknown: plain\n"),
+        ),
+    ] {
+        answers_to(&rt, rt.alloc(), &["solve", "f"], file, answer)?;
+    }
+    let answer = (3, "refused: Impure at 44\n");
+    answers_to(&rt, rt.alloc(), &["elim", "f"], APPLIED, answer)
+}
 
 #[test]
-fn some_blocks_are_unsupported(rt: HostRuntime) -> Result<(), Fail> {
-    for command in ["solve", "elim"] {
-        for (file, answer) in [
-            (APPLIED, (3, "refused: Unsupported at 83\n")),
-            (THREE, (3, "refused: Unsupported at 103\n")),
-        ] {
-            answers_to(&rt, rt.alloc(), &[command, "f"], file, answer)?;
-        }
+fn sequences_are_printed(rt: HostRuntime) -> Result<(), Fail> {
+    for (file, answer) in [
+        (
+            "\\universalConstants { int x, y, z; } \\problem { \\part[a] (x = 0) & \\part[b] (y = x + 1) & \\part[c] (z = y + 1) & \\part[d] (z = 5) -> false } \\interpolant { a; b; c; d }",
+            (
+                0,
+                "VALID\ninterpolant: x = 0\ninterpolant: y - 1 = 0\ninterpolant: z - 2 = 0\n",
+            ),
+        ),
+        (
+            "\\universalConstants { int x, y; } \\problem { \\part[a] (x = 2) & \\part[b] (y = x) & \\part[c] (y = 3) -> false } \\interpolant { a, b; c } \\interpolant { c; b; a }",
+            (
+                0,
+                "VALID\ninterpolant: y - 2 = 0\ninterpolant: y - 3 = 0\ninterpolant: x - 3 = 0\n",
+            ),
+        ),
+        (
+            "\\problem { \\part[a] true | \\part[b] true | \\part[c] true } \\interpolant { a, b; c } \\interpolant { a; b; c }",
+            (
+                0,
+                "VALID\ninterpolant: false\ninterpolant: false\ninterpolant: false\n",
+            ),
+        ),
+    ] {
+        answers_to(&rt, rt.alloc(), &["solve", "f"], file, answer)?;
     }
     Ok(())
 }

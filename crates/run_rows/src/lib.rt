@@ -20,6 +20,8 @@ mod refused;
 #[cfg(test)]
 mod runs;
 #[cfg(test)]
+mod scripts;
+#[cfg(test)]
 mod short;
 #[cfg(test)]
 mod solved;

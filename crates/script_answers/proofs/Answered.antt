@@ -13,8 +13,7 @@ use Rattle.problem_file.specs.Encoded.{Fits, LeavesRange}
 use Rattle.problem_file.proofs.Reduced.{problem_reduced}
 use Rattle.constraint_lines.proofs.Losing.{lost_refuted}
 use Rattle.constraint_lines.proofs.Supporting.{closed_holds}
-use Rattle.refuted_runs.proofs.Ended.{saturated_says}
-use Rattle.refuted_runs.proofs.Problems.{refuted}
+use Rattle.solve_job.proofs.Refuted.{refuted, saturated_says}
 use Rattle.solve_job.specs.Solved.{run_end}
 use Rattle.solve_job.proofs.Meaning.{tells}
 use Rattle.script_answers.specs.declared.answering.CheckAnswer.{CheckAnswer}

@@ -1,3 +1,4 @@
-mod Answered
+pub mod Answered
 mod Ending
 mod Listing
+pub mod Single

@@ -6,4 +6,5 @@ pub mod Growing
 pub mod Reading
 pub mod Saying
 pub mod Tables
+pub mod Using
 pub mod Weights

@@ -6,3 +6,4 @@ pub mod Saying
 pub mod Scopes
 pub mod Slots
 pub mod Symbols
+pub mod Uses

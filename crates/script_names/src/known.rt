@@ -15,6 +15,7 @@ use crate::body::{Body, Leaf};
 use crate::resolving::{Next, resolve};
 use crate::scope::{Named, Scope};
 use crate::symbols::{Meant, Symbols};
+use crate::uses::used_slots;
 use linear_term::Memory;
 use script_terms::Term;
 use sqlite_items::Items;
@@ -73,6 +74,7 @@ impl Known {
     pub fn new(alloc: Global) -> Known
         ensures knows { Knows result [] }
         ensures texts { result.symbols.texts ≡ [] }
+        ensures definitions { result.definitions ≡ [] }
     {
         Known {
             symbols: Symbols::new(alloc),
@@ -92,6 +94,7 @@ impl Known {
         ensures knows { IfOk result (λ k. (gs : Globals) → Knows self gs → is_among text.now self.symbols.texts ≡ false → Knows k ((text.now, declared_as declared) ∷ gs)) }
         ensures texts { IfOk result (λ k. is_among text.now self.symbols.texts ≡ false → k.symbols.texts ≡ self.symbols.texts ++ text.now ∷ []) }
         ensures earlier { IfOk result (λ k. take (length self.definitions) k.definitions ≡ self.definitions) }
+        ensures definitions { IfOk result (λ k. k.definitions ≡ self.definitions) }
     {
         let Known {
             symbols,
@@ -115,6 +118,7 @@ impl Known {
             → Knows k ((text.now, defined_by names.now (phrase term.now)) ∷ gs)) }
         ensures texts { IfOk result (λ k. is_among text.now self.symbols.texts ≡ false → k.symbols.texts ≡ self.symbols.texts ++ text.now ∷ []) }
         ensures earlier { IfOk result (λ k. take (length self.definitions) k.definitions ≡ self.definitions) }
+        ensures one { IfOk result (λ k. length k.definitions ≡ length self.definitions + 1) }
     {
         let Known {
             symbols,
@@ -130,7 +134,9 @@ impl Known {
         } = parameters(alloc, names)?;
         let scope = Scope::Names(bound.as_slice(), &Scope::Nothing);
         let body = resolve(alloc, &symbols, definitions.as_slice(), &scope, count, term)?;
+        let used = used_slots(alloc, count, &body)?;
         let symbols = symbols.with(alloc, text, Meant::Defined(number, count))?;
+        let symbols = symbols.with_used(used)?;
         definitions.push(body)?;
         Ok(Known {
             symbols,

@@ -5,12 +5,11 @@ mod binding;
 mod body;
 mod known;
 mod operation;
-mod operator_names;
 mod resolving;
 mod scope;
 mod symbols;
+mod uses;
 
 pub use body::{Body, Leaf};
 pub use known::{Declared, Known};
-pub use operator_names::operator;
 pub use symbols::{Meant, Symbols};

@@ -5,12 +5,14 @@ ghost use Rattle.std.specs.Prelude.{◌≡◌, ℕ, List, Some, IfOk, get_or};
 ghost use Rattle.script_terms.specs.Translation.{Standing, at_depth, operated};
 ghost use Rattle.script_names.specs.Body.{shape, shapes_of};
 ghost use Rattle.script_names.specs.Joining.{joins};
+ghost use Rattle.script_names.specs.Uses.{AreUses};
 ghost use Rattle.script_names.specs.Symbols.{looked_up, meant_as};
 ghost use Rattle.script_names.specs.declared.symbols.Meant.{Meant};
 ghost use Rattle.script_names.specs.Saying.{Calls, calls_of, leaf_said, nothing, shape_said, shapes_said};
 
 use crate::body::{Body, Leaf};
 use crate::symbols::{Meant, Symbols};
+use crate::uses::trimmed;
 use linear_term::Memory;
 use script_terms::Operator;
 use sqlite_items::Items;
@@ -117,7 +119,7 @@ fn at_arguments(leaf: Leaf, arguments: Items<Body>) -> Body
 
 /// The defined function of this number, of those of these bodies, at its arguments. Where its body is a leaf, that leaf; where it is
 /// itself a call with leaves for arguments, and leaves stand for them here too, that call.
-pub(crate) fn call(
+fn short_call(
     alloc: Global,
     definitions: &[Body],
     k: u32,
@@ -142,6 +144,24 @@ pub(crate) fn call(
     Ok(Body::Defined(k, arguments))
 }
 
+/// The defined function of this number at its arguments, of which those are 0 that its body does not use.
+pub(crate) fn call(
+    alloc: Global,
+    used: &[Items<bool>],
+    definitions: &[Body],
+    k: u32,
+    arguments: Items<Body>,
+) -> Result<Body, Memory>
+    ensures { IfOk result (λ b. AreUses used.now definitions.now → (e : List Standing) (n : ℕ)
+        → shape_said (calls_of definitions.now) e (shape b) n ≡ calls_of definitions.now k (shapes_said (calls_of definitions.now) e (shapes_of arguments)) n) }
+{
+    if (k as usize) < used.len() && (k as usize) < definitions.len() {
+        let trimmed = trimmed(used[k as usize].as_slice(), arguments);
+        return short_call(alloc, definitions, k, trimmed);
+    }
+    short_call(alloc, definitions, k, arguments)
+}
+
 /// A symbol of a script at its arguments.
 pub(crate) fn symbol(
     alloc: Global,
@@ -150,7 +170,7 @@ pub(crate) fn symbol(
     text: &[u8],
     arguments: Items<Body>,
 ) -> Result<Body, Memory>
-    ensures { IfOk result (λ b. (e : List Standing) (n : ℕ) → shape_said (calls_of definitions.now) e (shape b) n
+    ensures { IfOk result (λ b. AreUses symbols.now.used definitions.now → (e : List Standing) (n : ℕ) → shape_said (calls_of definitions.now) e (shape b) n
         ≡ meant_as (calls_of definitions.now) (looked_up symbols.now text.now) (shapes_said (calls_of definitions.now) e (shapes_of arguments)) n) }
 {
     match symbols.get(text) {
@@ -158,23 +178,33 @@ pub(crate) fn symbol(
         Some(Meant::Constant(k)) => Ok(Body::Leaf(Leaf::Constant(k))),
         Some(Meant::Function(k)) => Ok(Body::Function(k, arguments)),
         Some(Meant::Predicate(k)) => Ok(Body::Predicate(k, arguments)),
-        Some(Meant::Defined(k, arity)) => defined(alloc, definitions, k, arity, arguments),
+        Some(Meant::Defined(k, arity)) => {
+            defined(
+                alloc,
+                symbols.used.as_slice(),
+                definitions,
+                k,
+                arity,
+                arguments,
+            )
+        }
     }
 }
 
 /// A defined function at arguments that may be of another number than its own.
 fn defined(
     alloc: Global,
+    used: &[Items<bool>],
     definitions: &[Body],
     k: u32,
     arity: u32,
     arguments: Items<Body>,
 ) -> Result<Body, Memory>
-    ensures { IfOk result (λ b. (e : List Standing) (n : ℕ) → shape_said (calls_of definitions.now) e (shape b) n
+    ensures { IfOk result (λ b. AreUses used.now definitions.now → (e : List Standing) (n : ℕ) → shape_said (calls_of definitions.now) e (shape b) n
         ≡ meant_as (calls_of definitions.now) (Some (Meant.Defined k arity)) (shapes_said (calls_of definitions.now) e (shapes_of arguments)) n) }
 {
     if arguments.len() == arity as usize {
-        call(alloc, definitions, k, arguments)
+        call(alloc, used, definitions, k, arguments)
     } else {
         Ok(Body::Leaf(Leaf::Truth(false)))
     }

@@ -17,11 +17,10 @@ ghost use Rattle.script_names.specs.declared.body.Body.{Body};
 use crate::binding::{bind, is_within};
 use crate::body::{Body, Leaf};
 use crate::operation::{operation, symbol};
-use crate::operator_names::operator;
 use crate::scope::{Named, Scope, find};
 use crate::symbols::Symbols;
 use linear_term::Memory;
-use script_terms::{Binding, Term, Variable};
+use script_terms::{Binding, Term, Variable, named_operator};
 use sqlite_items::{Boxed, Items};
 use std::alloc::Global;
 
@@ -194,7 +193,7 @@ fn resolve_use(
         return Ok(Body::Leaf(leaf));
     }
     let arguments = resolve_all(alloc, &*symbols, &*definitions, &*scope, count, &*arguments)?;
-    if let Some(known) = operator(&*text) {
+    if let Some(known) = named_operator(&*text) {
         return Ok(operation(known, arguments));
     }
     symbol(alloc, &*symbols, &*definitions, &*text, arguments)

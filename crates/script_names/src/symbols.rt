@@ -5,6 +5,7 @@ ghost use Rattle.script_names.specs.Symbols.{looked_up};
 ghost use Rattle.texts.specs.Texts.{is_among};
 
 use linear_term::Memory;
+use sqlite_items::Items;
 use std::alloc::Global;
 use texts::Texts;
 
@@ -18,11 +19,12 @@ pub enum Meant {
     Defined(u32, u32),
 }
 
-/// Different symbols, each with what it is.
+/// Different symbols, each with what it is; and for each defined function, which of its bound names its body uses.
 #[derive(Drop)]
 pub struct Symbols {
     texts: Texts,
     meant: Vec<Meant>,
+    pub(crate) used: Items<Items<bool>>,
 }
 
 impl Symbols {
@@ -30,10 +32,12 @@ impl Symbols {
     pub fn new(alloc: Global) -> Symbols
         ensures texts { result.texts ≡ [] }
         ensures meant { result.meant.items ≡ [] }
+        ensures used { result.used ≡ [] }
     {
         Symbols {
             texts: Texts::new(alloc),
             meant: Vec::new(alloc),
+            used: Items::new(alloc),
         }
     }
 
@@ -60,14 +64,39 @@ impl Symbols {
 
     /// These symbols with one more, which is not among them.
     pub fn with(self, alloc: Global, text: &[u8], meant: Meant) -> Result<Symbols, Memory>
-        ensures { IfOk result (λ s. is_among text.now self.texts ≡ false → (s.texts ≡ self.texts ++ text.now ∷ []) × (s.meant.items ≡ self.meant.items ++ meant ∷ [])) }
+        ensures more { IfOk result (λ s. is_among text.now self.texts ≡ false → (s.texts ≡ self.texts ++ text.now ∷ []) × (s.meant.items ≡ self.meant.items ++ meant ∷ [])) }
+        ensures used { IfOk result (λ s. s.used ≡ self.used) }
     {
         let Symbols {
             mut texts,
             meant: mut all,
+            used,
         } = self;
         texts.add(alloc, text)?;
         all.push(meant)?;
-        Ok(Symbols { texts, meant: all })
+        Ok(Symbols {
+            texts,
+            meant: all,
+            used,
+        })
+    }
+
+    /// These symbols behind one definition more, whose body uses these of its bound names.
+    pub(crate) fn with_used(self, used: Items<bool>) -> Result<Symbols, Memory>
+        ensures texts { IfOk result (λ s. s.texts ≡ self.texts) }
+        ensures meant { IfOk result (λ s. s.meant.items ≡ self.meant.items) }
+        ensures used { IfOk result (λ s. s.used ≡ self.used ++ used ∷ []) }
+    {
+        let Symbols {
+            texts,
+            meant,
+            used: mut all,
+        } = self;
+        all.push(used)?;
+        Ok(Symbols {
+            texts,
+            meant,
+            used: all,
+        })
     }
 }

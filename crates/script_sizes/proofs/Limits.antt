@@ -143,6 +143,9 @@ limit_large n l (inr i) = many_levels n l i
 pub large_law : (f : Formula) → (size f ≡ Large) ↔ IsLarge (extent f)
 large_law f = (λ h. large_limit (extent f).nodes (extent f).levels (sym (size_is f) ∙ h), λ h. size_is f ∙ limit_large (extent f).nodes (extent f).levels h)
 
+pub together_law : (fs : Formulas) → (all_sizes fs ≡ Large) ↔ IsLarge (all_extent fs)
+together_law fs = (λ h. large_limit (all_extent fs).nodes (all_extent fs).levels (sym (sizes_are fs) ∙ h), λ h. sizes_are fs ∙ limit_large (all_extent fs).nodes (all_extent fs).levels h)
+
 pub fits_law : (f : Formula) → ¬ (IsLarge (extent f)) → size f ≡ Fits (extent f).nodes (extent f).levels
 fits_law f h = size_is f ∙ by (which (extent f).nodes (extent f).levels)
   where

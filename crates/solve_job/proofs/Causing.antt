@@ -13,16 +13,15 @@ use Rattle.pri_typing.specs.declared.problem.Problem.{Problem}
 use Rattle.answers.specs.Answer.{Answer, line, placed, refused_answer, unknown_answer}
 use Rattle.problem_file.specs.Reads.{Refusal}
 use Rattle.problem_file.specs.Refusals.{refusal_name}
-use Rattle.problem_file.proofs.Naming.{comes_of, not_large, not_unsupported}
+use Rattle.problem_file.proofs.Naming.{comes_of, not_large}
 use Rattle.pri_typing.specs.Problems.{IsPure}
-use Rattle.refuted_runs.proofs.Encoded.{root_somes}
-use Rattle.refuted_runs.proofs.Universal.{one_round_ends}
-use Rattle.problem_file.specs.Answers.{Poses, PosesOne, refused, unsupported, posed}
+use Rattle.countermodel.proofs.Saturated.{one_round_ends, root_somes}
+use Rattle.problem_file.specs.Answers.{Poses, PosesOne, refused, posed}
 use Rattle.problem_file.specs.Encoded.{Fits, LeavesRange, large, leaves, runs}
 use Rattle.interpolant_lines.specs.Blocks.{AreBlockLines}
 use Rattle.interpolant_lines.proofs.Listing.{blocks_caused}
 use Rattle.solve_job.specs.Solved.{AnswersEnd, closed, valid, invalid, saturated, branch, steps, overflow, run_end, IsSolved}
-use Rattle.problem_file.specs.Refused.{ComesOf, IsRefused, first, special, too_large}
+use Rattle.problem_file.specs.Refused.{ComesOf, IsRefused, first, too_large}
 use Rattle.solve_job.specs.Causes.{Ends, EndsSaturated, IsValid, IsInvalid, IsTooLong, IsOutOfSteps, IsOutOfRange, TellsBlocks, Causes, Decides, IsDecidedOrCut}
 use Rattle.solve_job.specs.Explained.{AnswersSaturated, IsCutByRange, IsCutBySteps, IsWalked, explained, nowhere, past, short}
 use Rattle.solve_job.proofs.Saturated.{cut_by_range, cut_by_steps, no_branch, one_or_two, range_answer, saturated_answer, steps_answer, walked, walked_status}
@@ -105,7 +104,6 @@ from_end : (budget : ℕ) (bytes : List ℕ) (a : Answer) (P : Answer → Type 0
     → ((p : Problem) (end : Ending run.Answer) (b : Answer) → AnswersEnd p end b → P b → Q p end) → IsSolved budget bytes a → P a
     → (P (unknown_answer (codes "overflow")) × PosesOne bytes LeavesRange) ⊎ PosesOne bytes (λ p. Fits p × Q p (run_end budget p))
 from_end budget bytes a P Q none some (refused r h e) is = absurd (none (refusal_name r) (subst P e is))
-from_end budget bytes a P Q none some (unsupported at h e) is = absurd (none (placed (codes "Unsupported") at) (subst P e is))
 from_end budget bytes a P Q none some (posed p h (large l e)) is = absurd (none (codes "Large") (subst P e is))
 from_end budget bytes a P Q none some (posed p h (leaves l e)) is = inl (subst P e is, (p, h, l))
 from_end budget bytes a P Q none some (posed p h (runs f k)) is = inr (p, h, (f, some p (run_end budget p) a k is))
@@ -130,7 +128,6 @@ then_second f (inr b) = inr (f b)
 
 refused_by : (budget : ℕ) (bytes : List ℕ) (a : Answer) → IsSolved budget bytes a → a.status ≡ 3 → IsRefused bytes
 refused_by budget bytes a (refused r h e) z = first r h
-refused_by budget bytes a (unsupported at h e) z = special at h
 refused_by budget bytes a (posed p h (large l e)) z = too_large (p, h, l)
 refused_by budget bytes a (posed p h (leaves l e)) z = let bad = sym z ∙ ap status_of e in absurd cc
 refused_by budget bytes a (posed p h (runs f k)) z = absurd (not_refused p (run_end budget p) a k z)
@@ -150,13 +147,11 @@ valid_status budget bytes a p solved poses fits is = ap status_of (ended budget 
 
 refused_status : (budget : ℕ) (bytes : List ℕ) (a : Answer) → IsSolved budget bytes a → IsRefused bytes → a.status ≡ 3
 refused_status budget bytes a solved (first r h) = ap status_of (one_answer budget bytes a _ solved (refused r h refl))
-refused_status budget bytes a solved (special at h) = ap status_of (one_answer budget bytes a _ solved (unsupported at h refl))
 refused_status budget bytes a solved (too_large h) = ap status_of (one_answer budget bytes a _ solved (posed h.0 h.1 (large h.2 refl)))
 
 -- the text of a refusal comes of that refusal alone
 only_first : (budget : ℕ) (bytes : List ℕ) (a : Answer) → IsSolved budget bytes a → (r : Refusal) → a ≡ refused_answer (refusal_name r) → IsRefused bytes → ComesOf bytes r
 only_first budget bytes a solved r e (first q h) = comes_of bytes a r q e h (one_answer budget bytes a _ solved (refused q h refl))
-only_first budget bytes a solved r e (special at h) = absurd (not_unsupported a r at e (one_answer budget bytes a _ solved (unsupported at h refl)))
 only_first budget bytes a solved r e (too_large h) = absurd (not_large a r e (one_answer budget bytes a _ solved (posed h.0 h.1 (large h.2 refl))))
 
 -- where it ends saturated, it is that of the walk
@@ -223,7 +218,6 @@ causes budget bytes a solved = record {
   refuses = (refused_by budget bytes a solved, refused_status budget bytes a solved);
   refused = λ r h. one_answer budget bytes a _ solved (refused r h refl);
   only = λ r e. only_first budget bytes a solved r e (refused_by budget bytes a solved (ap status_of e));
-  unsupported = λ at h. one_answer budget bytes a _ solved (unsupported at h refl);
   large = λ h. one_answer budget bytes a _ solved (posed h.0 h.1 (large h.2 refl));
   blocks = λ p vs x stands poses fits alone is. blocks_told p (run_end budget p) a (run_answered budget bytes a p solved poses fits) vs x stands alone is;
 }

@@ -18,11 +18,12 @@ use Rattle.answers.specs.Answer.{Answer, line, says_line, unknown_answer, IsAnsw
 use Rattle.constraint_text.specs.Constraint.{constraint_line}
 use Rattle.constraint_text.proofs.Printed.{text_same}
 use Rattle.problem_file.specs.Reads.{AreSame}
-use Rattle.problem_file.specs.Answers.{Poses, refused, unsupported, posed}
+use Rattle.problem_file.specs.Answers.{Poses, refused, posed}
 use Rattle.problem_file.specs.Encoded.{AnswersEncoded, Fits, large, leaves, runs}
 use Rattle.problem_file.proofs.Answering.{one_of_file, posed_answered}
 use Rattle.problem_file.proofs.Encoded.{fitting_answered, one_of_encoded, root_same, same_encoded}
-use Rattle.interpolant_lines.proofs.Listing.{block_lines, lines_are, same_list}
+use Rattle.interpolant_lines.specs.Seams.{seams}
+use Rattle.interpolant_lines.proofs.Listing.{lines_are, same_list, seam_lines}
 use Rattle.answers.specs.declared.form.ProofForm.{ProofForm}
 use Rattle.solve_job.specs.Proved.{AnswersRunAs, IsPart, IsSolvedAs, PrintsEnd, PrintsProof, charges_of, extended}
 use Rattle.solve_job.proofs.Saturated.{saturated_answer, saturated_by, saturated_same, saturated_status}
@@ -32,7 +33,7 @@ use Rattle.solve_job.specs.Solved.{closed_answer, valid_answer, AnswersEnd, clos
 
 -- the answer where values were found, for these names of existential constants, by a run that left the purse so
 abbrev pub found_answer : Problem → List (List ℕ) → Proof → List ℤ → Funds → Answer
-found_answer p [] x vs left = closed_answer (concat (block_lines p p.cuts left))
+found_answer p [] x vs left = closed_answer (concat (seam_lines p (seams p.cuts) left))
 found_answer p (name ∷ names) x vs left = valid_answer p (dnf_text p (given x)) vs
 
 -- the answer to each end
@@ -51,7 +52,7 @@ found_some p x vs left (name ∷ names) some = refl
 -- an answer is that of the end
 pub by_end : (p : Problem) (end : Ending run.Answer) (a : Answer) → AnswersEnd p end a → a ≡ end_answer p end
 by_end p end a (closed vs x stands text is none told e) =
-    e ∙ ap closed_answer (told.whole ∙ ap concat (lines_are p p.cuts stands.funds told.lines told.are))
+    e ∙ ap closed_answer (told.whole ∙ ap concat (lines_are p (seams p.cuts) stands.funds told.lines told.are))
     ∙ sym (ap (end_answer p) is ∙ ap (λ names. found_answer p names x vs stands.funds) none)
 by_end p end a (valid vs x stands text is some printed e) =
     e ∙ ap (λ t. valid_answer p t vs) printed.text ∙ found_some p x vs stands.funds p.existentials some ∙ sym (ap (end_answer p) is)
@@ -112,7 +113,6 @@ end_status p end a (overflow numbers stands is e) = subst (λ b. IsAnswerStatus 
 
 pub solved_status : (budget : ℕ) (bytes : List ℕ) (a : Answer) → IsSolved budget bytes a → IsAnswerStatus a.status
 solved_status budget bytes a (refused r h e) = subst (λ b. IsAnswerStatus b.status) (sym e) refl
-solved_status budget bytes a (unsupported at h e) = subst (λ b. IsAnswerStatus b.status) (sym e) refl
 solved_status budget bytes a (posed p h (large l e)) = subst (λ b. IsAnswerStatus b.status) (sym e) refl
 solved_status budget bytes a (posed p h (leaves l e)) = subst (λ b. IsAnswerStatus b.status) (sym e) refl
 solved_status budget bytes a (posed p h (runs f k)) = end_status p (run_end budget p) a k

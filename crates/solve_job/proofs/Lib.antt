@@ -5,5 +5,5 @@ pub mod Meaning
 mod Outcomes
 mod Own
 pub mod Saturated
-mod Refuted
+pub mod Refuted
 pub mod Printing

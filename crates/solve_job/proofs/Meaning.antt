@@ -16,12 +16,12 @@ use Rattle.constraint_text.specs.Constraint.{IsTextOf}
 use Rattle.constraint_lines.specs.Meaning.{CoversRoot}
 use Rattle.constraint_lines.proofs.Losing.{lost_refuted}
 use Rattle.constraint_lines.proofs.Supporting.{closed_holds, constraint_there, supports, true_there}
-use Rattle.problem_file.specs.Answers.{Poses, refused, unsupported, posed}
-use Rattle.problem_file.specs.Special.{HasPlainCuts}
+use Rattle.problem_file.specs.Answers.{Poses, refused, posed}
+use Rattle.problem_file.specs.Cuttable.{IsCuttable}
 use Rattle.problem_file.specs.Encoded.{large, leaves, runs}
 use Rattle.problem_file.proofs.Bytes.{reads_formed}
 use Rattle.formula.specs.Form.{IsFormOver}
-use Rattle.problem_file.proofs.Supported.{poses_plain}
+use Rattle.problem_file.proofs.Cuts.{poses_cuttable}
 use Rattle.interpolant_lines.proofs.Meaning.{blocks_mean}
 use Rattle.pri_typing.specs.declared.problem.Cut.{Cut}
 use Rattle.problem_file.proofs.Reduced.{problem_reduced}
@@ -44,7 +44,7 @@ tells budget p over a stands is =
 -- ---- VALID
 
 -- the constraint that was found covers the encoding
-covers : (p : Problem) (x : Proof) (vs : List ℤ) → IsFound (problem_root p).value (length p.existentials) vs x → CoversRoot p (given x) vs
+pub covers : (p : Problem) (x : Proof) (vs : List ℤ) → IsFound (problem_root p).value (length p.existentials) vs x → CoversRoot p (given x) vs
 covers p x vs found = record { over = found.over; covers = found.covers; many = found.best.names; satisfies = found.best.satisfies }
 
 -- the printed constraint and values mean what the headline says
@@ -63,7 +63,7 @@ silent : (w : Meaning) (bytes : List ℕ) (a : Answer) (s : ℕ) → a.status �
 silent w bytes a s e not_zero not_one = record { valid = λ z. absurd (not_zero (sym e ∙ z)); invalid = λ z. absurd (not_one (sym e ∙ z)) }
 
 -- a problem with existential constants has no blocks
-no_blocks : (p : Problem) → HasPlainCuts p → p.existentials ≢ [] → p.cuts ≡ []
+no_blocks : (p : Problem) → IsCuttable p → p.existentials ≢ [] → p.cuts ≡ []
 no_blocks p plain some = by p.cuts refl
   where
     by : (cuts : List Cut) → p.cuts ≡ cuts → p.cuts ≡ []
@@ -102,7 +102,7 @@ end_means w budget bytes p a poses (closed vs x stands text is none told e) =
         problem = p;
         reads = poses.reads;
         valid = headline_words.closed told.lines none (ap (λ b. b.text) e ∙ ap (λ t. line (codes "VALID") ++ t) told.whole) holds
-            (blocks_mean w p stands.funds told.lines formed (poses_plain bytes p poses) holds told.are);
+            (blocks_mean w p stands.funds told.lines formed (poses_cuttable bytes p poses).pure holds told.are);
       };
       invalid = λ z. let bad = sym z ∙ ap (λ b. b.status) e in absurd cc;
     }
@@ -110,7 +110,7 @@ end_means w budget bytes p a poses (valid vs x stands text is some printed e) = 
   valid = λ z. record {
     problem = p;
     reads = poses.reads;
-    valid = headline_words.constrained text vs some (no_blocks p (poses_plain bytes p poses) some) (ap (λ b. b.text) e) (found_constrains w p x vs text (reads_formed bytes p poses.reads) (tells budget p (root_over p (reads_formed bytes p poses.reads)) _ stands is) printed);
+    valid = headline_words.constrained text vs some (no_blocks p (poses_cuttable bytes p poses) some) (ap (λ b. b.text) e) (found_constrains w p x vs text (reads_formed bytes p poses.reads) (tells budget p (root_over p (reads_formed bytes p poses.reads)) _ stands is) printed);
   };
   invalid = λ z. let bad = sym z ∙ ap (λ b. b.status) e in absurd cc;
 }
@@ -144,7 +144,6 @@ end_means w budget bytes p a poses (overflow numbers stands is e) = silent w byt
 
 pub headline : (w : Meaning) (budget : ℕ) (bytes : List ℕ) (a : Answer) → IsSolved budget bytes a → Headline w bytes a
 headline w budget bytes a (refused r h e) = silent w bytes a 3 (ap (λ b. b.status) e) (λ z. cc) (λ z. cc)
-headline w budget bytes a (unsupported at h e) = silent w bytes a 3 (ap (λ b. b.status) e) (λ z. cc) (λ z. cc)
 headline w budget bytes a (posed p h (large l e)) = silent w bytes a 3 (ap (λ b. b.status) e) (λ z. cc) (λ z. cc)
 headline w budget bytes a (posed p h (leaves l e)) = silent w bytes a 2 (ap (λ b. b.status) e) (λ z. cc) (λ z. cc)
 headline w budget bytes a (posed p h (runs f k)) = end_means w budget bytes p a h k

@@ -25,10 +25,15 @@ use Rattle.answers.specs.Answer.{Answer, says_line, unknown_answer}
 use Rattle.constraint_text.specs.Constraint.{IsTextOf}
 use Rattle.problem_file.specs.Encoded.{IsEncoded}
 use Rattle.interpolant_lines.proofs.Budgets.{cut_budget}
+use Rattle.typed_formula.specs.Truth.{Meaning}
+use Rattle.pri_typing.specs.Problems.{Holds}
+use Rattle.pri_typing.specs.WellFormed.{IsWellFormed}
+use Rattle.constraint_lines.proofs.Supporting.{closed_holds}
+use Rattle.proof_tree.specs.Proof.{given}
 use Rattle.solve_job.specs.Solved.{closed, valid, invalid, saturated, branch, steps, overflow, run_end, AnswersRun}
 use Rattle.solve_job.specs.Explained.{AnswersSaturated}
 use Rattle.solve_job.specs.Told.{IsValidTold, alone, cause_text, lines}
-use Rattle.solve_job.proofs.Meaning.{tells}
+use Rattle.solve_job.proofs.Meaning.{covers, tells}
 
 -- ---- the run of the code is that of the problem
 
@@ -71,6 +76,13 @@ pub fitting : (budget : ℕ) (p : Problem) (e : Encoded) → IsEncoded p e → (
     → AreOver (length p.existentials) d × (length vs ≡ length p.existentials)
 fitting budget p e h d vs t new k =
     let found = tells budget p (subst (IsFormOver (length p.existentials)) h.root h.over) (run.valid vs k.1) (at new k.0) (sym (run_is budget p e h) ∙ k.2) in (subst (AreOver (length p.existentials)) (sym k.3) found.over, found.best.names)
+
+-- and a problem without existential constants holds
+pub valid_holds : (budget : ℕ) (p : Problem) (e : Encoded) → IsEncoded p e → IsWellFormed p → (d : List (List Literal)) (vs : List ℤ) (t : Tree) (new : Funds)
+    → EndsAs (form e.root) e.constants (start budget) (Ok (Valid d vs t)) new → p.existentials ≡ [] → (w : Meaning) → Holds w p []
+valid_holds budget p e h formed d vs t new k none w =
+    let found = tells budget p (subst (IsFormOver (length p.existentials)) h.root h.over) (run.valid vs k.1) (at new k.0) (sym (run_is budget p e h) ∙ k.2) in
+    closed_holds w p (given k.1) vs formed (covers p k.1 vs found) none
 
 pub valid_told : (budget : ℕ) (p : Problem) (e : Encoded) → IsEncoded p e → (d : List (List Literal)) (vs : List ℤ) (t : Tree) (new : Funds) (a : Answer) → EndsAs (form e.root) e.constants (start budget) (Ok (Valid d vs t)) new
     → IsValidTold p new d vs a → AnswersRun budget p a

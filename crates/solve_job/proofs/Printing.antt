@@ -32,15 +32,15 @@ use Rattle.pri_typing.specs.declared.problem.Problem.{Problem}
 use Rattle.pri_typing.specs.Problems.{IsPure}
 use Rattle.answers.specs.Answer.{Answer, answer_of}
 use Rattle.answers.specs.declared.output.Output.{Output}
-use Rattle.problem_file.specs.Answers.{Poses, refused, unsupported, posed}
+use Rattle.problem_file.specs.Answers.{Poses, refused, posed}
 use Rattle.problem_file.specs.Encoded.{Fits, IsEncoded, large, leaves, runs}
 use Rattle.solve_job.specs.Proved.{AnswersRunAs, IsPart, IsParted, IsProofTold, IsSolvedAs, PrintsAsked, PrintsEnd, PrintsProof, PrintsProofOf, PrintsTree, ProvesInvalid, ProvesValid, charges_of, extended, form_text}
 use Rattle.answers.specs.declared.form.ProofForm.{ProofForm}
 use Rattle.solve_job.specs.Solved.{AnswersEnd, AnswersRun, IsSolved, branch, closed, invalid, overflow, run_end, saturated, steps, valid}
 use Rattle.solve_job.specs.Shaping.{IsPrintable}
 use Rattle.constraint_lines.proofs.Sizes.{small_depth, small_size}
-use Rattle.printed_proofs.specs.Bounds.{IsSearched}
-use Rattle.printed_proofs.proofs.Printed.{invalid_outcome, valid_outcome}
+use Rattle.canonical_proofs.specs.Bounds.{IsSearched}
+use Rattle.canonical_proofs.proofs.Printed.{invalid_outcome, valid_outcome}
 use Rattle.problem_file.proofs.Bytes.{reads_formed}
 use Rattle.problem_file.proofs.Reduced.{problem_reduced}
 use Rattle.solve_job.proofs.Outcomes.{run_is, start}
@@ -239,7 +239,6 @@ apart n m a e differ z = differ (sym e ∙ z)
 
 pub parted : (asked : Option ProofForm) (budget : ℕ) (bytes : List ℕ) (a : Answer) → IsSolvedAs asked budget bytes a → IsParted asked budget bytes a
 parted asked budget bytes a (refused r h e) = not_asked budget bytes a asked (refused r h e) (apart 3 0 a (ap (λ b. b.status) e) (λ z. cc)) (apart 3 1 a (ap (λ b. b.status) e) (λ z. cc))
-parted asked budget bytes a (unsupported at h e) = not_asked budget bytes a asked (unsupported at h e) (apart 3 0 a (ap (λ b. b.status) e) (λ z. cc)) (apart 3 1 a (ap (λ b. b.status) e) (λ z. cc))
 parted asked budget bytes a (posed p h (large l e)) = not_asked budget bytes a asked (posed p h (large l e)) (apart 3 0 a (ap (λ b. b.status) e) (λ z. cc)) (apart 3 1 a (ap (λ b. b.status) e) (λ z. cc))
 parted asked budget bytes a (posed p h (leaves l e)) = not_asked budget bytes a asked (posed p h (leaves l e)) (apart 2 0 a (ap (λ b. b.status) e) (λ z. cc)) (apart 2 1 a (ap (λ b. b.status) e) (λ z. cc))
 parted asked budget bytes a (posed p h (runs f k)) = record {

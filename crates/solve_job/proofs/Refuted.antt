@@ -1,10 +1,9 @@
 -- A run that ends saturated refutes its problem, and the walk through its tree finds a counterexample.
-use Rattle.std.proofs.Common.{◌≡◌, ℕ, ℤ, false, List, length, Option, Some, sym, ◌∙◌, ap, subst}
+use Rattle.std.proofs.Common.{◌≡◌, ℕ, ℤ, List, length, Option, Some, sym, ◌∙◌, ap, subst}
 use Rattle.purse.specs.declared.log.Entry.{Entry}
 use Rattle.purse.specs.Trace.{At, Traced, just, next}
-use Rattle.typed_formula.specs.declared.typed.Sort.{Sort}
 use Rattle.typed_formula.specs.declared.world.Table.{Table}
-use Rattle.formula.specs.Form.{Form, IsFormOver, is_pure}
+use Rattle.formula.specs.Form.{Form, IsFormOver}
 use Rattle.proof_tree.specs.Proof.{Proof}
 use Rattle.proof_tree.specs.Proves.{start}
 use Rattle.proof_tree.specs.Walk.{on_some}
@@ -23,10 +22,8 @@ use Rattle.open_trees.specs.Levels.{HasLevels}
 use Rattle.open_trees.specs.Open.{IsSaturated}
 use Rattle.open_trees.specs.Rows.{table_at}
 use Rattle.open_trees.specs.Walk.{Stop, walk}
-use Rattle.refuted_runs.specs.Refuting.{IsCounterexample, found_at, universals_of}
-use Rattle.refuted_runs.proofs.Ended.{saturated_says}
-use Rattle.refuted_runs.proofs.Problems.{explained, refuted}
-use Rattle.countermodel.specs.Explaining.{at_leaf, explaining}
+pub use Rattle.countermodel.proofs.Saturated.{explained, refuted, saturated_says}
+use Rattle.countermodel.specs.Explaining.{IsCounterexample, at_leaf, explaining, found_at, universals_of}
 use Rattle.countermodel.specs.Probes.{probe_values}
 use Rattle.countermodel.proofs.Nearest.{typed_probes}
 use Rattle.solve_job.specs.Solved.{run_end}

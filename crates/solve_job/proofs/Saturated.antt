@@ -1,9 +1,9 @@
 -- The answers to a problem whose run ended saturated.
-use Rattle.std.proofs.Common.{◌≡◌, ◌≢◌, ◌⊎◌, inl, inr, ℕ, ℤ, List, [], ◌∷◌, ◌++◌, map, Option, Some, None, Ok, Err, refl, sym, ◌∙◌, ap, subst, codes, slice_index_or, arith}
+use Rattle.std.proofs.Common.{◌≡◌, ◌⊎◌, inl, inr, ℕ, ℤ, List, [], ◌++◌, map, Option, Some, None, Ok, Err, refl, sym, ◌∙◌, ap, subst, codes, slice_index_or, arith}
 use Rattle.linear_term.specs.declared.range.Place.{Place}
 use Rattle.purse.specs.declared.fault.StepFault.{StepFault}
 use Rattle.purse.specs.declared.fault.StepFault.TheVariants.{Steps, Overflow}
-use Rattle.purse.specs.Trace.{Funds, At, at}
+use Rattle.purse.specs.Trace.{Funds, at}
 use Rattle.typed_formula.specs.declared.world.Table.{Table}
 use Rattle.proof_tree.specs.Proof.{Proof}
 use Rattle.search.specs.Run.{Ending, ended, ending, ends_with, out_of_steps, overflows}
@@ -14,8 +14,7 @@ use Rattle.pri_printer.specs.Text.{value_texts}
 use Rattle.answers.specs.Answer.{Answer, IsAnswerStatus, line, says_line, unknown_answer}
 use Rattle.problem_file.specs.Reads.{AreSame}
 use Rattle.solve_job.specs.Explained.{AnswersSaturated, IsCutByRange, IsCutBySteps, IsWalked, explain_end, explained, nowhere, past, refuted_answer, short}
-use Rattle.open_walk.specs.Doing.{Does}
-use Rattle.countermodel.specs.Explaining.{explaining}
+use Rattle.countermodel.specs.Explaining.{Does, explaining}
 use Rattle.countermodel.specs.Probes.{probe_values}
 use Rattle.solve_job.proofs.Refuted.{explaining_same}
 

@@ -13,7 +13,7 @@ use Rattle.pri_typing.specs.Problems.{IsPure, IsUniversal}
 use Rattle.answers.specs.Answer.{Answer, line, placed, refused_answer, unknown_answer}
 use Rattle.problem_file.specs.Reads.{Refusal, FirstRefusal}
 use Rattle.problem_file.specs.Refusals.{refusal_name}
-use Rattle.problem_file.specs.Answers.{Poses, PosesOne, PosesUnsupported}
+use Rattle.problem_file.specs.Answers.{Poses, PosesOne}
 use Rattle.problem_file.specs.Encoded.{Fits, IsLarge, LeavesRange}
 use Rattle.problem_file.specs.Refused.{ComesOf, IsRefused}
 use Rattle.interpolant_lines.specs.Causes.{AreBlocksCaused}
@@ -48,14 +48,14 @@ abbrev pub EndsSaturated : ℕ → List ℕ → (Problem → Proof → Funds →
 EndsSaturated budget bytes Is =
     PosesOne bytes (λ p. Fits p × ((log : List Entry) × (x : Proof) × (stands : At) × (run_end budget p ≡ ends_with (run.saturated log x) stands) × Is p x stands.funds))
 
--- the text is that of a valid problem with a line for each of its blocks, each exactly where its row says
+-- the text is that of a valid problem with the lines of its blocks, each exactly where its row says
 pub record TellsBlocks (p : Problem) (left : Funds) (text : List ℕ) : Type 0 where
   pub lines : List (List ℕ)
   pub whole : text ≡ line (codes "VALID") ++ concat lines
   pub caused : AreBlocksCaused p left lines
 
 -- each answer comes exactly where its row says, and a refusal with the name and the place; and so does each line of a block, on
--- the purse as the run and the blocks before left it
+-- the purse as the run and the lines before left it
 pub record Causes (budget : ℕ) (bytes : List ℕ) (answer : Answer) : Type 0 where
   pub valid : (answer.status ≡ 0) ↔ Ends budget bytes IsValid
   pub invalid : (answer.status ≡ 1) ↔ (Ends budget bytes IsInvalid ⊎ EndsSaturated budget bytes IsWalked)
@@ -65,7 +65,6 @@ pub record Causes (budget : ℕ) (bytes : List ℕ) (answer : Answer) : Type 0 w
   pub refuses : (answer.status ≡ 3) ↔ IsRefused bytes
   pub refused : (r : Refusal) → FirstRefusal bytes r → answer ≡ refused_answer (refusal_name r)
   pub only : (r : Refusal) → answer ≡ refused_answer (refusal_name r) → ComesOf bytes r
-  pub unsupported : (at : ℕ) → PosesUnsupported bytes at → answer ≡ refused_answer (placed (codes "Unsupported") at)
   pub large : PosesOne bytes IsLarge → answer ≡ refused_answer (codes "Large")
   pub blocks : (p : Problem) (vs : List ℤ) (x : Proof) (stands : At) → Poses bytes p → Fits p → p.existentials ≡ [] → run_end budget p ≡ ends_with (run.valid vs x) stands
       → TellsBlocks p stands.funds answer.text

@@ -1,6 +1,6 @@
 -- How a run that ends saturated is told: with a finite table and values at which the problem's formula is false, which a walk
 -- through the tree of the run finds.
-use Rattle.std.specs.Prelude.{◌≡◌, ◌⊎◌, ℕ, ℤ, List, [], ◌++◌, codes, Option, Some, None}
+use Rattle.std.specs.Prelude.{◌≡◌, ◌⊎◌, ℤ, List, [], ◌++◌, codes, Option, Some, None}
 use Rattle.linear_term.specs.declared.range.Place.{Place}
 use Rattle.purse.specs.Trace.{Funds, At, at}
 use Rattle.typed_formula.specs.declared.world.Table.{Table}

@@ -14,7 +14,7 @@ use Rattle.typed_formula.specs.declared.world.Table.{Table}
 use Rattle.solve_job.specs.Explained.{refuted_answer}
 use Rattle.solve_job.specs.Solved.{valid_answer}
 use Rattle.countermodel.specs.Probes.{probe_values}
-use Rattle.refuted_runs.specs.Refuting.{IsCounterexample}
+use Rattle.countermodel.specs.Explaining.{IsCounterexample}
 
 -- the printed constraint x and values vs of a problem: at each value of the existential constants satisfying the constraint the
 -- problem holds; the printed values satisfy it, and are the best that do: constant by constant, none that satisfy it and agree with
@@ -24,10 +24,10 @@ pub record Constrains (w : Meaning) (p : Problem) (x : List ℕ) (vs : List ℤ)
   pub best : (e : List ℤ) → IsTrueAt w p supports.constraint e → (j : ℕ) → j < length p.existentials → take j e ≡ take j vs → ¬ (IsNearer (entry e j) (entry vs j))
   pub exact : IsPure p → (e : List ℤ) → Holds w p e → IsTrueAt w p supports.constraint e
 
--- the text says that the problem is valid: without existential constants it holds, and there is a line for each `\interpolant`
--- block; else a constraint and values are printed, and there is no block
+-- the text says that the problem is valid: without existential constants it holds, and there are the lines of its `\interpolant`
+-- blocks; else a constraint and values are printed, and there is no block
 pub data IsValidText (w : Meaning) (p : Problem) (text : List ℕ) : Type 0 where
-  closed : (lines : List (List ℕ)) → p.existentials ≡ [] → text ≡ line (codes "VALID") ++ concat lines → Holds w p [] → AreInterpolantLines w p p.cuts lines → IsValidText w p text
+  closed : (lines : List (List ℕ)) → p.existentials ≡ [] → text ≡ line (codes "VALID") ++ concat lines → Holds w p [] → AreInterpolantLines w p lines → IsValidText w p text
   constrained : (x : List ℕ) (vs : List ℤ) → p.existentials ≢ [] → p.cuts ≡ [] → text ≡ (valid_answer p x vs).text → Constrains w p x vs → IsValidText w p text
 
 -- the bytes read as a problem of which the text says that it is valid

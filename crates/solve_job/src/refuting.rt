@@ -8,7 +8,7 @@ ghost use Rattle.open_trees.specs.Open.{IsSaturated};
 ghost use Rattle.pri_typing.specs.WellFormed.{IsWellFormed};
 ghost use Rattle.problem_file.specs.Encoded.{IsEncoded};
 ghost use Rattle.proof_tree.specs.Views.{proof_of};
-ghost use Rattle.refuted_runs.specs.Refuting.{IsCounterexample};
+ghost use Rattle.countermodel.specs.Explaining.{IsCounterexample};
 ghost use Rattle.solve_job.specs.Explained.{AnswersSaturated, refuted_answer};
 ghost use Rattle.std.specs.Prelude.{◌≡◌, ◌<◌, ◌^◌, IfOk, Some, length};
 

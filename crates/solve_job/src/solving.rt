@@ -3,7 +3,7 @@
 ghost use Rattle.answers.specs.Answer.{answer_of};
 ghost use Rattle.pri_typing.specs.WellFormed.{HasDistinctNames, HasIdentifiers, IsWellFormed};
 ghost use Rattle.problem_file.specs.Encoded.{AnswersEncoded, IsEncoded};
-ghost use Rattle.problem_file.specs.Special.{HasPlainCuts};
+ghost use Rattle.problem_file.specs.Cuttable.{IsCuttable};
 ghost use Rattle.solve_job.specs.Proved.{AnswersRunAs, IsSolvedAs};
 ghost use Rattle.std.specs.Prelude.{◌≤◌, ◌<◌, ◌^◌, length, IfOk, Some, None};
 
@@ -48,7 +48,7 @@ fn problem_answer(
     requires well_formed { IsWellFormed problem.now }
     requires distinct { HasDistinctNames problem.now }
     requires identifiers { HasIdentifiers problem.now }
-    requires cuts { HasPlainCuts problem.now }
+    requires cuts { IsCuttable problem.now }
     requires budget { budget ≤ 1000000000 }
     ensures { IfOk result (λ output. AnswersEncoded (AnswersRunAs asked budget) problem.now (answer_of output)) }
 {
@@ -69,7 +69,7 @@ fn run_answer(
     requires well_formed { IsWellFormed problem.now }
     requires distinct { HasDistinctNames problem.now }
     requires identifiers { HasIdentifiers problem.now }
-    requires cuts { HasPlainCuts problem.now }
+    requires cuts { IsCuttable problem.now }
     requires encoded { IsEncoded problem.now encoded.now }
     requires budget { budget ≤ 1000000000 }
     ensures { IfOk result (λ output. AnswersRunAs asked budget problem.now (answer_of output)) }
@@ -91,7 +91,7 @@ fn with_tree(
     requires well_formed { IsWellFormed problem.now }
     requires distinct { HasDistinctNames problem.now }
     requires identifiers { HasIdentifiers problem.now }
-    requires cuts { HasPlainCuts problem.now }
+    requires cuts { IsCuttable problem.now }
     requires encoded { IsEncoded problem.now encoded.now }
     requires budget { budget ≤ 1000000000 }
     ensures { IfOk result (λ output. AnswersRunAs asked budget problem.now (answer_of output)) }
@@ -133,7 +133,7 @@ fn without_tree(
     requires well_formed { IsWellFormed problem.now }
     requires distinct { HasDistinctNames problem.now }
     requires identifiers { HasIdentifiers problem.now }
-    requires cuts { HasPlainCuts problem.now }
+    requires cuts { IsCuttable problem.now }
     requires encoded { IsEncoded problem.now encoded.now }
     requires budget { budget ≤ 1000000000 }
     ensures { IfOk result (λ output. AnswersRunAs None budget problem.now (answer_of output)) }

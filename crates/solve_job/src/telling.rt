@@ -4,9 +4,11 @@ ghost use Rattle.answers.specs.Answer.{answer_of};
 ghost use Rattle.elim_rules.specs.Whole.{AreOver};
 ghost use Rattle.pri_typing.specs.WellFormed.{HasDistinctNames, HasIdentifiers, IsWellFormed};
 ghost use Rattle.encoding.specs.Problems.{is_large, problem_root};
-ghost use Rattle.problem_file.specs.Special.{HasPlainCuts};
+ghost use Rattle.pri_typing.specs.Problems.{Holds};
+ghost use Rattle.problem_file.specs.Cuttable.{IsCuttable};
 ghost use Rattle.solve_job.specs.Told.{AreClosedLines, IsValidTold, cause_text};
-ghost use Rattle.std.specs.Prelude.{◌≡◌, ◌<◌, ◌^◌, false, length, IfOk};
+ghost use Rattle.std.specs.Prelude.{◌≡◌, ◌<◌, ◌^◌, [], false, length, IfOk};
+ghost use Rattle.typed_formula.specs.Truth.{Meaning};
 
 use answers::Output;
 use answers::status::VALID;
@@ -42,7 +44,8 @@ pub fn valid(
     requires well_formed { IsWellFormed problem.now }
     requires distinct { HasDistinctNames problem.now }
     requires identifiers { HasIdentifiers problem.now }
-    requires cuts { HasPlainCuts problem.now }
+    requires cuts { IsCuttable problem.now }
+    requires holds { problem.now.existentials ≡ [] → (w : Meaning) → Holds w problem.now [] }
     requires small { is_large (problem_root problem.now).value ≡ false }
     requires over { AreOver (length problem.now.existentials) constraint.now }
     requires values { length solution.now ≡ length problem.now.existentials }
@@ -64,7 +67,8 @@ fn closed(alloc: Global, problem: &Problem, purse: &mut Purse) -> Result<Output,
     requires well_formed { IsWellFormed problem.now }
     requires distinct { HasDistinctNames problem.now }
     requires identifiers { HasIdentifiers problem.now }
-    requires cuts { HasPlainCuts problem.now }
+    requires cuts { IsCuttable problem.now }
+    requires holds { (w : Meaning) → Holds w problem.now [] }
     requires small { is_large (problem_root problem.now).value ≡ false }
     requires budget { purse.old.budget < 2 ^ 32 }
     ensures { IfOk result (λ output. AreClosedLines problem.now purse.old (answer_of output)) }

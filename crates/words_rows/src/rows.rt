@@ -25,6 +25,7 @@ fn named(alloc: Global, words: &[&str]) -> Result<String, Fail> {
             "least {file} {term} {budget}"
         )?),
         Ok(Job::Drill { count, budget }) => Ok(format!(in alloc; "drill {count} {budget}")?),
+        Ok(Job::Smt { file, budget }) => Ok(format!(in alloc; "smt {file} {budget}")?),
         Ok(Job::Check { file, proof }) => Ok(format!(in alloc; "check {file} {proof}")?),
         Err(WordsFault::Words) => Ok(String::from_str(alloc, "no job")?),
         Err(WordsFault::Memory) => Ok(String::from_str(alloc, "no memory")?),
@@ -50,7 +51,7 @@ fn check(rt: &impl Abort, alloc: Global, rows: &[(&[&str], &str)]) -> Result<(),
 
 #[test]
 fn words_name_jobs(rt: HostRuntime) -> Result<(), Fail> {
-    let rows: [(&[&str], &str); 32] = [
+    let rows: [(&[&str], &str); 36] = [
         (&["solve", "f"], "solve f 50000000 plain"),
         (&["elim", "f"], "elim f 50000000"),
         (&["solve", "f", "--budget", "1"], "solve f 1 plain"),
@@ -86,6 +87,13 @@ fn words_name_jobs(rt: HostRuntime) -> Result<(), Fail> {
         (&["least", "--", "f", "-a"], "least f -a 50000000"),
         (&["least", "f", "--budget=9", "a"], "least f a 9"),
         (&["least", "--budget", "9", "f", ""], "least f  9"),
+        (&["smt", "f"], "smt f 50000000"),
+        (&["smt", "-", "--budget", "5"], "smt - 5"),
+        (
+            &["smt", "--budget=1000000000", "--", "-f"],
+            "smt -f 1000000000",
+        ),
+        (&["smt", "smt"], "smt smt 50000000"),
         (&["check", "f", "g"], "check f g"),
         (&["check", "--", "g", "-f"], "check g -f"),
         (&["check", "-", "-"], "check - -"),
@@ -98,7 +106,7 @@ fn words_name_jobs(rt: HostRuntime) -> Result<(), Fail> {
 
 #[test]
 fn words_name_none(rt: HostRuntime) -> Result<(), Fail> {
-    let rows: [&[&str]; 61] = [
+    let rows: [&[&str]; 68] = [
         &[],
         &["f"],
         &["f", "solve"],
@@ -155,6 +163,13 @@ fn words_name_none(rt: HostRuntime) -> Result<(), Fail> {
         &["least", "f", "a", "--budget", "0"],
         &["least", "f", "a", "--budget=1", "--budget=1"],
         &["least", "f", "a", "--proof"],
+        &["smt"],
+        &["smt", "f", "g"],
+        &["smt", "-f"],
+        &["smt", "f", "--budget=0"],
+        &["smt", "f", "--budget=1", "--budget=1"],
+        &["smt", "f", "--proof"],
+        &["smt", "f", "--short"],
         &["check", "f"],
         &["check", "f", "g", "h"],
         &["check", "f", "g", "--budget", "1"],

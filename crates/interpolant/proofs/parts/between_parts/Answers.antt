@@ -1,7 +1,7 @@
 use Rattle.std.proofs.Common.{length, ap, ◌∙◌}
 use Rattle.formula.specs.Tree.{form}
 use Rattle.encoding.specs.Problems.{constants}
-use Rattle.interpolant.proofs.Answering.{between_done, cut_short, few_marks, marks_room, no_memory_left, not_encoded, run_done, slice_marks}
+use Rattle.interpolant.proofs.Answering.{between_done, cut_short, few_marks, marks_room, no_memory_left, not_encoded, run_done, slice_marks, strongest_done}
 use Rattle.interpolant.proofs.parts.between_parts.Goals as goal
 
 pub returns-in_err-assumed-clause-work : goal.returns-in_err-assumed-clause-work
@@ -29,5 +29,10 @@ returns-clause-work c =
 
 pub returns-clause-between : goal.returns-clause-between
 returns-clause-between c =
-    between_done c.args.p.now c.args.first.now c.args.second.now c.in_ok-assumed.assumed c.as_slice-marks.result.now c.in_ok-formula.formula c.requires.formed (c.in_ok-assumed.ensures.pure c.requires.pure) c.know_reduced.ensures
+    between_done c.args.p.now c.args.first.now c.args.second.now c.in_ok-assumed.assumed c.as_slice-marks.result.now c.in_ok-formula.formula c.requires.formed c.requires.plain c.know_reduced.ensures
+    c.in_ok-assumed.ensures.work (slice_marks (constants c.args.p.now) c.args.p.now c.args.second.now _ c.as_slice-marks.result.now c.as_slice-marks.ensures.value c.in_ok-occurring.ensures) c.in_ok-formula.ensures
+
+pub returns-clause-strongest : goal.returns-clause-strongest
+returns-clause-strongest c =
+    strongest_done c.args.p.now c.args.first.now c.args.second.now c.in_ok-assumed.assumed c.as_slice-marks.result.now c.in_ok-formula.formula c.requires.formed c.requires.plain c.know_reduced.ensures
     c.in_ok-assumed.ensures.work (slice_marks (constants c.args.p.now) c.args.p.now c.args.second.now _ c.as_slice-marks.result.now c.as_slice-marks.ensures.value c.in_ok-occurring.ensures) c.in_ok-formula.ensures

@@ -8,13 +8,13 @@ use Rattle.script_names.proofs.operation.defined.Goals as goal
 pub returns-then-len-arity : goal.returns-then-len-arity
 returns-then-len-arity c =
     let D = calls_of c.args.definitions.now in
-    IfOk-weaker c.call.result _ _ (λ b h e n.
+    IfOk-weaker c.call.result _ _ (λ b h uses e n.
     let ss = shapes_said D e (shapes_of c.args.arguments) in
     let same : nat_eq (length ss) c.args.arity ≡ true = (let is : length ss ≡ c.args.arity = said-count D e c.args.arguments ∙ sym c.len.ensures ∙ c.if-len-arity.true in grind arith) in
-    h e n ∙ sym (ap (λ z. if z then D c.args.k ss n else nothing n) same)) c.call.ensures
+    h uses e n ∙ sym (ap (λ z. if z then D c.args.k ss n else nothing n) same)) c.call.ensures
 
 pub returns-else-len-arity : goal.returns-else-len-arity
-returns-else-len-arity c = λ e n.
+returns-else-len-arity c = λ uses e n.
     let D = calls_of c.args.definitions.now in
     let ss = shapes_said D e (shapes_of c.args.arguments) in
     let other : nat_eq (length ss) c.args.arity ≡ false = (let is : length ss ≡ c.len.result = said-count D e c.args.arguments ∙ sym c.len.ensures in let apart : ¬ (length ss ≡ c.args.arity) = λ q. c.if-len-arity.false (sym is ∙ q) in grind arith) in

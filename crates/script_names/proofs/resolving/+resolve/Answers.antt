@@ -155,13 +155,13 @@ resolve_use-returns-in-Some t c = λ gs e agrees low long.
     ∙ use-bound W (found c.args.text.now (names_in e ls)) (operator_of c.args.text.now) c.args.text.now (all_said W (names_in e ls) (phrases_of c.args.arguments.now)) (leaf_said e c.in-Some.leaf)
     (found-leaf e c.args.text.now ls c.in-Some.leaf (sym c.find.ensures ∙ c.in-Some.is))
 
-pub resolve_use-returns-in-Some-operator : goal.resolve_use-returns-in-Some-operator
-resolve_use-returns-in-Some-operator t c = λ gs e agrees low long.
+pub resolve_use-returns-in-Some-named_operator : goal.resolve_use-returns-in-Some-named_operator
+resolve_use-returns-in-Some-named_operator t c = λ gs e agrees low long.
     let W = symbol_said gs in
     let ls = leaves_at c.args.scope.now in
-    use-operator W (found c.args.text.now (names_in e ls)) (operator_of c.args.text.now) c.in-Some-operator.known c.args.text.now (all_said W (names_in e ls) (phrases_of c.args.arguments.now))
-    (found-no_leaf e c.args.text.now ls (sym c.find.ensures ∙ c.in_default.is)) (sym c.operator.ensures ∙ c.in-Some-operator.is) _
-    (λ n. c.operation.ensures (calls_of c.args.definitions.now) e n ∙ ap (λ z. operated c.in-Some-operator.known (at_depth n z)) (c.in_ok-arguments.ensures gs e agrees low long))
+    use-operator W (found c.args.text.now (names_in e ls)) (operator_of c.args.text.now) c.in-Some-named_operator.known c.args.text.now (all_said W (names_in e ls) (phrases_of c.args.arguments.now))
+    (found-no_leaf e c.args.text.now ls (sym c.find.ensures ∙ c.in_default.is)) (sym c.named_operator.ensures ∙ c.in-Some-named_operator.is) _
+    (λ n. c.operation.ensures (calls_of c.args.definitions.now) e n ∙ ap (λ z. operated c.in-Some-named_operator.known (at_depth n z)) (c.in_ok-arguments.ensures gs e agrees low long))
 
 pub resolve_use-returns : goal.resolve_use-returns
 resolve_use-returns t c =
@@ -171,5 +171,5 @@ resolve_use-returns t c =
     let W = symbol_said gs in
     let ss = all_said W (names_in e ls) (phrases_of c.args.arguments.now) in
     use-symbol W (found c.args.text.now (names_in e ls)) (operator_of c.args.text.now) c.args.text.now ss
-    (found-no_leaf e c.args.text.now ls (sym c.find.ensures ∙ c.in_default.is)) (sym c.operator.ensures ∙ c.in_default-operator.is) _
-    (λ n. h e n ∙ ap (λ z. meant_as D (looked_up c.args.symbols.now c.args.text.now) z n) (c.in_ok-arguments.ensures gs e agrees low long) ∙ sym (agrees.2 c.args.text.now ss n))) c.symbol.ensures
+    (found-no_leaf e c.args.text.now ls (sym c.find.ensures ∙ c.in_default.is)) (sym c.named_operator.ensures ∙ c.in_default-named_operator.is) _
+    (λ n. h agrees.1 e n ∙ ap (λ z. meant_as D (looked_up c.args.symbols.now c.args.text.now) z n) (c.in_ok-arguments.ensures gs e agrees low long) ∙ sym (agrees.0.2 c.args.text.now ss n))) c.symbol.ensures

@@ -1,4 +1,4 @@
-use Rattle.std.proofs.Common.{◌≡◌, ℤ, List, length, Some, refl, sym, ◌∙◌, ap}
+use Rattle.std.proofs.Common.{◌≡◌, ℤ, List, Some, sym, ◌∙◌, ap}
 use Rattle.typed_formula.specs.declared.world.Table.{Table}
 use Rattle.proof_tree.specs.Views.{proof_of}
 use Rattle.countermodel.specs.Probes.{probe_values}

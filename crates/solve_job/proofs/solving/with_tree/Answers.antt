@@ -1,14 +1,13 @@
-use Rattle.std.proofs.Common.{◌≡◌, ◌≤◌, ◌^◌, length, Ok, refl, sym, ◌∙◌, ap, subst, arith}
+use Rattle.std.proofs.Common.{◌^◌, length, refl, sym, ◌∙◌, ap, subst, arith}
 use Rattle.formula.specs.Form.{IsFormOver}
 use Rattle.formula.specs.Tree.{form}
 use Rattle.proof_tree.specs.Views.{proof_of}
 use Rattle.search.specs.declared.judge.Outcome.TheVariants.{Valid, Invalid, Saturated, Unknown}
-use Rattle.search.specs.Outcomes.{EndsAs}
 use Rattle.encoding.proofs.Problems.{root_over}
 use Rattle.answers.specs.Answer.{answer_of, unknown_answer}
 use Rattle.constraint_lines.proofs.Sizes.{small_depth, small_size}
 use Rattle.solve_job.specs.Told.{IsValidTold}
-use Rattle.solve_job.proofs.Outcomes.{ends_at, fitting, invalid_told, run_below, saturated_end, saturated_told, start, unknown_told, valid_told}
+use Rattle.solve_job.proofs.Outcomes.{ends_at, fitting, invalid_told, run_below, saturated_end, saturated_told, start, unknown_told, valid_holds, valid_told}
 use Rattle.solve_job.proofs.Printing.{alone_as, if_ok, invalid_part_told, invalid_printable, proved_as, saturated_part, unknown_part, valid_part_told, valid_printable}
 use Rattle.solve_job.proofs.Refuted.{levels_are, saturated_is}
 use Rattle.solve_job.proofs.solving.with_tree.Goals as goal
@@ -29,6 +28,11 @@ pub valid-requires-clause-over : goal.valid-requires-clause-over
 valid-requires-clause-over c =
     let k = ends_at (form c.args.encoded.now.root) c.args.encoded.now.constants _ (start c.args.budget) c.prove.new.purse c.in_ok-outcome.outcome (Valid c.in-Valid.constraint c.in-Valid.solution c.in-Valid.tree) c.new-purse.ensures c.in_ok-outcome.ensures c.in-Valid.is in
     (fitting c.args.budget c.args.problem.now c.args.encoded.now c.requires.encoded c.in-Valid.constraint c.in-Valid.solution c.in-Valid.tree c.prove.new.purse k).0
+
+pub valid-requires-clause-holds : goal.valid-requires-clause-holds
+valid-requires-clause-holds c =
+    let k = ends_at (form c.args.encoded.now.root) c.args.encoded.now.constants _ (start c.args.budget) c.prove.new.purse c.in_ok-outcome.outcome (Valid c.in-Valid.constraint c.in-Valid.solution c.in-Valid.tree) c.new-purse.ensures c.in_ok-outcome.ensures c.in-Valid.is in
+    valid_holds c.args.budget c.args.problem.now c.args.encoded.now c.requires.encoded c.requires.well_formed c.in-Valid.constraint c.in-Valid.solution c.in-Valid.tree c.prove.new.purse k
 
 pub valid-requires-clause-values : goal.valid-requires-clause-values
 valid-requires-clause-values c =

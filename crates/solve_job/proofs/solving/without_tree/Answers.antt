@@ -1,12 +1,12 @@
-use Rattle.std.proofs.Common.{◌≤◌, ◌^◌, length, None, Ok, refl, sym, ◌∙◌, ap, subst, arith}
+use Rattle.std.proofs.Common.{◌^◌, length, None, refl, sym, ◌∙◌, ap, subst, arith}
 use Rattle.formula.specs.Form.{IsFormOver}
 use Rattle.formula.specs.Tree.{form}
 use Rattle.search.specs.declared.judge.Decided.TheVariants.{Valid, Invalid, Unknown}
 use Rattle.search.specs.declared.judge.Outcome.TheVariants as outcome
-use Rattle.answers.specs.Answer.{answer_of, unknown_answer}
+use Rattle.answers.specs.Answer.{unknown_answer}
 use Rattle.constraint_lines.proofs.Sizes.{small_depth, small_size}
 use Rattle.solve_job.specs.Told.{IsValidTold}
-use Rattle.solve_job.proofs.Outcomes.{decided_at, fitting, invalid_told, run_below, start, unknown_told, valid_told}
+use Rattle.solve_job.proofs.Outcomes.{decided_at, fitting, invalid_told, run_below, start, unknown_told, valid_holds, valid_told}
 use Rattle.solve_job.proofs.Printing.{alone_as, if_ok}
 use Rattle.solve_job.proofs.solving.without_tree.Goals as goal
 
@@ -26,6 +26,11 @@ pub valid-requires-clause-over : goal.valid-requires-clause-over
 valid-requires-clause-over c =
     let k = decided_at (form c.args.encoded.now.root) c.args.encoded.now.constants _ (start c.args.budget) c.decide.new.purse c.in_ok-decided.decided (Valid c.in-Valid.constraint c.in-Valid.solution) c.new-purse.ensures c.in_ok-decided.ensures c.in-Valid.is in
     (fitting c.args.budget c.args.problem.now c.args.encoded.now c.requires.encoded c.in-Valid.constraint c.in-Valid.solution k.0 c.decide.new.purse k.1).0
+
+pub valid-requires-clause-holds : goal.valid-requires-clause-holds
+valid-requires-clause-holds c =
+    let k = decided_at (form c.args.encoded.now.root) c.args.encoded.now.constants _ (start c.args.budget) c.decide.new.purse c.in_ok-decided.decided (Valid c.in-Valid.constraint c.in-Valid.solution) c.new-purse.ensures c.in_ok-decided.ensures c.in-Valid.is in
+    valid_holds c.args.budget c.args.problem.now c.args.encoded.now c.requires.encoded c.requires.well_formed c.in-Valid.constraint c.in-Valid.solution k.0 c.decide.new.purse k.1
 
 pub valid-requires-clause-values : goal.valid-requires-clause-values
 valid-requires-clause-values c =

@@ -1,0 +1,4 @@
+pub mod Symbols
+pub mod Between
+pub mod Closing
+pub mod Sides

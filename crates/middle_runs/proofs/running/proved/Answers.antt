@@ -1,0 +1,14 @@
+use Rattle.middle_runs.proofs.Outcomes.{ends_at, not_invalid, not_saturated, valid_proved, valid_runs}
+use Rattle.middle_runs.proofs.running.proved.Goals as goal
+
+pub unreachable-requires : goal.unreachable-requires
+unreachable-requires c = not_invalid c.args.encoded _ _ c.in-Invalid.constraint c.in-Invalid.tree c.requires.sound (ends_at _ _ _ _ _ _ c.in_ok-tree.ensures c.in-Invalid.is)
+
+pub unreachable-requires-in-Saturated : goal.unreachable-requires-in-Saturated
+unreachable-requires-in-Saturated c = not_saturated c.args.encoded _ _ c.in-Saturated.constraint c.in-Saturated.tree c.requires.sound (ends_at _ _ _ _ _ _ c.in_ok-tree.ensures c.in-Saturated.is)
+
+pub returns-in-Valid-clause-work : goal.returns-in-Valid-clause-work
+returns-in-Valid-clause-work c = valid_runs c.args.encoded _ _ c.in-Valid.constraint c.in-Valid.solution c.in-Valid.tree c.requires.sound (ends_at _ _ _ _ _ _ c.in_ok-tree.ensures c.in-Valid.is)
+
+pub returns-in-Valid-clause-proved : goal.returns-in-Valid-clause-proved
+returns-in-Valid-clause-proved c = valid_proved c.args.encoded _ _ c.in-Valid.constraint c.in-Valid.solution c.in-Valid.tree c.requires.sound (ends_at _ _ _ _ _ _ c.in_ok-tree.ensures c.in-Valid.is)

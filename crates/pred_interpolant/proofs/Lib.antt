@@ -1,0 +1,11 @@
+pub mod Copies
+pub mod Marking
+pub mod Tables
+pub mod Fitting
+pub mod Sharing
+pub mod NormalForms
+pub mod Choosing
+pub mod Sums
+pub mod Standing
+pub mod Ends
+pub mod Faults

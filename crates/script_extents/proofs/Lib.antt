@@ -1,0 +1,14 @@
+pub mod Adding
+pub mod Algebra
+pub mod Chains
+pub mod Describing
+pub mod Differences
+pub mod Fitting
+pub mod Names
+pub mod Operating
+pub mod Parts
+pub mod Rests
+pub mod Scopes
+pub mod Shapes
+pub mod Steps
+pub mod Sums

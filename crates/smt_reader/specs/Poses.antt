@@ -1,0 +1,66 @@
+-- Which texts are scripts, with which problems, and how others are refused.
+use Rattle.std.specs.Prelude.{◌≡◌, ◌⊎◌, ℕ, List, [], ◌∷◌, map, None}
+use Rattle.sexpr.specs.declared.tree.Sexp.{Sexp}
+use Rattle.sexpr.specs.Expressions.{expr}
+use Rattle.typed_formula.specs.Formula.{Formulas, formulas}
+use Rattle.pri_typing.specs.declared.problem.Problem.{Problem}
+use Rattle.script_lists.specs.Grammar.{IsScriptText}
+use Rattle.script_commands.specs.declared.refusal.ScriptRefusal.{ScriptRefusal}
+use Rattle.script_commands.specs.declared.refusal.ScriptRefusal.TheVariants as r
+use Rattle.script_commands.specs.Faults.{refusal_of}
+use Rattle.script_commands.specs.Least.{IsRefused}
+use Rattle.script_reading.specs.Scripts.{RefusesScript}
+use Rattle.script_sizes.specs.Extent.{IsLarge, all_extent}
+use Rattle.script_terms.specs.Scripts.{State, checks, refutation}
+use Rattle.script_checks.specs.Commands.{commands_of, script_terms}
+use Rattle.script_checks.specs.Posed.{IsPosed}
+
+-- one problem for each check, in order
+abbrev pub ArePosed : List State → List Problem → Type 0
+ArePosed [] [] = Unit {0}
+ArePosed [] (p ∷ ps) = ⊥
+ArePosed (s ∷ ss) [] = ⊥
+ArePosed (s ∷ ss) (p ∷ ps) = IsPosed s p × ArePosed ss ps
+
+-- the formulas of the checks
+abbrev pub refutations : List State → Formulas
+refutations ss = formulas (map refutation ss)
+
+-- all of them together have more than 1,000,000 nodes, or one has more than 2,000 levels
+abbrev pub AreLarge : List State → Type 0
+AreLarge ss = IsLarge (all_extent (refutations ss))
+
+-- the checks of a script of these lists
+abbrev pub checks_in : List Sexp → List State
+checks_in lists = checks (commands_of (map expr lists))
+
+-- neither a command nor a term of the lists has a fault, the checks have these problems, and they are not too large
+pub record IsPosedBy (lists : List Sexp) (problems : List Problem) : Type 0 where
+  pub fits : refusal_of script_terms (map expr lists) ≡ None
+  pub posed : ArePosed (checks_in lists) problems
+  pub small : ¬ (AreLarge (checks_in lists))
+
+-- the lists have no fault, and their checks are too large
+pub record AreTooLarge (lists : List Sexp) : Type 0 where
+  pub fits : refusal_of script_terms (map expr lists) ≡ None
+  pub large : AreLarge (checks_in lists)
+
+-- the lists are refused so: for the first fault of their commands, or for their size
+abbrev pub IsRefusedBy : List Sexp → ScriptRefusal → Type 0
+IsRefusedBy lists e = IsRefused e (refusal_of script_terms (map expr lists)) ⊎ ((e ≡ r.Large) × AreTooLarge lists)
+
+-- the text is a script whose checks have these problems
+pub record IsScriptOf (bytes : List ℕ) (problems : List Problem) : Type 0 where
+  pub lists : List Sexp
+  pub said : IsScriptText bytes lists
+  pub posed : IsPosedBy lists problems
+
+-- the text is a script that is too large
+pub record IsLargeScript (bytes : List ℕ) : Type 0 where
+  pub lists : List Sexp
+  pub said : IsScriptText bytes lists
+  pub large : AreTooLarge lists
+
+-- the text is refused so: for its tokens or its commands, or because it is too large
+abbrev pub IsScriptRefusal : List ℕ → ScriptRefusal → Type 0
+IsScriptRefusal bytes e = RefusesScript script_terms bytes e ⊎ ((e ≡ r.Large) × IsLargeScript bytes)

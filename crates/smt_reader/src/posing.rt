@@ -1,0 +1,119 @@
+// The problem of a check.
+
+ghost use Rattle.std.specs.Prelude.{◌≡◌, ◌≤◌, IfOk, List, length, map, take};
+ghost use Rattle.typed_formula.specs.Formula.{every, formula, formulas, negation};
+ghost use Rattle.pri_typing.specs.Files.{all_int};
+ghost use Rattle.script_terms.specs.Scripts as scripts;
+ghost use Rattle.script_terms.specs.Scripts.{State};
+ghost use Rattle.script_terms.specs.Translation.{asserted};
+ghost use Rattle.script_checks.specs.Posed.{IsPosed};
+ghost use Rattle.smt_reader.specs.Following.{AreClaims, Follows};
+
+use crate::following::{Assertion, Reading};
+use linear_term::Memory;
+use pri_typing::{Problem, Symbol};
+use script_names::Body;
+use script_writing::write_formula;
+use sqlite_items::{Boxed, Items};
+use std::alloc::Global;
+use typed_formula::{Sort, Typed};
+
+/// A script, by the problem of each `check-sat` in order: nothing satisfies the assertions before it exactly where the problem
+/// holds.
+#[derive(Debug, Drop)]
+pub struct Script {
+    pub checks: Items<Problem>,
+}
+
+// The first ones of the defined functions, so many.
+fn first_ones(definitions: &[Body], count: usize) -> &[Body]
+    ensures { count ≤ length definitions.now → result.now ≡ take count definitions.now }
+{
+    if count < definitions.len() {
+        &definitions[..count]
+    } else {
+        definitions
+    }
+}
+
+// The formulas of assertions, where so many constants are declared.
+fn assertions(
+    alloc: Global,
+    definitions: &[Body],
+    claims: &[Assertion],
+    constants: u32,
+) -> Result<Items<Typed>, Memory>
+    ensures { IfOk result (λ fs. (cs : List scripts.Claim) → AreClaims definitions.now claims.now cs → map formula fs ≡ map (λ c. asserted c.globals constants c.term) cs) }
+{
+    let mut members = Items::new(alloc);
+    for claim in claims {
+        let visible = first_ones(definitions, claim.definitions);
+        members.push(write_formula(alloc, visible, constants, &claim.body)?)?;
+    }
+    Ok(members)
+}
+
+// A copy of names.
+fn copy_names(alloc: Global, names: &[Items<u8>]) -> Result<Items<Items<u8>>, Memory>
+    ensures { IfOk result (λ xs. xs ≡ names.now) }
+{
+    let mut out = Items::new(alloc);
+    for name in names {
+        out.push(Items::from_slice(alloc, name.as_slice())?)?;
+    }
+    Ok(out)
+}
+
+// A copy of symbols.
+fn copy_symbols(alloc: Global, symbols: &[Symbol]) -> Result<Items<Symbol>, Memory>
+    ensures { IfOk result (λ xs. xs ≡ symbols.now) }
+{
+    let mut out = Items::new(alloc);
+    for symbol in symbols {
+        out.push(Symbol {
+            name: Items::from_slice(alloc, symbol.name.as_slice())?,
+            arity: symbol.arity,
+        })?;
+    }
+    Ok(out)
+}
+
+// The type `int` for each of these names.
+fn types(alloc: Global, names: &[Items<u8>]) -> Result<Items<Sort>, Memory>
+    ensures { IfOk result (λ ts. ts ≡ all_int names.now) }
+{
+    let mut out = Items::new(alloc);
+    for _name in names {
+        out.push(Sort::Int)?;
+    }
+    Ok(out)
+}
+
+/// The problem of a check behind the commands so far.
+pub(crate) fn pose(alloc: Global, reading: &Reading) -> Result<Problem, Memory>
+    ensures { IfOk result (λ p. (s : State) → Follows reading.now s → IsPosed s p) }
+{
+    let constants = reading.constants.as_slice();
+    if constants.len() > u32::MAX as usize {
+        return Err(Memory);
+    }
+    let definitions = reading.known.definitions.as_slice();
+    let members = assertions(
+        alloc,
+        definitions,
+        reading.claims.as_slice(),
+        constants.len() as u32,
+    )?;
+    Ok(Problem {
+        existentials: Items::new(alloc),
+        existential_types: Items::new(alloc),
+        universals: copy_names(alloc, constants)?,
+        universal_types: types(alloc, constants)?,
+        functions: copy_symbols(alloc, reading.functions.as_slice())?,
+        predicates: copy_symbols(alloc, reading.predicates.as_slice())?,
+        parts: Items::new(alloc),
+        formula: Typed::Not(Boxed::new(alloc, Typed::And(members))?),
+        cuts: Items::new(alloc),
+        first_application: None,
+    })
+}
