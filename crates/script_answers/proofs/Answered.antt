@@ -13,9 +13,10 @@ use Rattle.problem_file.specs.Encoded.{Fits, LeavesRange}
 use Rattle.problem_file.proofs.Reduced.{problem_reduced}
 use Rattle.constraint_lines.proofs.Losing.{lost_refuted}
 use Rattle.constraint_lines.proofs.Supporting.{closed_holds}
-use Rattle.solve_job.proofs.Refuted.{refuted, saturated_says}
-use Rattle.solve_job.specs.Solved.{run_end}
-use Rattle.solve_job.proofs.Meaning.{tells}
+use Rattle.refuted_runs.proofs.Ended.{saturated_says}
+use Rattle.refuted_runs.proofs.Problems.{refuted}
+use Rattle.refuted_runs.specs.Ends.{run_end}
+use Rattle.search.proofs.Telling.{answer_tells}
 use Rattle.script_answers.specs.declared.answering.CheckAnswer.{CheckAnswer}
 use Rattle.script_answers.specs.declared.answering.CheckAnswer.TheVariants.{Unsat, Sat}
 use Rattle.script_answers.specs.Answers.{IsCheckAnswer, ends, leaves, told}
@@ -38,7 +39,7 @@ unsat_holds w budget p formed none (ends f e) = by (run_end budget p) refl e
   where
     by : (end : Ending run.Answer) → run_end budget p ≡ end → Unsat ≡ told end → Holds w p []
     by (ends_with (run.valid vs x) stands) is e =
-        let found = tells budget p (root_over p formed) _ stands is in
+        let found = answer_tells (problem_root p).value (length p.existentials) (record { budget = budget; spent = 0 }) _ stands (root_over p formed) (problem_reduced p) is in
         closed_holds w p (given x) vs formed (record { over = found.over; covers = found.covers; many = found.best.names; satisfies = found.best.satisfies }) none
     by (ends_with (run.invalid log x) stands) is e = absurd cc
     by (ends_with (run.saturated log x) stands) is e = absurd cc
@@ -52,7 +53,7 @@ sat_refuted budget p formed (ends f e) = by (run_end budget p) refl e
   where
     by : (end : Ending run.Answer) → run_end budget p ≡ end → Sat ≡ told end → IsRefuted p
     by (ends_with (run.valid vs x) stands) is e = absurd cc
-    by (ends_with (run.invalid log x) stands) is e = let lost = tells budget p (root_over p formed) _ stands is in lost_refuted p formed lost.pure lost.fails
+    by (ends_with (run.invalid log x) stands) is e = let lost = answer_tells (problem_root p).value (length p.existentials) (record { budget = budget; spent = 0 }) _ stands (root_over p formed) (problem_reduced p) is in lost_refuted p formed lost.pure lost.fails
     by (ends_with (run.saturated log x) stands) is e =
         refuted p x formed (problem_reduced p) (saturated_says (problem_root p).value (length p.existentials) (record { budget = budget; spent = 0 }) log x stands (root_over p formed) (problem_reduced p) is).0
     by (ends_with run.too_long stands) is e = absurd cc

@@ -14,7 +14,7 @@ use Rattle.encoding.specs.Problems.{problem_root}
 use Rattle.function_encoding.specs.declared.answer.Encoded.{Encoded}
 use Rattle.pri_typing.specs.declared.problem.Problem.{Problem}
 use Rattle.problem_file.specs.Encoded.{IsEncoded}
-use Rattle.solve_job.specs.Solved.{run_end}
+use Rattle.refuted_runs.specs.Ends.{run_end}
 use Rattle.script_answers.specs.Answers.{told, told_of}
 
 abbrev pub start : ℕ → Funds

@@ -10,7 +10,7 @@ use Rattle.encoding.specs.Problems.{is_large, problem_root}
 use Rattle.problem_file.specs.Encoded.{Fits, IsLarge, LeavesRange}
 use Rattle.problem_file.specs.Reads.{AreSame}
 use Rattle.problem_file.proofs.Encoded.{root_same}
-use Rattle.solve_job.specs.Solved.{run_end}
+use Rattle.refuted_runs.specs.Ends.{run_end}
 use Rattle.script_answers.specs.declared.answering.CheckAnswer.{CheckAnswer}
 use Rattle.script_answers.specs.Answers.{IsCheckAnswer, ends, leaves, told}
 

@@ -9,7 +9,7 @@ use Rattle.search.specs.Run.{Ending, ends_with, out_of_steps, overflows}
 use Rattle.pri_typing.specs.declared.problem.Problem.{Problem}
 use Rattle.answers.specs.Answer.{Answer, refused_answer}
 use Rattle.problem_file.specs.Encoded.{Fits, IsLarge, LeavesRange}
-use Rattle.solve_job.specs.Solved.{run_end}
+use Rattle.refuted_runs.specs.Ends.{run_end}
 use Rattle.script_answers.specs.declared.answering.CheckAnswer.{CheckAnswer}
 use Rattle.script_answers.specs.declared.answering.CheckAnswer.TheVariants.{Unsat, Sat, Unknown}
 

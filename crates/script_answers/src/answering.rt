@@ -3,7 +3,7 @@
 ghost use Rattle.pri_typing.specs.WellFormed.{IsWellFormed};
 ghost use Rattle.problem_file.specs.Encoded.{IsEncoded};
 ghost use Rattle.script_answers.specs.Answers.{IsChecked, told, told_of};
-ghost use Rattle.solve_job.specs.Solved.{run_end};
+ghost use Rattle.refuted_runs.specs.Ends.{run_end};
 ghost use Rattle.std.specs.Prelude.{◌≡◌, ◌≤◌, IfOk};
 
 use function_encoding::{EncodeRefusal, Encoded};

@@ -5,5 +5,5 @@ pub mod Meaning
 mod Outcomes
 mod Own
 pub mod Saturated
-pub mod Refuted
+mod Refuted
 pub mod Printing

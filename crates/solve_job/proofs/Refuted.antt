@@ -22,7 +22,7 @@ use Rattle.open_trees.specs.Levels.{HasLevels}
 use Rattle.open_trees.specs.Open.{IsSaturated}
 use Rattle.open_trees.specs.Rows.{table_at}
 use Rattle.open_trees.specs.Walk.{Stop, walk}
-pub use Rattle.countermodel.proofs.Saturated.{explained, refuted, saturated_says}
+use Rattle.countermodel.proofs.Saturated.{explained, refuted, saturated_says}
 use Rattle.countermodel.specs.Explaining.{IsCounterexample, at_leaf, explaining, found_at, universals_of}
 use Rattle.countermodel.specs.Probes.{probe_values}
 use Rattle.countermodel.proofs.Nearest.{typed_probes}

@@ -1,13 +1,12 @@
 -- What `solve` answers: one row for each end of the canonical run on the encoded problem.
-use Rattle.std.specs.Prelude.{◌≡◌, ◌≢◌, ℕ, ℤ, List, [], ◌++◌, length, codes}
+use Rattle.std.specs.Prelude.{◌≡◌, ◌≢◌, ℕ, ℤ, List, [], ◌++◌, codes}
 use Rattle.linear_term.specs.declared.range.Place.{Place}
 use Rattle.purse.specs.declared.log.Entry.{Entry}
-use Rattle.purse.specs.Trace.{At, at}
+use Rattle.purse.specs.Trace.{At}
 use Rattle.proof_tree.specs.Proof.{Proof, given}
 use Rattle.search.specs.Run as run
-use Rattle.search.specs.Run.{Ending, ending, ends_with, out_of_steps, overflows, canonical_run}
+use Rattle.search.specs.Run.{Ending, ends_with, out_of_steps, overflows}
 use Rattle.pri_typing.specs.declared.problem.Problem.{Problem}
-use Rattle.encoding.specs.Problems.{problem_root}
 use Rattle.answers.specs.Answer.{Answer, line, says_line, unknown_answer}
 use Rattle.constraint_text.specs.Constraint.{IsTextOf}
 use Rattle.constraint_lines.specs.Lines.{valued_lines}
@@ -15,6 +14,8 @@ use Rattle.interpolant_lines.specs.Blocks.{IsBlocksText}
 use Rattle.problem_file.specs.Answers.{AnswersFile}
 use Rattle.problem_file.specs.Encoded.{AnswersEncoded}
 use Rattle.solve_job.specs.Explained.{AnswersSaturated}
+-- how the canonical run on the encoded problem ends
+pub use Rattle.countermodel.specs.Explaining.{run_end}
 
 -- the answer that a problem with existential constants is valid, with a constraint and values
 abbrev pub valid_answer : Problem → List ℕ → List ℤ → Answer
@@ -35,10 +36,6 @@ pub data AnswersEnd (p : Problem) (end : Ending run.Answer) (answer : Answer) : 
   branch : (stands : At) → end ≡ ends_with run.too_long stands → answer ≡ unknown_answer (codes "branch") → AnswersEnd p end answer
   steps : (stands : At) → end ≡ out_of_steps stands → answer ≡ unknown_answer (codes "steps") → AnswersEnd p end answer
   overflow : (numbers : List Place) (stands : At) → end ≡ overflows numbers stands → answer ≡ unknown_answer (codes "overflow") → AnswersEnd p end answer
-
--- how the canonical run on the encoded problem ends with this budget
-abbrev pub run_end : ℕ → Problem → Ending run.Answer
-run_end budget p = ending (canonical_run (problem_root p).value (length p.existentials) budget) (at (record { budget = budget; spent = 0 }) [])
 
 -- the answer to a problem whose encoding fits
 abbrev pub AnswersRun : ℕ → Problem → Answer → Type 0
