@@ -12,11 +12,13 @@ proof_problem.py reads and encodes the problem, proof_elimination.py has the nor
     status 4   refused proof: ..    PROOF holds no text of a proof, or one that proves nothing of the problem
     status 5   refused words
     status 6   a file cannot be read
+    status 7   standard output took no more
     status 9   refused: file too long
 
 A file that the prover refuses is refused here. Name and place are the prover's for Syntax, Literal, Deep, Undeclared, Redeclared, Arity,
 Kind, NonLinear, Many and Large; for Parts, which concerns files with interpolants, they were tried less.
 """
+import os
 import re
 import sys
 import threading
@@ -489,19 +491,28 @@ def contents(name, most):
     return found.decode('latin-1')
 
 
+def put(text, status):
+    """Prints a text and returns the status; where standard output takes no more, the rest is dropped, and the status is 7."""
+    try:
+        sys.stdout.write(text)
+        sys.stdout.flush()
+        return status
+    except OSError:
+        os.dup2(os.open(os.devnull, os.O_WRONLY), sys.stdout.fileno())
+        return 7
+
+
 def main(words):
     """Prints the answer, and returns the status."""
     if '--help' in words:
-        print(__doc__.strip())
-        return 0
+        return put(__doc__.strip() + '\n', 0)
     try:
         if len(words) != 2:
             raise Refusal(5, 'refused words')
         status, text = checked(contents(words[0], MOST_FILE), contents(words[1], MOST_PROOF))
     except Refusal as refusal:
         status, text = refusal.status, refusal.text and refusal.text + '\n'
-    sys.stdout.write(text)
-    return status
+    return put(text, status)
 
 
 def run(job):

@@ -4,6 +4,7 @@
 
 BEGIN {
     FILE = ENVIRON["FILE"]; PROOF = ENVIRON["PROOF"]; status = ENVIRON["STATUS"] + 0; command = ENVIRON["COMMAND"]
+    FILE_PATH = path_of(FILE, ENVIRON["FILE_COPY"]); PROOF_PATH = path_of(PROOF, ENVIRON["PROOF_COPY"])
     answer = ENVIRON["ANSWER"]
     read_sentences(ENVIRON["MESSAGES"])
     make_tables()
@@ -31,11 +32,14 @@ function read_sentences(from,    line, colon) {
 
 # A sentence with its places filled in: {t}, {p}, {a}, {b}, {line}.
 function sentence(name, key,    text) {
-    text = say[name " " key]
+    text = named_docs(say[name " " key])
     text = filled(text, "{t}", T_AT); text = filled(text, "{p}", P_AT); text = filled(text, "{line}", LINE)
     text = filled(text, "{a}", A); text = filled(text, "{b}", B)
     return text
 }
+
+# The documents where they are: below the folder to which they were installed, or in docs/.
+function named_docs(text) { return ENVIRON["DOCS"] == "" ? text : filled(text, "docs/", ENVIRON["DOCS"] "/") }
 
 function filled(text, hole, with,    at, done) {
     while (at = index(text, hole)) {
@@ -66,11 +70,29 @@ function tell_unknown_check() {
     print FILE ": note: unknown: " sentence("script", "unknown")
 }
 
-function tell_interpolants(    rows, i, count) {
+# The lines of the \interpolant blocks: which of them has no formula and why, at the sign between the two sets that it belongs to.
+function tell_interpolants(    rows, i, count, total, at, number) {
     A = budget()
     count = split(answer, rows, "\n")
-    for (i = 1; i <= count && rows[i] != "proof:"; i++)
-        if (rows[i] ~ /^interpolant unknown: /) print FILE ": note: " sentence("interpolant", substr(rows[i], 22))
+    for (i = 1; i <= count; i++) total += rows[i] ~ /^interpolant/
+    read_lines(FILE_PATH); scan()
+    for (i = 1; i <= count; i++) {
+        if (rows[i] !~ /^interpolant/) continue
+        at = next_cut(at); number++
+        if (rows[i] ~ /^interpolant unknown: /)
+            tell_at(FILE, at <= n ? P[at] : -1, "note: interpolant " number " of " total, sentence("interpolant", substr(rows[i], 22)))
+    }
+}
+
+# The first ; behind token k that stands in an \interpolant block.
+function next_cut(k,    is_inside) {
+    is_inside = k > 0
+    for (k++; k <= n; k++) {
+        if (T[k] == "\\interpolant") is_inside = 1
+        else if (T[k] == "}") is_inside = 0
+        else if (T[k] == ";" && is_inside) break
+    }
+    return k
 }
 
 # --- Refused proofs ---
@@ -78,7 +100,7 @@ function tell_interpolants(    rows, i, count) {
 function tell_proof(    words, name, place, key, i) {
     split(answer, words, " ")
     name = words[3]; place = words[4] == "at" ? words[5] : words[4]
-    read_lines(PROOF)
+    if (is_lost(PROOF_PATH, place)) { A = place; print PROOF ": error: " name ": " sentence("place", name ~ /^(Syntax|Deep)$/ ? "lost" : "node"); return }
     A = FILE
     if (name == "Syntax" || name == "Deep") {
         key = name
@@ -113,7 +135,7 @@ function rest_of_node(i,    owed, log_line) {
         else if (L[i] ~ /^log/ && owed == 1) log_line = i
         else if (L[i] ~ /^gives /) { if (--owed == 0) break }
     }
-    return "; " (log_line ? "its log is line " log_line " and " : "") "its constraint line " i
+    return "; " (log_line ? "its log is line " log_line " and its constraint line " : "its constraint is line ") i
 }
 
 # --- Words, files, limits ---
@@ -138,7 +160,8 @@ function words_key(words, count,    i, files, seen, is_over) {
             B = "--budget"
             if (B in seen) return "twice"
             if ((words[i] ~ /^--budget=/ ? substr(words[i], 10) : words[++i]) !~ /^[0-9]+$/) return "budget"
-        } else if (A != "solve" || B !~ /^--(proof|short)$/) return A == "least" ? "term-dash" : "option"
+        } else if (B == "--quiet") return "quiet"
+        else if (A != "solve" || B !~ /^--(proof|short)$/) return A == "least" ? "term-dash" : "option"
         if (B in seen) return "twice"
         seen[B] = 1
     }
@@ -164,8 +187,9 @@ function tell_unread(    why) {
     else print FILE ": error: " sentence("file", why)
 }
 
-function tell_long() {
-    read_lines(FILE)
-    A = bytes > 1048576 ? "1,048,576" : "67,108,864"
-    print (bytes > 1048576 ? FILE : PROOF) ": error: " sentence("file", "long")
+function tell_long(    is_problem) {
+    read_lines(FILE_PATH)
+    is_problem = command != "check" || bytes > 1048576
+    A = is_problem ? "1,048,576" : "67,108,864"
+    print (is_problem ? FILE : PROOF) ": error: " sentence("file", "long")
 }

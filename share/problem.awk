@@ -26,12 +26,12 @@ function make_tables() {
     sign_of["\302\240"] = "as a blank"
 }
 
-# A name that getline takes for a file, also where it is - alone.
-function path_of(name) { return name ~ /\// ? name : "./" name }
+# What to read for a name: the copy of what can be read only once, or the file, by a name that getline takes for one.
+function path_of(name, copy) { return copy != "" ? copy : name ~ /\// ? name : "./" name }
 
 # Reads a file: L has its lines, S the offset of each, `lines` is how many, `bytes` the length.
-function read_lines(name,    path, line) {
-    path = path_of(name); lines = 0; bytes = 0
+function read_lines(path,    line) {
+    lines = 0; bytes = 0
     while ((getline line < path) > 0) {
         lines++; L[lines] = line; S[lines] = bytes
         bytes += length(line) + 1
@@ -40,14 +40,20 @@ function read_lines(name,    path, line) {
     return lines
 }
 
+# Whether what was read once cannot be read again, since there is no copy.
+function is_lost(path, place) { return !read_lines(path) && (place != 0 || path == "/dev/null") }
+
 # Where a byte is, by line and column, with that line and a mark below the place. At most 140 bytes of the line are shown, without
 # control characters; a byte that goes on a character of several bytes takes no column.
-function tell_place(name, place, kind, text,    i, column, before, from, shown) {
+function tell_place(name, place, kind, text) { tell_at(name, place, "error: " kind, text) }
+
+function tell_at(name, place, kind, text,    i, column, before, from, shown) {
+    if (place < 0) { print name ": " kind ": " text; return }
     i = 1
     while (i <= lines && place > S[i] + length(L[i])) i++
     column = i <= lines ? place - S[i] + 1 : 1
     before = substr(L[i], 1, column - 1); gsub(/[\200-\277]/, "", before)
-    printf "%s:%d:%d: error: %s: %s\n", name, i, length(before) + 1, kind, text
+    printf "%s:%d:%d: %s: %s\n", name, i, length(before) + 1, kind, text
     from = column > 70 ? column - 70 : 1
     shown = substr(L[i], from, 140); gsub(/[\001-\010\013-\037\177]/, " ", shown)
     before = substr(L[i], from, column - from); gsub(/[\200-\277]/, "", before); gsub(/[^\t]/, " ", before)

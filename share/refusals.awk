@@ -4,7 +4,7 @@ function tell_refusal(    words, name, place, k, key) {
     split(answer, words, " ")
     name = words[2]; place = words[4]
     if (place == "") { print FILE ": error: " name ": " sentence(name, name == "Large" ? "formula" : "term"); return }
-    if (!read_lines(FILE) && place != 0) return
+    if (is_lost(FILE_PATH, place)) { A = place; print FILE ": error: " name ": " sentence("place", "lost"); return }
     scan()
     for (k = 1; k <= n && P[k] < place; k++) ;
     look_around(k); read_declarations()
@@ -27,7 +27,7 @@ function tell_refusal(    words, name, place, k, key) {
 function shown_token(text) { return length(text) > 40 ? substr(text, 1, 40) ".." : text }
 
 function syntax_key(k,    key) {
-    if (T[1] == "(" && T[2] ~ /^(set|declare|define|assert|check|push|get|exit)$/) return "smtlib"
+    if (begins_script()) return "smtlib"
     if (T[1] ~ /^(fof|tff|cnf|thf|include)$/ && T[2] == "(") return "tptp"
     if (k > n) return end_key()
     if (K[k] == "bad") return bad_key(k)
@@ -37,6 +37,12 @@ function syntax_key(k,    key) {
     if (block == "\\interpolant") return "interpolant-sets"
     if (block != "\\problem") return declaration_key(k)
     return problem_key(k)
+}
+
+# Whether the first line that is neither blank nor a comment of SMT-LIB begins with one of its commands.
+function begins_script(    i) {
+    for (i = 1; i <= lines && L[i] ~ /^[ \t\r]*(;|$)/; i++) ;
+    return L[i] ~ /^[ \t]*\([ \t]*(set-|declare-|define-|get-|check-sat|assert|push|pop|echo|exit|reset)/
 }
 
 function end_key() {
@@ -200,12 +206,9 @@ function kind_key(k,    next_one) {
 }
 
 function parts_key(k,    i, is_named) {
+    for (i in D) if (DB[i] == "\\existentialConstants") return block == "\\problem" && T[k] != "\\part" ? "existential-unnamed" : "existential"
     if (T[k] == "\\part") return "no-component"
-    if (T[k] == "\\interpolant") {
-        for (i in D) if (DB[i] == "\\existentialConstants") return "existential"
-        A = left_out(k)
-        return "missing"
-    }
+    if (T[k] == "\\interpolant") { A = left_out(k); return "missing" }
     if (block != "\\interpolant") return "unnamed"
     for (i = 1; i <= n; i++) if (T[i] == "\\part" && T[i + 2] == T[k]) is_named = 1
     return is_named ? "twice" : "unknown"

@@ -21,8 +21,8 @@ An answer `safe` has an invariant. Its three obligations (it holds at the start,
 proved by `solve --proof`, and `check` accepts each proof. A trace is put into the system again and proved to be a path.
 
 Each question has a budget of steps, 5,000,000 where none is given; one that it does not answer is passed over. --keep leaves all
-questions and proofs in a folder. Prints `safe: HOW` and `invariant: F`, or `unsafe: N steps` and the states, or `unknown: WHY`; the status is 0, 1 or 2, and 3 where the
-file or the words are wrong.
+questions and proofs in a folder. Prints `safe: HOW` and `invariant: F`, or `unsafe: N steps` and the states, or `unknown: WHY`; the
+status is 0, 1 or 2. It is 3 where the file or the words are wrong: standard error then has the section, the line and the fault.
 """
 import os
 import re
@@ -36,37 +36,64 @@ TOKEN = re.compile(r"[A-Za-z_][A-Za-z0-9_]*'?|\\[A-Za-z]+|[0-9]+|<->|->|!=|<=|>=
 
 
 class Wrong(Exception):
-    """The words or the system's file are wrong."""
+    """The words are wrong, or the file has no system."""
+
+
+class Fault(Exception):
+    """A section of the system's file is wrong, at a place: a line and a column."""
+
+    def __init__(self, why, section, place=None):
+        super().__init__(f'error: {section.name}: {why}')
+        self.place = place or section.place
 
 
 class NoAnswer(Exception):
     """The prover answered UNKNOWN or refused a question."""
 
 
+def place_in(text, offset):
+    """The line and the column of a character."""
+    return text.count('\n', 0, offset) + 1, offset - text.rfind('\n', 0, offset)
+
+
+class Section:
+    """A section of a system's file, where its word stands, and its tokens with their places."""
+
+    def __init__(self, word, text):
+        """`word` is the match of the section's word in the text, which ends with the section."""
+        self.name, self.place, self.text = word.group(), place_in(text, word.start()), text[word.end():].strip()
+        found = list(TOKEN.finditer(text, word.end()))
+        self.tokens = [match.group() for match in found]
+        self.places = [place_in(text, match.start()) for match in found]
+
+
 class System:
     """Variables, and three formulas over them as lists of tokens."""
 
     def __init__(self, text):
-        parts = sections_of(text)
-        self.variables = [name.strip() for name in parts['variables'].split(',')]
+        self.sections = sections_of(text)
+        section = self.sections['variables']
+        self.variables = [name.strip() for name in section.text.split(',')]
         for name in self.variables:
             if not re.fullmatch(r'[A-Za-z][A-Za-z0-9_]*', name) or re.fullmatch(r'k[0-9]+', name):
-                raise Wrong(f'{name!r} is no name of a variable; k0, k1 and so on are names that the prover binds')
-        self.init = self.tokens(parts['init'], primes=False)
-        self.next = self.tokens(parts['next'], primes=True)
-        self.property = self.tokens(parts['property'], primes=False)
+                raise Fault(f'{name!r} is no name of a variable; k0, k1 and so on are names that the prover binds', section)
+            if self.variables.count(name) > 1:
+                raise Fault(f'{name} comes twice', section)
+        self.init = self.tokens('init', primes=False)
+        self.next = self.tokens('next', primes=True)
+        self.property = self.tokens('property', primes=False)
 
-    def tokens(self, text, primes):
-        found, binds = TOKEN.findall(text), False
-        for token in found:
+    def tokens(self, name, primes):
+        section, binds = self.sections[name], False
+        for place, token in zip(section.places, section.tokens):
             binds = token in ('int', 'nat') or binds and token not in (';', ')')
             if binds and token in self.variables:
-                raise Wrong(f'a quantifier binds the variable {token}')
+                raise Fault(f'a quantifier binds the variable {token}', section, place)
             if re.sub(r'_[0-9]+$', '', token) in self.variables and token not in self.variables:
-                raise Wrong(f'{token} is how {re.sub("_[0-9]+$", "", token)} is called at a state')
+                raise Fault(f'{token} is how {re.sub("_[0-9]+$", "", token)} is called at a state', section, place)
             if token.endswith("'") and (not primes or token[:-1] not in self.variables):
-                raise Wrong(f'{token} stands where no variable behind a step can stand')
-        return found
+                raise Fault(f'{token} stands where no variable behind a step can stand', section, place)
+        return section.tokens
 
     def at(self, tokens, place):
         """A formula at the state with a number: x is x_3 and x' is x_4 at 3."""
@@ -92,10 +119,11 @@ class System:
 
 def sections_of(text):
     text = re.sub(r'//[^\n]*', '', text)
-    found = re.split(r'^(' + '|'.join(SECTIONS) + r')\b', text, flags=re.MULTILINE)
-    if found[0].strip() or sorted(found[1::2]) != sorted(SECTIONS):
-        raise Wrong('a system has the sections ' + ', '.join(SECTIONS) + ', each once')
-    return dict(zip(found[1::2], (part.strip() for part in found[2::2])))
+    words = list(re.finditer(r'^(' + '|'.join(SECTIONS) + r')\b', text, flags=re.MULTILINE))
+    if text[:words[0].start() if words else len(text)].strip() or sorted(word.group() for word in words) != sorted(SECTIONS):
+        raise Wrong('a system has the sections ' + ', '.join(SECTIONS) + ', each once and each at the start of a line')
+    ends = [word.start() for word in words[1:]] + [len(text)]
+    return {word.group(): Section(word, text[:end]) for word, end in zip(words, ends)}
 
 
 class Prover:
@@ -105,9 +133,13 @@ class Prover:
         self.program, self.budget, self.folder, self.asked = program, budget, folder, 0
 
     def run(self, *words):
+        return self.said(*words, quiet='1')[0]
+
+    def said(self, *words, quiet=''):
+        """The lines on standard output and those on standard error."""
         done = subprocess.run([self.program, *words], capture_output=True, text=True, check=False,
-                              env=dict(os.environ, PRINCESS_QUIET='1'))
-        return done.stdout.splitlines()
+                              env=dict(os.environ, PRINCESS_QUIET=quiet))
+        return done.stdout.splitlines(), done.stderr.splitlines()
 
     def write(self, text, suffix='.pri'):
         self.asked += 1
@@ -145,6 +177,46 @@ class Prover:
 
 def universal(names, formula):
     return f'\\universalConstants {{ int {", ".join(names)}; }}\n\\problem {{ {formula} }}\n'
+
+
+def question_of(system, section):
+    """A question about the formula of a section alone, line by line as in the system's file, and where its pieces begin, each with its
+    place in that file. What stands together there stands together here; x' is called x_1."""
+    names = system.variables + ([f'{name}_1' for name in system.variables] if section.name == 'next' else [])
+    declared = f'\\universalConstants {{ int {", ".join(names)}; }}'
+    pieces, behind = [(system.sections['variables'].place, declared, ' '), (section.place, '\\problem {', ' ')], None
+    for place, token in zip(section.places, section.tokens):
+        pieces.append((place, re.sub(r"(?<=\w)'$", '_1', token), '' if place == behind else ' '))
+        behind = place[0], place[1] + len(token)
+    pieces.append((pieces[-1][0], '}', ' '))
+    text, starts, line = '', [], 1
+    for place, piece, blank in sorted(pieces, key=lambda piece: piece[0][0]):
+        text += '\n' * (place[0] - line) or blank
+        starts.append((len(text), place))
+        text, line = text + piece, place[0]
+    return text + '\n', starts
+
+
+def try_section(system, prover, section):
+    """Refuses a system whose formula in a section the prover refuses, with the place of the fault in the system's file."""
+    if not section.tokens:
+        raise Fault('there is no formula', section)
+    text, starts = question_of(system, section)
+    lines, said = prover.said('solve', prover.write(text), '--budget', '1')
+    if not lines:
+        raise Wrong(said[0] if said else f'{prover.program} gives no answer')
+    refusal = re.fullmatch(r'refused: (\w+)(?: at ([0-9]+))?', lines[0])
+    if refusal:
+        name, at = refusal.groups()
+        place = section.place if at is None else [place for start, place in starts if start <= int(at)][-1]
+        raise Fault(name + ''.join(f': {sentence}' for sentence in sentences(system, said[:1])), section, place)
+
+
+def sentences(system, lines):
+    """What the prover's launcher says of a refusal, in words of the system's file; a prover without it says nothing."""
+    for line in lines:
+        text = re.sub(r'.*?: error: \w+: ', '', line).replace('\\universalConstants', 'variables')
+        yield re.sub(r'\b(' + '|'.join(system.variables) + r')_1\b', r"\1'", text)
 
 
 def both(formulas):
@@ -280,14 +352,20 @@ def printed(tokens):
     return re.sub(r'(\w) \* (\w)', r'\1*\2', text)
 
 
+def number_of(word, option, most):
+    if not re.fullmatch('[0-9]{1,10}', word) or int(word) > most:
+        raise Wrong(f'{option} takes a number up to {most:,}')
+    return int(word)
+
+
 def words_of(arguments):
-    system, depth, budget, prover, keep = None, 10, '5000000', os.path.join(HERE, '..', '..', 'princess'), None
+    system, depth, budget, prover, keep = None, 10, 5000000, os.path.join(HERE, '..', '..', 'princess'), None
     words = iter(arguments)
     for word in words:
         if word == '--depth':
-            depth = int(next(words, '10'))
+            depth = number_of(next(words, ''), word, 1000)
         elif word == '--budget':
-            budget = next(words, budget)
+            budget = max(1, number_of(next(words, ''), word, 1000000000))
         elif word == '--prover':
             prover = next(words, prover)
         elif word == '--keep':
@@ -295,31 +373,55 @@ def words_of(arguments):
         elif system is None and not word.startswith('-'):
             system = word
         else:
-            raise Wrong(f'{word} cannot stand here')
+            raise Wrong(f'{word} cannot stand here; --help says what can')
     if system is None:
-        raise Wrong('no system is given')
-    return system, depth, prover, budget, keep
+        raise Wrong('no system is given; --help says what one is')
+    return system, depth, prover, str(budget), keep
 
 
-def main():
+def system_in(name):
     try:
-        name, depth, program, budget, keep = words_of(sys.argv[1:])
         with open(name, encoding='ascii') as file:
-            system = System(file.read())
-    except (Wrong, OSError, ValueError) as wrong:
-        print(f'model_checker: {wrong}', file=sys.stderr)
-        return 3
+            return System(file.read())
+    except UnicodeDecodeError as error:
+        raise Wrong(f'{name}: a system is written in ASCII, and byte {error.start} is none') from None
+
+
+def answer_of(name, depth, program, budget, keep):
+    """The lines that answer for the system in a file, and the status."""
+    system = system_in(name)
     with tempfile.TemporaryDirectory() as folder:
         if keep:
             os.makedirs(keep, exist_ok=True)
         prover = Prover(program, budget, keep or folder)
+        for section in SECTIONS[1:]:
+            try_section(system, prover, system.sections[section])
         try:
-            lines, status = check(system, prover, depth)
+            return check(system, prover, depth)
         except NoAnswer as why:
-            lines, status = [f'unknown: {why}'], 2
-    print('\n'.join(lines))
-    return status
+            return [f'unknown: {why}'], 2
+
+
+def main(arguments):
+    words = []
+    try:
+        if '--help' in arguments or '-h' in arguments:
+            lines, status = __doc__.strip().split('\n'), 0
+        else:
+            words = words_of(arguments)
+            lines, status = answer_of(*words)
+        print('\n'.join(lines), flush=True)
+        return status
+    except Fault as fault:
+        print(f'{words[0]}:{fault.place[0]}:{fault.place[1]}: {fault}', file=sys.stderr)
+        return 3
+    except BrokenPipeError:
+        os.dup2(os.open(os.devnull, os.O_WRONLY), sys.stdout.fileno())
+        return status
+    except (Wrong, OSError) as wrong:
+        print(f'model_checker: {wrong}', file=sys.stderr)
+        return 3
 
 
 if __name__ == '__main__':
-    sys.exit(main())
+    sys.exit(main(sys.argv[1:]))

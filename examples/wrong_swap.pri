@@ -1,0 +1,21 @@
+// A wrong claim about a swap of two elements, at three different places. That the places differ makes the search short: it takes
+// 0.9 million steps.
+// $ ./princess solve examples/wrong_swap.pri
+// INVALID
+// counterexample:
+// i = 0
+// j = 1
+// k = -1
+// a(-1) = 0
+// a(0) = 1
+// a(1) = 0
+// b(-1) = 0
+// b(0) = 0
+// b(1) = 1
+\universalConstants { int i, j, k; }
+\functions { int a(int), b(int); }
+\problem {
+    i != j & i != k & j != k
+    & b(i) = a(j) & b(j) = a(i) & b(k) = a(k)    // b is a with the elements at i and j swapped
+    -> b(k) = a(i)
+}
