@@ -467,11 +467,11 @@ def behind_marker(text):
     return match.end() if match else 0
 
 
-def checked(problem_text, proof_text):
+def checked(problem_text, proof_tokens):
     """The status and the text of the answer to the texts of both files."""
     try:
         problem, formula = read_problem(problem_text)
-        proof = ProofReader(proof_text, behind_marker(proof_text)).read()
+        proof = ProofReader(proof_tokens, behind_marker(proof_tokens)).read()
         constraint = Checker(formula, len(problem.existentials), proof).check()
         return 0, answer(problem, proof, constraint)
     except Refusal as refusal:

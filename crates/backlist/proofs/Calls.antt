@@ -14,7 +14,7 @@ use Rattle.backlist.proofs.Trails.{bound_of, trail_push, last_stands}
 use Rattle.backlist.proofs.Rings.{added}
 use Rattle.backlist.specs.History.{push_of}
 use Rattle.backlist.specs.Cells.{IsFresh}
-use Rattle.backlist.specs.Links.{State, with_next, unlinked, Ring, last_place, first_place}
+use Rattle.backlist.specs.Links.{ListState, with_next, unlinked, Ring, last_place, first_place}
 use Rattle.backlist.specs.Trail.{IsTrail, IsEnd, next_cells, prev_cells, end_after}
 use Rattle.backlist.proofs.Ringed.{read, map_found}
 use Rattle.backlist.proofs.Found.{same_place_refl, same_place_eq}
@@ -37,11 +37,11 @@ module _ {T : Type 0} where
   pub one_node : (o : Option (Node T)) (m n : Node T) → o ≡ Some m → o ≡ Some n → m ≡ n
   one_node o m n d e = cc
 
-  pub ring_first : (s : State T) (is : List (Pos × T)) → Ring s None is → s.first ≡ first_place is
+  pub ring_first : (s : ListState T) (is : List (Pos × T)) → Ring s None is → s.first ≡ first_place is
   ring_first s [] r = r.0
   ring_first s (i ∷ is) r = r.0
 
-  module _ (cs : List (Change T)) (s : State T) (h : History T) (w : replay cs ≡ h) (t : IsTrail cs s) where
+  module _ (cs : List (Change T)) (s : ListState T) (h : History T) (w : replay cs ≡ h) (t : IsTrail cs s) where
     pub first_is : s.first ≡ first_place h.present
     first_is = ring_first s (replay cs).present (ring_of cs s t) ∙ ap (λ (g : History T). first_place g.present) w
 
@@ -78,14 +78,14 @@ module _ {T : Type 0} where
   abbrev pub marks : Bool → Option Pos → Node T → Node T
   marks y t n = record n { away = y; unlinked_after = t }
 
-  unlinked_is : (a : Option Pos) (p : Pos) (c : Option Pos) (s : State T)
+  unlinked_is : (a : Option Pos) (p : Pos) (c : Option Pos) (s : ListState T)
       → unlinked a p c s ≡ record { cells = update p.at (marks true s.top) (prev_cells c a (next_cells a c s.cells)); first = end_after a c s.first; last = end_after c a s.last; top = Some p }
   unlinked_is None p None s = refl
   unlinked_is None p (Some r) s = refl
   unlinked_is (Some q) p None s = refl
   unlinked_is (Some q) p (Some r) s = refl
 
-  module _ (cs : List (Change T)) (s : State T) (h : History T) (w : replay cs ≡ h) (t : IsTrail cs s) (p : Pos) (q : IsIn p h.present) (n : Node T) (e : find p.at s.cells ≡ Some n) where
+  module _ (cs : List (Change T)) (s : ListState T) (h : History T) (w : replay cs ≡ h) (t : IsTrail cs s) (p : Pos) (q : IsIn p h.present) (n : Node T) (e : find p.at s.cells ≡ Some n) where
     is : (replay cs).present ≡ q.0 ++ (p, q.1) ∷ q.2
     is = ap (λ (g : History T). g.present) w ∙ q.3
 
@@ -94,13 +94,13 @@ module _ {T : Type 0} where
     unlink_others xs v ys d =
         ap (without p) d ∙ (others s None xs (p, v) ys (subst (Ring s None) (ap (λ (g : History T). g.present) w ∙ d) (ring_of cs s t))).1
 
-    pub unlink_done : (ds : List (Change T)) (z : State T) → ds ≡ unlink_of p ∷ cs → z.cells ≡ update p.at (marks true s.top) (prev_cells n.next n.prev (next_cells n.prev n.next s.cells))
+    pub unlink_done : (ds : List (Change T)) (z : ListState T) → ds ≡ unlink_of p ∷ cs → z.cells ≡ update p.at (marks true s.top) (prev_cells n.next n.prev (next_cells n.prev n.next s.cells))
         → z.first ≡ end_after n.prev n.next s.first → z.last ≡ end_after n.next n.prev s.last → z.top ≡ Some p → IsTrail ds z
     unlink_done ds z d c f l o =
         let ea = prev_is cs s h w t p n e q.0 q.1 q.2 q.3 in let ec = next_is cs s h w t p n e q.0 q.1 q.2 q.3 in
         let whole : z ≡ unlinked (last_place None q.0) p (first_place q.2) s =
         (λ i. record { cells = c i; first = f i; last = l i; top = o i }) ∙ sym (unlinked_is n.prev p n.next s) ∙ (λ i. unlinked (ea i) p (ec i) s) in
-        subst (λ (x : List (Change T) × State T). IsTrail x.0 x.1) (λ i. (sym d i, sym whole i)) (trail_unlink cs s q.0 (p, q.1) q.2 t is)
+        subst (λ (x : List (Change T) × ListState T). IsTrail x.0 x.1) (λ i. (sym d i, sym whole i)) (trail_unlink cs s q.0 (p, q.1) q.2 t is)
 
     pub unlink_len : (ds : List (Change T)) (m : ℕ) → ds ≡ unlink_of p ∷ cs → m ≡ length (replay cs).present → m - 1 ≡ length (replay ds).present
     unlink_len ds m d k =
@@ -108,15 +108,15 @@ module _ {T : Type 0} where
         let gone : (replay ds).present ≡ q.0 ++ q.2 = ap (λ (x : List (Change T)). (replay x).present) d ∙ ap (without p) is ∙ o.1 in
         omega (arith, k, ap length is, ap length gone, length-append q.0 ((p, q.1) ∷ q.2), length-append q.0 q.2)
 
-  cells_next : (a b : Option Pos) (s : State T) → (with_next a b s).cells ≡ next_cells a b s.cells
+  cells_next : (a b : Option Pos) (s : ListState T) → (with_next a b s).cells ≡ next_cells a b s.cells
   cells_next None b s = refl
   cells_next (Some q) b s = refl
 
-  first_next : (a b : Option Pos) (s : State T) → (with_next a b s).first ≡ end_after a b s.first
+  first_next : (a b : Option Pos) (s : ListState T) → (with_next a b s).first ≡ end_after a b s.first
   first_next None b s = refl
   first_next (Some q) b s = refl
 
-  relinked_is : (a : Option Pos) (p : Pos) (c t : Option Pos) (s : State T)
+  relinked_is : (a : Option Pos) (p : Pos) (c t : Option Pos) (s : ListState T)
       → relinked a p c t s ≡ record { cells = next_cells a (Some p) (prev_cells c (Some p) (update p.at (marks false None) s.cells)); first = end_after a (Some p) s.first; last = end_after c (Some p) s.last; top = t }
   relinked_is None p None t s = refl
   relinked_is None p (Some r) t s = refl
@@ -124,33 +124,33 @@ module _ {T : Type 0} where
   relinked_is (Some q) p (Some r) t s = refl
 
   -- the last change is of the node at the top
-  pub record Last (cs : List (Change T)) (s : State T) (p : Pos) : Type 0 where
+  pub record Last (cs : List (Change T)) (s : ListState T) (p : Pos) : Type 0 where
     pub value : Option T
     pub older : List (Change T)
     pub is : cs ≡ record { place = p; value = value } ∷ older
-    pub state : State T
+    pub state : ListState T
     pub undone : IsUndone (record { place = p; value = value }) (replay older).present s state
     pub trail : IsTrail older state
 
-  pub last_change : (cs : List (Change T)) (s : State T) → IsTrail cs s → (p : Pos) → s.top ≡ Some p → Last cs s p
-  last_change [] s t p e = let no : None ≡ Some p = sym (ap (λ (x : State T). x.top) t) ∙ e in cc
+  pub last_change : (cs : List (Change T)) (s : ListState T) → IsTrail cs s → (p : Pos) → s.top ≡ Some p → Last cs s p
+  last_change [] s t p e = let no : None ≡ Some p = sym (ap (λ (x : ListState T). x.top) t) ∙ e in cc
   last_change (k ∷ ks) s t p e =
       let same : k.place ≡ p = some_pos k.place p (sym t.0 ∙ e) in
       record { value = k.value; older = ks; is = (λ i. record { place = same i; value = k.value } ∷ ks); state = t.3; undone = subst (λ x. IsUndone (record { place = x; value = k.value }) (replay ks).present s t.3) same t.4; trail = t.5 }
 
-  node_of : (p : Pos) (o : Option T) (is : List (Pos × T)) (s e : State T) → IsUndone (record { place = p; value = o }) is s e → (n : Node T) × (find p.at s.cells ≡ Some n)
+  node_of : (p : Pos) (o : Option T) (is : List (Pos × T)) (s e : ListState T) → IsUndone (record { place = p; value = o }) is s e → (n : Node T) × (find p.at s.cells ≡ Some n)
   node_of p (Some v) as' s e u = (u.node, u.at)
   node_of p None as' s e u = (u.node, u.at)
 
-  as_unlinked : (p : Pos) (o : Option T) (is : List (Pos × T)) (s e : State T) → IsUndone (record { place = p; value = o }) is s e → (n : Node T) → find p.at s.cells ≡ Some n → n.away ≡ true → IsUnlinked p is s e × (o ≡ None)
+  as_unlinked : (p : Pos) (o : Option T) (is : List (Pos × T)) (s e : ListState T) → IsUndone (record { place = p; value = o }) is s e → (n : Node T) → find p.at s.cells ≡ Some n → n.away ≡ true → IsUnlinked p is s e × (o ≡ None)
   as_unlinked p (Some v) as' s e u n at y = let no : true ≡ false = sym y ∙ ap (λ (m : Node T). m.away) (one_node _ n u.node at u.at) ∙ u.here in cc
   as_unlinked p None as' s e u n at y = (u, refl)
 
-  as_pushed : (p : Pos) (o : Option T) (is : List (Pos × T)) (s e : State T) → IsUndone (record { place = p; value = o }) is s e → (n : Node T) → find p.at s.cells ≡ Some n → n.away ≡ false → (v : T) × IsPushed p v s e × (o ≡ Some v)
+  as_pushed : (p : Pos) (o : Option T) (is : List (Pos × T)) (s e : ListState T) → IsUndone (record { place = p; value = o }) is s e → (n : Node T) → find p.at s.cells ≡ Some n → n.away ≡ false → (v : T) × IsPushed p v s e × (o ≡ Some v)
   as_pushed p (Some v) as' s e u n at y = (v, u, refl)
   as_pushed p None as' s e u n at y = let no : true ≡ false = sym u.away ∙ ap (λ (m : Node T). m.away) (one_node _ u.node n u.at at) ∙ y in cc
 
-  module _ (cs : List (Change T)) (s : State T) (t : IsTrail cs s) (p : Pos) (top : s.top ≡ Some p) where
+  module _ (cs : List (Change T)) (s : ListState T) (t : IsTrail cs s) (p : Pos) (top : s.top ≡ Some p) where
     abbrev pub k : Last cs s p
     k = last_change cs s t p top
 
@@ -174,12 +174,12 @@ module _ {T : Type 0} where
         pub back_behind : IsEnd s.cells n.next
         back_behind = subst (λ (m : Node T). IsEnd s.cells m.next) same u.0.after
 
-        pub unlink_undone : (ds : List (Change T)) (c : Change T) (z : State T) → cs ≡ c ∷ ds
+        pub unlink_undone : (ds : List (Change T)) (c : Change T) (z : ListState T) → cs ≡ c ∷ ds
             → z.cells ≡ next_cells n.prev (Some p) (prev_cells n.next (Some p) (update p.at (marks false None) s.cells)) → z.first ≡ end_after n.prev (Some p) s.first → z.last ≡ end_after n.next (Some p) s.last → z.top ≡ n.unlinked_after → IsTrail ds z
         unlink_undone ds c z d f g l o =
             let older : ds ≡ k.older = tail_is _ _ ds k.older (sym d ∙ k.is) in
             let whole : z ≡ k.state = (λ i. record { cells = f i; first = g i; last = l i; top = o i }) ∙ sym (relinked_is n.prev p n.next n.unlinked_after s) ∙ sym (λ i. relinked (same i).prev p (same i).next (same i).unlinked_after s) ∙ u.0.back in
-            subst (λ (x : List (Change T) × State T). IsTrail x.0 x.1) (λ i. (sym older i, sym whole i)) k.trail
+            subst (λ (x : List (Change T) × ListState T). IsTrail x.0 x.1) (λ i. (sym older i, sym whole i)) k.trail
 
         pub unlink_undone_len : (ds : List (Change T)) (c : Change T) (m : ℕ) → cs ≡ c ∷ ds → m ≡ length (replay cs).present → (m + 1 ≡ length (replay ds).present) × (m + 1 < 2 ^ 64)
         unlink_undone_len ds c m d w =
@@ -202,21 +202,21 @@ module _ {T : Type 0} where
         whole_is = subst (λ (m : Node T). with_next m.prev None s ≡ record { cells = cell p.at m ∷ k.state.cells; first = k.state.first; last = Some p; top = Some p }) alike v.1.gone
 
         pub push_cells : next_cells n.prev None s.cells ≡ cell p.at n ∷ k.state.cells
-        push_cells = sym (cells_next n.prev None s) ∙ ap (λ (x : State T). x.cells) whole_is
+        push_cells = sym (cells_next n.prev None s) ∙ ap (λ (x : ListState T). x.cells) whole_is
 
         pub push_taken : (cells : List (Cell (Node T))) → cells ≡ next_cells n.prev None s.cells → (m : Node T) × (rest : List (Cell (Node T))) × (cells ≡ cell p.at m ∷ rest)
         push_taken cells w = (n, k.state.cells, w ∙ push_cells)
 
-        pub push_undone : (ds : List (Change T)) (c : Change T) (z : State T) (m : Node T) (cells : List (Cell (Node T))) → cs ≡ c ∷ ds → cells ≡ next_cells n.prev None s.cells → cells ≡ cell p.at m ∷ z.cells
+        pub push_undone : (ds : List (Change T)) (c : Change T) (z : ListState T) (m : Node T) (cells : List (Cell (Node T))) → cs ≡ c ∷ ds → cells ≡ next_cells n.prev None s.cells → cells ≡ cell p.at m ∷ z.cells
             → z.first ≡ end_after n.prev None s.first → z.last ≡ n.prev → z.top ≡ n.pushed_after → IsTrail ds z
         push_undone ds c z m cells d w f g l o =
             let older : ds ≡ k.older = tail_is _ _ ds k.older (sym d ∙ k.is) in
             let both : cell p.at m ∷ z.cells ≡ cell p.at n ∷ k.state.cells = sym f ∙ w ∙ push_cells in
             let rest : z.cells ≡ k.state.cells = tail_is _ _ z.cells k.state.cells both in
-            let first : z.first ≡ k.state.first = g ∙ sym (first_next n.prev None s) ∙ ap (λ (x : State T). x.first) whole_is in
+            let first : z.first ≡ k.state.first = g ∙ sym (first_next n.prev None s) ∙ ap (λ (x : ListState T). x.first) whole_is in
             let last : z.last ≡ k.state.last = l ∙ ap (λ (x : Node T). x.prev) (sym alike) ∙ sym v.1.last in
             let newest : z.top ≡ k.state.top = o ∙ ap (λ (x : Node T). x.pushed_after) (sym alike) ∙ sym v.1.top in
-            subst (λ (x : List (Change T) × State T). IsTrail x.0 x.1) (λ i. (sym older i, record { cells = sym rest i; first = sym first i; last = sym last i; top = sym newest i })) k.trail
+            subst (λ (x : List (Change T) × ListState T). IsTrail x.0 x.1) (λ i. (sym older i, record { cells = sym rest i; first = sym first i; last = sym last i; top = sym newest i })) k.trail
 
         pub push_undone_len : (ds : List (Change T)) (c : Change T) (m : ℕ) → cs ≡ c ∷ ds → m ≡ length (replay cs).present → (m - 1 ≡ length (replay ds).present) × (1 ≤ m)
         push_undone_len ds c m d w =
@@ -226,28 +226,28 @@ module _ {T : Type 0} where
             let shorter : m - 1 ≡ length (replay k.older).present = omega (arith, longer) in
             (shorter ∙ ap (λ (x : List (Change T)). length (replay x).present) (sym older), omega (arith, longer))
 
-  joined_is : (a : Option Pos) (p : Pos) (n : Node T) (s : State T) → with_next a (Some p) (added p n s) ≡ record { cells = next_cells a (Some p) (cell p.at n ∷ s.cells); first = end_after a (Some p) s.first; last = Some p; top = Some p }
+  joined_is : (a : Option Pos) (p : Pos) (n : Node T) (s : ListState T) → with_next a (Some p) (added p n s) ≡ record { cells = next_cells a (Some p) (cell p.at n ∷ s.cells); first = end_after a (Some p) s.first; last = Some p; top = Some p }
   joined_is None p n s = refl
   joined_is (Some q) p n s = refl
 
-  module _ (cs : List (Change T)) (s : State T) (t : IsTrail cs s) (p : Pos) (f : IsFresh p.at s.cells) where
+  module _ (cs : List (Change T)) (s : ListState T) (t : IsTrail cs s) (p : Pos) (f : IsFresh p.at s.cells) where
     pub end_last : (n : Node T) (cells : List (Cell (Node T))) → cells ≡ cell p.at n ∷ s.cells → IsEnd cells s.last
     end_last n cells w = subst (λ c. IsEnd c s.last) (sym w) (last_stands cs s t p n f)
 
-    pub push_done : (ds : List (Change T)) (z : State T) (n : Node T) (v : T) (cells : List (Cell (Node T))) → ds ≡ push_of p v ∷ cs → n.value ≡ v → cells ≡ cell p.at n ∷ s.cells → z.cells ≡ next_cells s.last (Some p) cells
+    pub push_done : (ds : List (Change T)) (z : ListState T) (n : Node T) (v : T) (cells : List (Cell (Node T))) → ds ≡ push_of p v ∷ cs → n.value ≡ v → cells ≡ cell p.at n ∷ s.cells → z.cells ≡ next_cells s.last (Some p) cells
         → z.first ≡ end_after s.last (Some p) s.first → z.last ≡ Some p → z.top ≡ Some p
         → n.prev ≡ s.last → n.next ≡ None → n.pushed_after ≡ s.top → n.away ≡ false → n.unlinked_after ≡ None → length (replay cs).present + 1 < 2 ^ 64 → IsTrail ds z
     push_done ds z n v cells d is_v w c g l o e_prev e_next e_top h k short =
         let whole : z ≡ with_next s.last (Some p) (added p n s) = (λ i. record { cells = (c ∙ ap (next_cells s.last (Some p)) w) i; first = g i; last = l i; top = o i }) ∙ sym (joined_is s.last p n s) in
         let log : ds ≡ push_of p n.value ∷ cs = d ∙ (λ i. push_of p (sym is_v i) ∷ cs) in
-        subst (λ (x : List (Change T) × State T). IsTrail x.0 x.1) (λ i. (sym log i, sym whole i)) (trail_push cs s p n t f e_prev e_next e_top h k short)
+        subst (λ (x : List (Change T) × ListState T). IsTrail x.0 x.1) (λ i. (sym log i, sym whole i)) (trail_push cs s p n t f e_prev e_next e_top h k short)
 
     pub push_len : (ds : List (Change T)) (v : T) (m : ℕ) → ds ≡ push_of p v ∷ cs → m ≡ length (replay cs).present → m + 1 ≡ length (replay ds).present
     push_len ds v m d w =
         let now : (replay ds).present ≡ (replay cs).present ++ (p, v) ∷ [] = ap (λ (x : List (Change T)). (replay x).present) d in
         omega (arith, w, ap length now, length-append (replay cs).present ((p, v) ∷ []))
 
-  pub no_top : (cs : List (Change T)) (s : State T) → IsTrail cs s → (h : History T) → replay cs ≡ h → 0 < length h.earlier → s.top ≡ None → ⊥
+  pub no_top : (cs : List (Change T)) (s : ListState T) → IsTrail cs s → (h : History T) → replay cs ≡ h → 0 < length h.earlier → s.top ≡ None → ⊥
   no_top [] s t h w l e = let none : length h.earlier ≡ 0 = ap (λ (g : History T). length g.earlier) (sym w) in omega (arith, l, none)
   no_top (c ∷ cs) s t h w l e = let both : Some c.place ≡ None = sym t.0 ∙ e in cc
 
@@ -259,7 +259,7 @@ module _ {T : Type 0} where
   pub pushed_value : (a b : Option Pos) (p : Pos) (n : Node T) (cs cells : List (Cell (Node T))) (m : Node T) → cells ≡ next_cells a b (cell p.at n ∷ cs) → find p.at cells ≡ Some m → m.value ≡ n.value
   pushed_value a b p n cs cells m w e = sym (read (λ (x : Node T). x.value) _ m n.value (ap (find p.at) (sym w) ∙ e)) ∙ value_kept a b p n cs ∙ read (λ (x : Node T). x.value) _ n n.value (λ i. cond (same_place_refl p.at i) (Some n) (find p.at cs))
 
-  module _ (cs : List (Change T)) (s : State T) (t : IsTrail cs s) (h : History T) (w : replay cs ≡ h) where
+  module _ (cs : List (Change T)) (s : ListState T) (t : IsTrail cs s) (h : History T) (w : replay cs ≡ h) where
     none_empty : h.earlier ≡ [] → cs ≡ []
     none_empty e = (elim cs as (λ (ds : List (Change T)). replay ds ≡ h → ds ≡ []) [
       | [] ↦ λ v. refl
@@ -268,13 +268,13 @@ module _ {T : Type 0} where
 
     -- with no earlier list no node is left
     pub all_freed : h.earlier ≡ [] → s.cells ≡ []
-    all_freed e = ap (λ (x : State T). x.cells) (subst (λ (ds : List (Change T)). IsTrail ds s) (none_empty e) t)
+    all_freed e = ap (λ (x : ListState T). x.cells) (subst (λ (ds : List (Change T)). IsTrail ds s) (none_empty e) t)
 
-  pub some_earlier : (cs : List (Change T)) (s : State T) → IsTrail cs s → (h : History T) → replay cs ≡ h → is_some_of s.top ≡ true → 0 < length h.earlier
-  some_earlier [] s t h w e = let no : false ≡ true = sym (ap (λ (x : State T). is_some_of x.top) t) ∙ e in cc
+  pub some_earlier : (cs : List (Change T)) (s : ListState T) → IsTrail cs s → (h : History T) → replay cs ≡ h → is_some_of s.top ≡ true → 0 < length h.earlier
+  some_earlier [] s t h w e = let no : false ≡ true = sym (ap (λ (x : ListState T). is_some_of x.top) t) ∙ e in cc
   some_earlier (c ∷ cs) s t h w e = let long : length h.earlier ≡ length (replay cs).earlier + 1 = ap (λ (g : History T). length g.earlier) (sym w) ∙ (omega arith) in omega (arith, long)
 
-  pub none_earlier : (cs : List (Change T)) (s : State T) → IsTrail cs s → (h : History T) → replay cs ≡ h → is_some_of s.top ≡ false → h.earlier ≡ []
+  pub none_earlier : (cs : List (Change T)) (s : ListState T) → IsTrail cs s → (h : History T) → replay cs ≡ h → is_some_of s.top ≡ false → h.earlier ≡ []
   none_earlier [] s t h w e = ap (λ (g : History T). g.earlier) (sym w)
   none_earlier (c ∷ cs) s t h w e = let no : false ≡ true = sym e ∙ ap is_some_of t.0 in cc
 
@@ -297,13 +297,13 @@ module _ {T : Type 0} where
   stands_more p q n cs e = elim (same_place p q) as (λ y. option_map_or (λ (m : Node T). true) (cond y (Some n) (find q cs)) false ≡ true) [ true ↦ refl | false ↦ e ]
 
   -- a node that stood before a change stands after it
-  stands_on : (p : Pos) (o : Option T) (is : List (Pos × T)) (s e : State T) → IsUndone (record { place = p; value = o }) is s e → (q : Ptr) → stands_at q e.cells ≡ true → stands_at q s.cells ≡ true
+  stands_on : (p : Pos) (o : Option T) (is : List (Pos × T)) (s e : ListState T) → IsUndone (record { place = p; value = o }) is s e → (q : Ptr) → stands_at q e.cells ≡ true → stands_at q s.cells ≡ true
   stands_on p (Some v) as' s e u q h =
-      let now : next_cells u.node.prev None s.cells ≡ cell p.at u.node ∷ e.cells = sym (cells_next u.node.prev None s) ∙ ap (λ (x : State T). x.cells) u.gone in
+      let now : next_cells u.node.prev None s.cells ≡ cell p.at u.node ∷ e.cells = sym (cells_next u.node.prev None s) ∙ ap (λ (x : ListState T). x.cells) u.gone in
       sym (stands_next q u.node.prev None s.cells) ∙ ap (stands_at q) now ∙ stands_more p.at q u.node e.cells h
   stands_on p None as' s e u q h =
       let a = u.node.prev in let c = u.node.next in
-      let now : next_cells a (Some p) (prev_cells c (Some p) (update p.at (marks false None) s.cells)) ≡ e.cells = ap (λ (x : State T). x.cells) (sym (relinked_is a p c u.node.unlinked_after s) ∙ u.back) in
+      let now : next_cells a (Some p) (prev_cells c (Some p) (update p.at (marks false None) s.cells)) ≡ e.cells = ap (λ (x : ListState T). x.cells) (sym (relinked_is a p c u.node.unlinked_after s) ∙ u.back) in
       sym (stands_next q a (Some p) (prev_cells c (Some p) (update p.at (marks false None) s.cells)) ∙ stands_prev q c (Some p) (update p.at (marks false None) s.cells) ∙ stands_update p.at q (marks false None) s.cells) ∙ ap (stands_at q) now ∙ h
 
   new_place : (p q : Ptr) (cs : List (Cell (Node T))) → IsFresh p cs → stands_at q cs ≡ true → same_place q p ≡ false
@@ -313,14 +313,14 @@ module _ {T : Type 0} where
     | false ↦ λ s h. new_place p q cs f.1 h
   ]) refl e
 
-  ring_new : (s : State T) (z : Option Pos) (is : List (Pos × T)) → Ring s z is → (p : Pos) → ((q : Ptr) → stands_at q s.cells ≡ true → same_place q p.at ≡ false) → IsNew p is
+  ring_new : (s : ListState T) (z : Option Pos) (is : List (Pos × T)) → Ring s z is → (p : Pos) → ((q : Ptr) → stands_at q s.cells ≡ true → same_place q p.at ≡ false) → IsNew p is
   ring_new s z [] r p f = tt
   ring_new s z (i ∷ is) r p f = (f i.0.at (read (λ (m : Node T). true) _ r.2.0 false r.2.1), ring_new s (Some i.0) is r.4 p f)
 
-  lists_new : (cs : List (Change T)) (s : State T) → IsTrail cs s → (p : Pos) → ((q : Ptr) → stands_at q s.cells ≡ true → same_place q p.at ≡ false) → IsNewIn p (replay cs)
+  lists_new : (cs : List (Change T)) (s : ListState T) → IsTrail cs s → (p : Pos) → ((q : Ptr) → stands_at q s.cells ≡ true → same_place q p.at ≡ false) → IsNewIn p (replay cs)
   lists_new [] s t p f = (tt, tt)
   lists_new (c ∷ cs) s t p f = (ring_new s None (replay (c ∷ cs)).present t.1 p f, lists_new cs t.3 t.5 p (λ q h. f q (stands_on c.place c.value (replay cs).present s t.3 t.4 q h)))
 
   -- a fresh place is the place of no item, present or earlier
-  pub fresh_place : (cs : List (Change T)) (s : State T) → IsTrail cs s → (h : History T) → replay cs ≡ h → (p : Pos) → IsFresh p.at s.cells → IsNewIn p h
+  pub fresh_place : (cs : List (Change T)) (s : ListState T) → IsTrail cs s → (h : History T) → replay cs ≡ h → (p : Pos) → IsFresh p.at s.cells → IsNewIn p h
   fresh_place cs s t h w p f = subst (IsNewIn p) w (lists_new cs s t p (λ q. new_place p.at q s.cells f))

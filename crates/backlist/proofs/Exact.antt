@@ -3,7 +3,7 @@ use Rattle.std.proofs.Common.{◌≡◌, true, false, cond, List, Option, Some, 
 use Rattle.backlist.specs.Cells.{Cell, same_place, find, update}
 use Rattle.backlist.specs.declared.boxes.Pos.{Pos}
 use Rattle.backlist.specs.declared.list.Node.{Node}
-use Rattle.backlist.specs.Links.{State, next_of, prev_of, unlinked, relinked}
+use Rattle.backlist.specs.Links.{ListState, next_of, prev_of, unlinked, relinked}
 use Rattle.backlist.proofs.Ringed.{found, update-update, update-id, Stands, set_next, set_prev, kept, read}
 
 module _ {T : Type 0} where
@@ -24,7 +24,7 @@ module _ {T : Type 0} where
   mark_back p t cs n e h k = update-update p.at _ _ cs ∙ update-id p.at _ cs n e (λ i. record n { away = sym h i; unlinked_after = sym k i })
 
   -- the old links and marks stand in what is found after a write of another link
-  pub exact_unlink : (a : Option Pos) (p : Pos) (c : Option Pos) (s : State T) (n : Node T) → find p.at s.cells ≡ Some n → n.away ≡ false → n.unlinked_after ≡ None
+  pub exact_unlink : (a : Option Pos) (p : Pos) (c : Option Pos) (s : ListState T) (n : Node T) → find p.at s.cells ≡ Some n → n.away ≡ false → n.unlinked_after ≡ None
       → Stands s a → next_of s a ≡ Some p → Stands s c → prev_of s c ≡ Some p → relinked a p c s.top (unlinked a p c s) ≡ s
   exact_unlink None p None s n e h k sa ea sc ec = λ i. record { cells = mark_back p s.top s.cells n e h k i; first = sym ea i; last = sym ec i; top = s.top }
   exact_unlink (Some q) p None s n e h k sa ea sc ec =

@@ -6,7 +6,7 @@ use Rattle.backlist.proofs.Found.{same_place_eq, same_place_refl}
 use Rattle.backlist.specs.declared.boxes.Pos.{Pos}
 use Rattle.backlist.specs.declared.list.Node.{Node}
 use Rattle.std.specs.Option.{option_map_or}
-use Rattle.backlist.specs.Links.{State, same_end, next_of, prev_of, with_next, with_prev, IsNode}
+use Rattle.backlist.specs.Links.{ListState, same_end, next_of, prev_of, with_next, with_prev, IsNode}
 
 module _ {N : Type 0} where
   pub find-update_same : (p : Ptr) (f : N → N) (cs : List (Cell N)) (n : N) → find p cs ≡ Some n → find p (update p f cs) ≡ Some (f n)
@@ -48,7 +48,7 @@ module _ {N : Type 0} where
 
 module _ {T : Type 0} where
   -- the place is the ring's end, or a node stands there
-  abbrev pub Stands : State T → Option Pos → Type 0
+  abbrev pub Stands : ListState T → Option Pos → Type 0
   Stands s None = Unit {0}
   Stands s (Some p) = (n : Node T) × (find p.at s.cells ≡ Some n)
 
@@ -90,47 +90,47 @@ module _ {T : Type 0} where
   pub read : {X : Type 0} (g : Node T → X) (o : Option (Node T)) (n : Node T) (d : X) → o ≡ Some n → option_map_or g o d ≡ g n
   read g o n d e = λ i. option_map_or g (e i) d
 
-  pub prev-with_next : (a b x : Option Pos) (s : State T) → prev_of (with_next a b s) x ≡ prev_of s x
+  pub prev-with_next : (a b x : Option Pos) (s : ListState T) → prev_of (with_next a b s) x ≡ prev_of s x
   prev-with_next None b None s = refl
   prev-with_next None b (Some p) s = refl
   prev-with_next (Some q) b None s = refl
   prev-with_next (Some q) b (Some p) s = map_found (λ (n : Node T). n.prev) (set_next b) (λ n. refl) q.at p.at None s.cells
 
-  pub next-with_prev : (a b x : Option Pos) (s : State T) → next_of (with_prev a b s) x ≡ next_of s x
+  pub next-with_prev : (a b x : Option Pos) (s : ListState T) → next_of (with_prev a b s) x ≡ next_of s x
   next-with_prev None b None s = refl
   next-with_prev None b (Some p) s = refl
   next-with_prev (Some q) b None s = refl
   next-with_prev (Some q) b (Some p) s = map_found (λ (n : Node T). n.next) (set_prev b) (λ n. refl) q.at p.at None s.cells
 
-  pub next-same : (a b : Option Pos) (s : State T) → Stands s a → next_of (with_next a b s) a ≡ b
+  pub next-same : (a b : Option Pos) (s : ListState T) → Stands s a → next_of (with_next a b s) a ≡ b
   next-same None b s h = refl
   next-same (Some p) b s h = read (λ (n : Node T). n.next) _ _ None (find-update_same p.at (set_next b) s.cells h.0 h.1)
 
-  pub prev-same : (a b : Option Pos) (s : State T) → Stands s a → prev_of (with_prev a b s) a ≡ b
+  pub prev-same : (a b : Option Pos) (s : ListState T) → Stands s a → prev_of (with_prev a b s) a ≡ b
   prev-same None b s h = refl
   prev-same (Some p) b s h = read (λ (n : Node T). n.prev) _ _ None (find-update_same p.at (set_prev b) s.cells h.0 h.1)
 
-  pub next-other : (a b x : Option Pos) (s : State T) → same_end a x ≡ false → next_of (with_next a b s) x ≡ next_of s x
+  pub next-other : (a b x : Option Pos) (s : ListState T) → same_end a x ≡ false → next_of (with_next a b s) x ≡ next_of s x
   next-other None b None s d = cc
   next-other None b (Some p) s d = refl
   next-other (Some q) b None s d = refl
   next-other (Some q) b (Some p) s d = λ i. option_map_or (λ (n : Node T). n.next) (find-update_other q.at p.at (set_next b) s.cells d i) None
 
-  pub prev-other : (a b x : Option Pos) (s : State T) → same_end a x ≡ false → prev_of (with_prev a b s) x ≡ prev_of s x
+  pub prev-other : (a b x : Option Pos) (s : ListState T) → same_end a x ≡ false → prev_of (with_prev a b s) x ≡ prev_of s x
   prev-other None b None s d = cc
   prev-other None b (Some p) s d = refl
   prev-other (Some q) b None s d = refl
   prev-other (Some q) b (Some p) s d = λ i. option_map_or (λ (n : Node T). n.prev) (find-update_other q.at p.at (set_prev b) s.cells d i) None
 
-  pub node-with_next : (a b : Option Pos) (s : State T) (i : Pos × T) → IsNode s i → IsNode (with_next a b s) i
+  pub node-with_next : (a b : Option Pos) (s : ListState T) (i : Pos × T) → IsNode s i → IsNode (with_next a b s) i
   node-with_next None b s i h = h
   node-with_next (Some q) b s i h = let y = same_place q.at i.0.at in let f = set_next b in
       (cond y (f h.0) h.0, found q.at i.0.at f s.cells h.0 h.1, kept (λ (n : Node T). n.value) f (λ n. refl) y h.0 ∙ h.2, kept (λ (n : Node T). n.away) f (λ n. refl) y h.0 ∙ h.3, kept (λ (n : Node T). n.unlinked_after) f (λ n. refl) y h.0 ∙ h.4)
 
-  pub node-with_prev : (a b : Option Pos) (s : State T) (i : Pos × T) → IsNode s i → IsNode (with_prev a b s) i
+  pub node-with_prev : (a b : Option Pos) (s : ListState T) (i : Pos × T) → IsNode s i → IsNode (with_prev a b s) i
   node-with_prev None b s i h = h
   node-with_prev (Some q) b s i h = let y = same_place q.at i.0.at in let f = set_prev b in
       (cond y (f h.0) h.0, found q.at i.0.at f s.cells h.0 h.1, kept (λ (n : Node T). n.value) f (λ n. refl) y h.0 ∙ h.2, kept (λ (n : Node T). n.away) f (λ n. refl) y h.0 ∙ h.3, kept (λ (n : Node T). n.unlinked_after) f (λ n. refl) y h.0 ∙ h.4)
 
-  pub stands-node : (s : State T) (i : Pos × T) → IsNode s i → Stands s (Some i.0)
+  pub stands-node : (s : ListState T) (i : Pos × T) → IsNode s i → Stands s (Some i.0)
   stands-node s i h = (h.0, h.1)

@@ -5,7 +5,7 @@ use denote.RawPtr.{Ptr}
 use Rattle.backlist.specs.Cells.{Cell, cell, same_place, find, IsFresh}
 use Rattle.backlist.specs.declared.boxes.Pos.{Pos}
 use Rattle.backlist.specs.declared.list.Node.{Node}
-use Rattle.backlist.specs.Links.{State, same_end, next_of, with_next, with_prev, bridged, IsNode, Differs, Ring, last_place, first_place}
+use Rattle.backlist.specs.Links.{ListState, same_end, next_of, with_next, with_prev, bridged, IsNode, Differs, Ring, last_place, first_place}
 use Rattle.backlist.proofs.Found.{same_place_eq, same_place_refl}
 use Rattle.backlist.proofs.Ringed.{Stands, same_place_symm, same_end_symm, read, prev-with_next, next-with_prev, next-same, prev-same, next-other, prev-other, node-with_next, node-with_prev, stands-node}
 
@@ -34,19 +34,19 @@ module _ {T : Type 0} where
   differs_first p [] d = refl
   differs_first p (y ∷ ys) d = same_end_symm (Some y.0) (Some p) ∙ d.0
 
-  frame_next : (s : State T) (a c z : Option Pos) (is : List (Pos × T)) → same_end a z ≡ false → Differs a is → Ring s z is → Ring (with_next a c s) z is
+  frame_next : (s : ListState T) (a c z : Option Pos) (is : List (Pos × T)) → same_end a z ≡ false → Differs a is → Ring s z is → Ring (with_next a c s) z is
   frame_next s a c z [] e d r = (next-other a c z s e ∙ r.0, prev-with_next a c None s ∙ r.1)
   frame_next s a c z (i ∷ is) e d r = (next-other a c z s e ∙ r.0, prev-with_next a c (Some i.0) s ∙ r.1, node-with_next a c s i r.2, r.3, frame_next s a c (Some i.0) is d.0 d.1 r.4)
 
-  frame_prev : (s : State T) (p : Pos) (b z : Option Pos) (is : List (Pos × T)) → Differs (Some p) is → Ring s z is → Ring (with_prev (Some p) b s) z is
+  frame_prev : (s : ListState T) (p : Pos) (b z : Option Pos) (is : List (Pos × T)) → Differs (Some p) is → Ring s z is → Ring (with_prev (Some p) b s) z is
   frame_prev s p b z [] d r = (next-with_prev (Some p) b z s ∙ r.0, r.1)
   frame_prev s p b z (i ∷ is) d r = (next-with_prev (Some p) b z s ∙ r.0, prev-other (Some p) b (Some i.0) s d.0 ∙ r.1, node-with_prev (Some p) b s i r.2, r.3, frame_prev s p b (Some i.0) is d.1 r.4)
 
-  stands-with_next : (a b : Option Pos) (s : State T) (i : Pos × T) → IsNode s i → Stands (with_next a b s) (Some i.0)
+  stands-with_next : (a b : Option Pos) (s : ListState T) (i : Pos × T) → IsNode s i → Stands (with_next a b s) (Some i.0)
   stands-with_next a b s i h = stands-node (with_next a b s) i (node-with_next a b s i h)
 
   -- an item is taken out between its neighbours
-  pub ring_unlink : (s : State T) (z : Option Pos) (xs : List (Pos × T)) (i : Pos × T) (ys : List (Pos × T)) → Stands s z → Differs z (xs ++ i ∷ ys) → Ring s z (xs ++ i ∷ ys)
+  pub ring_unlink : (s : ListState T) (z : Option Pos) (xs : List (Pos × T)) (i : Pos × T) (ys : List (Pos × T)) → Stands s z → Differs z (xs ++ i ∷ ys) → Ring s z (xs ++ i ∷ ys)
       → Ring (bridged (last_place z xs) (first_place ys) s) z (xs ++ ys)
   ring_unlink s z [] i [] h d r = (next-with_prev None z z (with_next z None s) ∙ next-same z None s h, refl)
   ring_unlink s z [] i (y ∷ ys) h d r =
@@ -74,11 +74,11 @@ module _ {T : Type 0} where
   ]) refl e
 
   -- the state with the node n at p, the last one
-  abbrev pub added : Pos → Node T → State T → State T
+  abbrev pub added : Pos → Node T → ListState T → ListState T
   added p n s = record s { cells = cell p.at n ∷ s.cells; last = Some p; top = Some p }
 
-  module _ (s : State T) (p : Pos) (v : T) (n : Node T) (free : IsFresh p.at s.cells) (is_v : n.value ≡ v) (is_next : n.next ≡ None) (is_here : n.away ≡ false) (is_none : n.unlinked_after ≡ None) where
-    abbrev K : State T
+  module _ (s : ListState T) (p : Pos) (v : T) (n : Node T) (free : IsFresh p.at s.cells) (is_v : n.value ≡ v) (is_next : n.next ≡ None) (is_here : n.away ≡ false) (is_none : n.unlinked_after ≡ None) where
+    abbrev K : ListState T
     K = added p n s
 
     pub at_p : find p.at K.cells ≡ Some n

@@ -4,7 +4,7 @@ use Rattle.backlist.specs.Cells.{Cell, cell, find, update}
 use Rattle.backlist.specs.declared.boxes.Pos.{Pos}
 use Rattle.backlist.specs.declared.list.Node.{Node}
 use Rattle.backlist.specs.History.{Change, replay, without}
-use Rattle.backlist.specs.Links.{State, empty, with_next, relinked, Ring}
+use Rattle.backlist.specs.Links.{ListState, empty, with_next, relinked, Ring}
 
 -- the end of the list after a write of b at the place a
 abbrev pub end_after : Option Pos → Option Pos → Option Pos → Option Pos
@@ -18,7 +18,7 @@ module _ {T : Type 0} where
   IsEnd cs (Some p) = (n : Node T) × (find p.at cs ≡ Some n)
 
   -- undoing the push of v at p leads from s to e
-  pub record IsPushed (p : Pos) (v : T) (s e : State T) : Type 0 where
+  pub record IsPushed (p : Pos) (v : T) (s e : ListState T) : Type 0 where
     pub node : Node T
     pub at : find p.at s.cells ≡ Some node
     pub here : node.away ≡ false
@@ -29,7 +29,7 @@ module _ {T : Type 0} where
     pub top : e.top ≡ node.pushed_after
 
   -- undoing the unlinking of p, which was in the list, leads from s to e
-  pub record IsUnlinked (p : Pos) (is : List (Pos × T)) (s e : State T) : Type 0 where
+  pub record IsUnlinked (p : Pos) (is : List (Pos × T)) (s e : ListState T) : Type 0 where
     pub node : Node T
     pub at : find p.at s.cells ≡ Some node
     pub held : length (without p is) + 1 ≡ length is
@@ -38,14 +38,14 @@ module _ {T : Type 0} where
     pub after : IsEnd s.cells node.next
     pub back : relinked node.prev p node.next node.unlinked_after s ≡ e
 
-  abbrev pub IsUndone : Change T → List (Pos × T) → State T → State T → Type 0
+  abbrev pub IsUndone : Change T → List (Pos × T) → ListState T → ListState T → Type 0
   IsUndone c is s e = elim c.value as (λ _. Type 0) [ Some v ↦ IsPushed c.place v s e | None ↦ IsUnlinked c.place is s e ]
 
   -- the links of s are the list that the changes give, and undoing the last change leads to links of the changes before it
-  abbrev pub IsTrail : List (Change T) → State T → Type 0
+  abbrev pub IsTrail : List (Change T) → ListState T → Type 0
   IsTrail [] s = s ≡ empty
   IsTrail (c ∷ cs) s = (s.top ≡ Some c.place) × Ring s None (replay (c ∷ cs)).present × (length (replay (c ∷ cs)).present < 2 ^ 64)
-      × (e : State T) × IsUndone c (replay cs).present s e × IsTrail cs e
+      × (e : ListState T) × IsUndone c (replay cs).present s e × IsTrail cs e
 
   -- the nodes and the ends after a write of one link
   abbrev pub next_cells : Option Pos → Option Pos → List (Cell (Node T)) → List (Cell (Node T))

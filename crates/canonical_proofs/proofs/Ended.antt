@@ -6,16 +6,17 @@ use Rattle.linear_term.specs.Range.{all_stay}
 use Rattle.purse.specs.Runs.{total, raw_stay}
 use Rattle.std.proofs.lemmas.Bool.Decides.{nat_tests}
 use Rattle.formula.specs.Form.{Form, is_pure}
-use Rattle.elim_rules.specs.Logs.{entries_of}
-use Rattle.elim_rules.specs.Whole.{names_out}
-use Rattle.solution_rules.specs.Solutions.{solving}
+use Rattle.elim_laws.specs.Logs.{entries_of}
+use Rattle.elim_laws.specs.Whole.{names_out}
+use Rattle.solution_laws.specs.Solutions.{solving}
 use Rattle.solution_range.proofs.Parts.{both_true, stay_parts}
-use Rattle.node_steps.specs.Within.{branch_limit}
+use Rattle.limits.specs.Limits.{branch_limit}
 use Rattle.proof_tree.specs.Proof.{Proof, given}
 use Rattle.proof_tree.specs.Proves.{start}
 use Rattle.proof_tree.specs.Walk.{in_new_log}
 use Rattle.search.specs.Building.{built}
-use Rattle.search.specs.Run.{Answer, canonical_run, concluded, ended, ending, ends_with, has_open_leaf, invalid, judged, one_round, or_further, rounds, saturated, too_long, valid}
+use Rattle.purse.specs.Ending.{ended, ending, ends_with}
+use Rattle.search.specs.Run.{RunAnswer, canonical_run, concluded, has_open_leaf, invalid, judged, one_round, or_further, rounds, saturated, too_long, valid}
 use Rattle.search.proofs.Endings.{total-append}
 use Rattle.search.proofs.Totals.{total-next, total-in_new_log}
 
@@ -36,17 +37,17 @@ later_part xs ys es p = record { charges = (let t = total-append xs ys in let c 
 
 -- ---- rounds
 -- a round of these events that answers a
-record IsRound (f : Form) (n : ℕ) (a : Answer) (all : List Event) : Type 0 where
+record IsRound (f : Form) (n : ℕ) (a : RunAnswer) (all : List Event) : Type 0 where
   limit : ℕ
   answers : (one_round f n limit).value ≡ Some a
   part : IsPart (one_round f n limit).events all
 
-round_found : (f : Form) (n m k : ℕ) (a : Answer) → (rounds f n m k).value ≡ a → (a ≡ too_long → ⊥) → IsRound f n a (rounds f n m k).events
+round_found : (f : Form) (n m k : ℕ) (a : RunAnswer) → (rounds f n m k).value ≡ a → (a ≡ too_long → ⊥) → IsRound f n a (rounds f n m k).events
 unfolding next just
 round_found f n zero k a e not_long = absurd (not_long (sym e))
 round_found f n (suc m) k a e not_long = by (one_round f n k).value refl e (λ q. round_found f n m (suc k) a q not_long)
   where
-    by : (o : Option Answer) → (one_round f n k).value ≡ o → (or_further (rounds f n m (suc k)) o).value ≡ a → ((rounds f n m (suc k)).value ≡ a → IsRound f n a (rounds f n m (suc k)).events)
+    by : (o : Option RunAnswer) → (one_round f n k).value ≡ o → (or_further (rounds f n m (suc k)) o).value ≡ a → ((rounds f n m (suc k)).value ≡ a → IsRound f n a (rounds f n m (suc k)).events)
         → IsRound f n a ((one_round f n k).events ++ (or_further (rounds f n m (suc k)) o).events)
     by (Some b) is q ih = record { limit = k; answers = is ∙ ap (λ z. Some z) q; part = first_part (one_round f n k).events [] }
     by None is q ih =
@@ -88,13 +89,13 @@ charges_within t spent budget (inl none) = omega (arith, none)
 charges_within t spent budget (inr more) = omega (arith, more)
 
 -- a round of the run that answers what the run ends with, within what is left of the budget
-record IsLast (f : Form) (n left : ℕ) (a : Answer) : Type 0 where
+record IsLast (f : Form) (n left : ℕ) (a : RunAnswer) : Type 0 where
   limit : ℕ
   answers : (one_round f n limit).value ≡ Some a
   charges : total (one_round f n limit).events ≤ left
   stay : raw_stay (one_round f n limit).events ≡ true
 
-last_found : (f : Form) (n : ℕ) (g : Funds) (a : Answer) (b : At) → ending (canonical_run f n g.budget) (at g []) ≡ ends_with a b → (a ≡ too_long → ⊥) → IsLast f n (g.budget - g.spent) a
+last_found : (f : Form) (n : ℕ) (g : Funds) (a : RunAnswer) (b : At) → ending (canonical_run f n g.budget) (at g []) ≡ ends_with a b → (a ≡ too_long → ⊥) → IsLast f n (g.budget - g.spent) a
 unfolding canonical_run
 last_found f n g a b e not_long =
     let w = canonical_run f n g.budget in
@@ -128,13 +129,13 @@ judged_stay f n x h =
     (stay_parts w _ (stay_parts (w ++ _) [] h).0).0
 
 -- the tree of a round that answers, and how it is concluded
-record Concludes (f : Form) (n k : ℕ) (b : Answer) : Type 0 where
+record Concludes (f : Form) (n k : ℕ) (b : RunAnswer) : Type 0 where
   proof : Proof
   solution : Option (List ℤ)
   tree : HasTree f n k proof solution
   is : concluded f n proof solution ≡ Some b
 
-round_concludes : (f : Form) (n k : ℕ) (b : Answer) → (one_round f n k).value ≡ Some b → (b ≡ too_long → ⊥) → Concludes f n k b
+round_concludes : (f : Form) (n k : ℕ) (b : RunAnswer) → (one_round f n k).value ≡ Some b → (b ≡ too_long → ⊥) → Concludes f n k b
 unfolding next just step
 round_concludes f n k b e not_long = by (built k branch_limit 0 (start f n)).value refl e
   where

@@ -11,11 +11,11 @@ use Rattle.clause_set.specs.Dnfs.{top}
 use Rattle.clause_set.specs.Literals.{dnf_truth}
 use Rattle.clause_set.specs.Primitive.{IsSingleWith, IsUnit}
 use Rattle.clause_set.proofs.Canonical.{tidied-sorted}
-use Rattle.elim_rules.specs.Whole.{names_out}
-use Rattle.solution_rules.specs.Best.{IsBest}
-use Rattle.solution_rules.specs.Solutions.{IsGiven, answered, chosen, names_from, solving, valued_clause, values_at, with_value}
-use Rattle.solution_rules.proofs.Solving.{solving-best, with_value-spans, with_value-truth}
-use Rattle.solution_rules.proofs.Spans.{IsFrom, IsIn, Spans, given-spans}
+use Rattle.elim_laws.specs.Whole.{names_out}
+use Rattle.solution_laws.specs.Best.{IsBest}
+use Rattle.solution_laws.specs.Solutions.{IsGiven, answered, chosen, names_from, solving, valued_clause, values_at, with_value}
+use Rattle.solution_laws.proofs.Solving.{solving-best, with_value-spans, with_value-truth}
+use Rattle.solution_laws.proofs.Spans.{IsFrom, IsIn, Spans, given-spans}
 use Rattle.proof_tree.specs.Proves.{values_put}
 use Rattle.solution_range.proofs.Parts.{stay_parts}
 use Rattle.solution_range.proofs.Entries.{one_longer, put_at}

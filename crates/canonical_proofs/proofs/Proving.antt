@@ -10,15 +10,15 @@ use Rattle.clause_set.specs.declared.literal.Literal.{Literal}
 use Rattle.clause_set.specs.Dnfs.{top}
 use Rattle.formula.specs.Form.{Form, IsFormOver, is_pure}
 use Rattle.formula.specs.Reduced.{HasReducedTerms}
-use Rattle.elim_rules.specs.Logs.{by_whole_log, entries_of, names_by_log}
-use Rattle.elim_rules.specs.Whole.{names_out}
-use Rattle.elim_rules.proofs.Depth.{names_does}
-use Rattle.elim_rules.proofs.Wholes.{whole_does}
+use Rattle.elim_laws.specs.Logs.{by_whole_log, entries_of, names_by_log}
+use Rattle.elim_laws.specs.Whole.{names_out}
+use Rattle.elim_laws.proofs.Depth.{names_does}
+use Rattle.elim_laws.proofs.Wholes.{whole_does}
 use Rattle.sequent.specs.declared.member.Pick.{Pick}
 use Rattle.sequent.proofs.Forming.{start_formed}
-use Rattle.solution_rules.specs.Solutions.{IsGiven, answered, solving}
-use Rattle.solution_rules.proofs.Solving.{solving-best}
-use Rattle.node_steps.specs.Within.{branch_limit}
+use Rattle.solution_laws.specs.Solutions.{IsGiven, answered, solving}
+use Rattle.solution_laws.proofs.Solving.{solving-best}
+use Rattle.limits.specs.Limits.{branch_limit}
 use Rattle.proof_tree.specs.declared.node.Conclusion.{Conclusion}
 use Rattle.proof_tree.specs.declared.node.Conclusion.TheVariants.{Nothing, Solution}
 use Rattle.proof_tree.specs.declared.node.Tree.{Tree}
@@ -32,7 +32,8 @@ use Rattle.proof_tree.proofs.Walking.{same_self}
 use Rattle.search.specs.declared.judge.Outcome.TheVariants as outcome
 use Rattle.search.specs.Building.{built}
 use Rattle.search.specs.Outcomes.{EndsAs, IsTree}
-use Rattle.search.specs.Run.{canonical_run, ending, ends_with, invalid, valid}
+use Rattle.purse.specs.Ending.{ending, ends_with}
+use Rattle.search.specs.Run.{canonical_run, invalid, valid}
 use Rattle.search.proofs.Charges.{built_rule, by_both, root_rule}
 use Rattle.search.proofs.Given.{built-given}
 use Rattle.search.proofs.Pures.{pure_pick}

@@ -20,10 +20,10 @@ use Rattle.proof_tree.specs.Walk.{eliminates, is_empty, width}
 use Rattle.proof_tree.proofs.Walking.{gives_fits}
 use Rattle.node_steps.specs.Within.{IsWithin}
 use Rattle.node_steps.proofs.Keeping.{premises_few, premises_within}
-use Rattle.given_text.specs.Text.{IsSaid, AreLiterals, AreClauses}
-use Rattle.tree_lines.specs.Owed.{HasWidth, Shallow}
-use Rattle.tree_text.specs.Shaped.{IsShapedNode, AreShapedNodes}
-use Rattle.proof_writing.specs.Typed.{AreTypedProofs, AreTypedLiterals, IsTypedProof, IsTypedLiteral, IsTypedRule}
+use Rattle.given_line.specs.Text.{IsSaid, AreSaidLiterals, AreClauses}
+use Rattle.proof_line.specs.Owed.{HasWidth, Shallow}
+use Rattle.proof_grammar.specs.Shaped.{IsShapedNode, AreShapedNodes}
+use Rattle.proof_printer.specs.Typed.{AreTypedProofs, AreTypedLiterals, IsTypedProof, IsTypedLiteral, IsTypedRule}
 use Rattle.canonical_proofs.proofs.Sharp.{AreNormal}
 use Rattle.canonical_proofs.proofs.Trees.{IsCanonical, AreCanonical}
 
@@ -37,7 +37,7 @@ literal_said (Geq t) h i = i.0
 literal_said (Div d t) h i = (((h.primitive).divisor, divisor_fits d (h.primitive).divisor i.1), i.0)
 literal_said (NDiv d t) h i = (((h.primitive).divisor, divisor_fits d (h.primitive).divisor i.1), i.0)
 
-clause_said : (c : List Literal) → AllByRecursion IsNormalLiteral c → AreTypedLiterals c → AreLiterals c
+clause_said : (c : List Literal) → AllByRecursion IsNormalLiteral c → AreTypedLiterals c → AreSaidLiterals c
 clause_said [] h i = tt
 clause_said (x ∷ c) h i = (literal_said x h.0 i.0, clause_said c h.1 i.1)
 

@@ -17,19 +17,19 @@ use Rattle.clause_set.specs.Rules.{rule, applies, first_rule, measure}
 use Rattle.clause_set.proofs.Kept.{Each, Denies, clauses-kept, conjunction-kept, disjunction-kept, each-back, negation-kept, tidied-kept}
 use Rattle.clause_set.proofs.Negations.{less, more, less_is, more_is}
 use Rattle.clause_set.proofs.Primitive.{IsNormalLiteral, normal-keeps}
-use Rattle.equation_rules.proofs.Lists.{kept-weaker}
-use Rattle.equation_rules.proofs.Exactness.{equation-exact, apart-exact, merge-exact, shift-exact}
-use Rattle.equation_rules.proofs.Values.{equation-value, apart-value, merge-value, shift-value}
-use Rattle.shadow_rules.specs.Results.{one_sided_results, exact_results, dark_results}
-use Rattle.shadow_rules.proofs.Values.{one_sided-value, exact-value, dark-value}
-use Rattle.shadow_rules.proofs.Forms.{one_sided-proper, exact-proper, dark_results-proper}
-use Rattle.elim_rules.specs.Elimination.{by_first, exists_name, for_all_name, rules_deep, taken_out}
-use Rattle.elim_rules.specs.Presburger.{IsPresburger, ArePresburger}
-use Rattle.elim_rules.specs.Whole.{all_of, any_of, eliminated, eliminating}
-use Rattle.elim_rules.proofs.Duals.{dual-proper, dual-depth}
-use Rattle.elim_rules.proofs.First.{first_is_rule}
-use Rattle.elim_rules.proofs.Forms.{literals_of_clause}
-use Rattle.elim_rules.proofs.Names.{all_flat}
+use Rattle.equation_laws.proofs.Lists.{kept-weaker}
+use Rattle.equation_laws.proofs.Exactness.{equation-exact, apart-exact, merge-exact, shift-exact}
+use Rattle.equation_laws.proofs.Values.{equation-value, apart-value, merge-value, shift-value}
+use Rattle.shadow_laws.specs.Results.{one_sided_results, exact_results, dark_results}
+use Rattle.shadow_laws.proofs.Values.{one_sided-value, exact-value, dark-value}
+use Rattle.shadow_laws.proofs.Forms.{one_sided-proper, exact-proper, dark_results-proper}
+use Rattle.elim_laws.specs.Elimination.{by_first, exists_name, for_all_name, rules_deep, taken_out}
+use Rattle.elim_laws.specs.Presburger.{IsPresburger, ArePresburger}
+use Rattle.elim_laws.specs.Whole.{all_of, any_of, eliminated, eliminating}
+use Rattle.elim_laws.proofs.Duals.{dual-proper, dual-depth}
+use Rattle.elim_laws.proofs.First.{first_is_rule}
+use Rattle.elim_laws.proofs.Forms.{literals_of_clause}
+use Rattle.elim_laws.proofs.Names.{all_flat}
 use Rattle.formula.specs.Form as tree
 use Rattle.formula.specs.Form.{Form, Forms}
 use Rattle.formula.specs.Duals.{dual}

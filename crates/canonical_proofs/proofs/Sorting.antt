@@ -9,9 +9,9 @@ use Rattle.clause_set.specs.Clauses.{clause_of, found}
 use Rattle.clause_set.specs.Dnfs.{conjunction, disjunction, joined, negated_clause, negated_clauses, negation, top}
 use Rattle.clause_set.specs.Order.{clause_cmp}
 use Rattle.clause_set.proofs.Canonical.{tidied-sorted}
-use Rattle.elim_rules.specs.Elimination.{exists_name}
-use Rattle.elim_rules.specs.Logs.{entries_of}
-use Rattle.elim_rules.specs.Whole.{all_of, any_of, eliminated, eliminating}
+use Rattle.elim_laws.specs.Elimination.{exists_name}
+use Rattle.elim_laws.specs.Logs.{entries_of}
+use Rattle.elim_laws.specs.Whole.{all_of, any_of, eliminated, eliminating}
 use Rattle.formula.specs.Form as tree
 use Rattle.formula.specs.Form.{Form, Forms}
 use Rattle.formula.specs.Duals.{dual}

@@ -5,7 +5,7 @@ use Rattle.purse.specs.Runs.{raw_stay}
 use Rattle.purse.specs.Trace.{Event, charge, raw, mark, step, next, note, enter}
 use Rattle.clause_set.specs.declared.literal.Literal.{Literal}
 use Rattle.formula.specs.Form.{Form}
-use Rattle.node_steps.specs.Within.{branch_limit}
+use Rattle.limits.specs.Limits.{branch_limit}
 use Rattle.proof_tree.specs.declared.node.Conclusion.{Conclusion}
 use Rattle.proof_tree.specs.declared.run.Verdict.{Verdict}
 use Rattle.proof_tree.specs.Proof.{Proof, given}

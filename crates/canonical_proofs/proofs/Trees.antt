@@ -2,7 +2,7 @@
 use Rattle.std.proofs.Common.{◌≡◌, ℕ, suc, zero, ◌+◌, List, [], ◌∷◌, ◌++◌, map, sym, ◌∙◌, subst, Option, Some, None}
 use Rattle.std.specs.List.{AllByRecursion}
 use Rattle.purse.specs.Trace.{Traced, just, next}
-use Rattle.elim_rules.specs.Logs.{entries_of}
+use Rattle.elim_laws.specs.Logs.{entries_of}
 use Rattle.sequent.specs.Rules.{picked, place, premises_of}
 use Rattle.sequent.specs.Sequent.{Sequent}
 use Rattle.proof_tree.specs.Proof.{Proof, Proofs, node, no_proof, and_proof, given, proofs}

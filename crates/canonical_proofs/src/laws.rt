@@ -13,7 +13,8 @@ ghost use Rattle.purse.specs.Runs.{total};
 ghost use Rattle.purse.specs.Trace.{At, Funds, at};
 ghost use Rattle.purse.specs.declared.log.ElimLog.{ElimLog};
 ghost use Rattle.search.specs.Outcomes.{EndsAs};
-ghost use Rattle.search.specs.Run.{canonical_run, ending, ends_with, invalid, valid};
+ghost use Rattle.purse.specs.Ending.{ending, ends_with};
+ghost use Rattle.search.specs.Run.{canonical_run, invalid, valid};
 ghost use Rattle.search.specs.declared.judge.Outcome.TheVariants.{Invalid, Valid};
 ghost use Rattle.std.specs.Prelude.{◌≡◌, List, [], Ok, ℕ, ℤ};
 

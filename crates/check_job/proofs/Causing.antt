@@ -4,12 +4,12 @@ use Rattle.std.specs.Fmt.{decimal}
 use Rattle.proof_tree.specs.declared.node.Conclusion.{Conclusion}
 use Rattle.proof_tree.specs.declared.run.Verdict.TheVariants.{Valid, Invalid}
 use Rattle.proof_tree.specs.Proof.{Proof, given}
-use Rattle.proof_lines.specs.declared.refusal.ProofRefusal.{ProofRefusal}
-use Rattle.proof_lines.specs.declared.refusal.ProofRefusal.TheVariants as r
-use Rattle.proof_lines.specs.Body.{body}
-use Rattle.proof_lines.specs.Refused.{RefusesFile}
-use Rattle.proof_lines.proofs.OneProof.{held_by_file, holds_one}
-use Rattle.proof_lines.proofs.OneRefusal.{one_by_file}
+use Rattle.proof_file.specs.declared.refusal.ProofRefusal.{ProofRefusal}
+use Rattle.proof_file.specs.declared.refusal.ProofRefusal.TheVariants as r
+use Rattle.proof_file.specs.Body.{body}
+use Rattle.proof_file.specs.Refused.{RefusesProofFile}
+use Rattle.proof_file.proofs.OneProof.{held_by_file, holds_one}
+use Rattle.proof_file.proofs.OneRefusal.{one_by_file}
 use Rattle.tree_checker.specs.Faults.{Check, accepted, wrong, too_costly, leaves, checked}
 use Rattle.encoding.specs.Problems.{problem_root}
 use Rattle.pri_typing.specs.declared.problem.Problem.{Problem}
@@ -24,7 +24,7 @@ use Rattle.problem_file.specs.Answers.{Poses, PosesOne, refused, posed}
 use Rattle.problem_file.specs.Encoded.{AnswersEncoded, Fits, LeavesRange, large, leaves as outside, runs}
 use Rattle.problem_file.proofs.Answering.{one_of_file, posed_answered}
 use Rattle.problem_file.proofs.Encoded.{fitting_answered, one_of_encoded, same_encoded}
-use Rattle.check_job.specs.Causes.{AreProofCauses, Causes}
+use Rattle.check_job.specs.Causes.{AreProofCauses, CheckCauses}
 use Rattle.check_job.specs.Checked.{AnswersProof, IsChecked, Judged, syntax, deep, node, range, cost, closed, valid, invalid}
 use Rattle.check_job.specs.Exactly.{HoldsProof}
 use Rattle.check_job.proofs.Exactly.{decided, same_row, status_of}
@@ -36,7 +36,7 @@ data Found : Type 0 where
 
 -- it is found there
 abbrev IsFound : Problem → List ℕ → Found → Type 0
-IsFound p proof (unread refusal) = RefusesFile proof refusal × (refusal ≢ r.Memory)
+IsFound p proof (unread refusal) = RefusesProofFile proof refusal × (refusal ≢ r.Memory)
 IsFound p proof (judged x a) = (c : Conclusion) × (charges : ℕ) × Judged p proof x c charges a
 
 -- the answer of a proof that is accepted, for these names of existential constants
@@ -172,7 +172,7 @@ proof_causes proof bytes a p is poses fits =
       cost = λ m h. found_there p proof a (judged h.0 (too_costly m)) row (h.1, h.2, h.3);
     }
 
-pub causes : (proof bytes : List ℕ) (a : Answer) → IsChecked proof bytes a → Causes proof bytes a
+pub causes : (proof bytes : List ℕ) (a : Answer) → IsChecked proof bytes a → CheckCauses proof bytes a
 causes proof bytes a is = record {
   judged = λ p poses fits. proof_causes proof bytes a p is poses fits;
   overflow = (λ z. overflow_by proof bytes a is (ap status_of z), λ h. one_answer proof bytes a _ is (posed h.0 h.1 (outside h.2 refl)));

@@ -5,11 +5,11 @@ use Rattle.proof_tree.specs.declared.node.Conclusion.{Conclusion}
 use Rattle.proof_tree.specs.declared.run.Verdict.{Verdict}
 use Rattle.proof_tree.specs.declared.run.Verdict.TheVariants.{Valid, Invalid}
 use Rattle.proof_tree.specs.Proof.{Proof, given}
-use Rattle.tree_text.specs.Shaped.{Holds}
-use Rattle.proof_lines.specs.declared.refusal.ProofRefusal.TheVariants as r
-use Rattle.proof_lines.specs.Body.{body}
-use Rattle.proof_lines.specs.Refused.{RefusesFile}
-use Rattle.proof_lines.proofs.OneProof.{held_by_file, holds_one}
+use Rattle.proof_grammar.specs.Shaped.{IsTextOfProof}
+use Rattle.proof_file.specs.declared.refusal.ProofRefusal.TheVariants as r
+use Rattle.proof_file.specs.Body.{body}
+use Rattle.proof_file.specs.Refused.{RefusesProofFile}
+use Rattle.proof_file.proofs.OneProof.{held_by_file, holds_one}
 use Rattle.tree_checker.specs.Faults.{Check, accepted, wrong, too_costly, leaves, checked}
 use Rattle.tree_checker.proofs.Accepting.{accepts_proofs}
 use Rattle.encoding.specs.Problems.{problem_root}
@@ -65,10 +65,10 @@ unproved p proof x c charges a never j h =
     let same : of charges x c ≡ of h.charges h.tree h.conclusion = (λ i. of (one.0 i) (one.1 i) (one.2 i)) in
     never h.verdict (sym is ∙ sym same ∙ j.is)
 
-refused_none : (p : Problem) (proof : List ℕ) (at : ℕ) → RefusesFile proof (r.Syntax at) → HoldsProof p proof → ⊥
+refused_none : (p : Problem) (proof : List ℕ) (at : ℕ) → RefusesProofFile proof (r.Syntax at) → HoldsProof p proof → ⊥
 refused_none p proof at refused h = let bad = held_by_file proof h.charges h.tree h.conclusion (r.Syntax at) h.holds refused in absurd cc
 
-deep_none : (p : Problem) (proof : List ℕ) (at : ℕ) → RefusesFile proof (r.Deep at) → HoldsProof p proof → ⊥
+deep_none : (p : Problem) (proof : List ℕ) (at : ℕ) → RefusesProofFile proof (r.Deep at) → HoldsProof p proof → ⊥
 deep_none p proof at refused h = let bad = held_by_file proof h.charges h.tree h.conclusion (r.Deep at) h.holds refused in absurd cc
 
 refuses : (p : Problem) (proof : List ℕ) (a : Answer) → a.status ≡ 4 → (HoldsProof p proof → ⊥) → IsDecided p proof a
@@ -98,8 +98,8 @@ decided proof bytes a p checked poses fits =
     row_decided p proof a (fitting_answered (AnswersProof proof) p a (posed_answered (AnswersEncoded (AnswersProof proof)) (same_encoded (AnswersProof proof) (same_row proof)) bytes a p checked poses) fits)
 
 -- a file that is the text of a proof of the problem is accepted
-pub accepted_text : (bytes text : List ℕ) (p : Problem) (x : Proof) (c : Conclusion) (charges : ℕ) (v : Verdict) (a : Answer) → Poses bytes p → Fits p → Holds text charges x c → body text ≡ text
+pub accepted_text : (bytes text : List ℕ) (p : Problem) (x : Proof) (c : Conclusion) (charges : ℕ) (v : Verdict) (a : Answer) → Poses bytes p → Fits p → IsTextOfProof text charges x c → body text ≡ text
     → Proves (problem_root p).value (length p.existentials) x c charges v → IsChecked text bytes a → a.status ≡ 0
 accepted_text bytes text p x c charges v a poses fits holds own proved is =
     (decided text bytes a p is poses fits).accepts.1
-    (record { tree = x; conclusion = c; charges = charges; verdict = v; holds = subst (λ z. Holds z charges x c) (sym own) holds; proves = proved })
+    (record { tree = x; conclusion = c; charges = charges; verdict = v; holds = subst (λ z. IsTextOfProof z charges x c) (sym own) holds; proves = proved })

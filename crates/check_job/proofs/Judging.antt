@@ -3,13 +3,13 @@ use Rattle.std.proofs.Common.{◌≡◌, ◌∙◌, ℕ, ℤ, List, length, Resu
 use Rattle.linear_term.specs.declared.range.Memory.{Memory}
 use Rattle.formula.specs.Form.{Form, IsFormOver}
 use Rattle.formula.specs.Tree.{form}
-use Rattle.elim_rules.specs.Whole.{AreOver}
+use Rattle.elim_laws.specs.Whole.{AreOver}
 use Rattle.proof_tree.specs.declared.node.Conclusion.{Conclusion}
 use Rattle.proof_tree.specs.declared.run.Verdict.{Verdict}
 use Rattle.proof_tree.specs.declared.run.Verdict.TheVariants.{Valid, Invalid}
 use Rattle.proof_tree.specs.Proof.{Proof}
-use Rattle.tree_text.specs.Shaped.{Holds}
-use Rattle.proof_lines.specs.Body.{body}
+use Rattle.proof_grammar.specs.Shaped.{IsTextOfProof}
+use Rattle.proof_file.specs.Body.{body}
 use Rattle.tree_checker.specs.declared.checking.Checked.{Checked}
 use Rattle.tree_checker.specs.declared.text.TextFault.{TextFault}
 use Rattle.tree_checker.specs.declared.text.TextFault.TheVariants as fault
@@ -23,7 +23,7 @@ use Rattle.answers.specs.declared.output.Output.{Output}
 use Rattle.constraint_text.specs.Constraint.{IsTextOf}
 use Rattle.problem_file.specs.Encoded.{IsEncoded}
 use Rattle.check_job.specs.Checked.{AnswersProof, Judged, syntax, deep, node, range, cost, closed, valid, invalid}
-use Rattle.check_job.specs.Told.{HasValues, IsFitting, IsValidTold, TellsFault, TellsVerdict, alone, lines}
+use Rattle.check_job.specs.Told.{HasValues, IsFitting, IsCheckedValid, TellsFault, TellsVerdict, alone, lines}
 use Rattle.check_job.proofs.Meaning.{accepted_over, accepted_values}
 
 -- the check of the code is that of the problem
@@ -32,7 +32,7 @@ check_is p e h x c charges =
     let of : Form → ℕ → Check = λ f n. checked f n x c charges in
     ap (λ f. of f e.constants) h.root ∙ ap (of (problem_root p).value) h.constants
 
-judged : (p : Problem) (e : Encoded) → IsEncoded p e → (proof : List ℕ) (x : Proof) (c : Conclusion) (charges : ℕ) (a : Check) → Holds (body proof) charges x c → checked (form e.root) e.constants x c charges ≡ a
+judged : (p : Problem) (e : Encoded) → IsEncoded p e → (proof : List ℕ) (x : Proof) (c : Conclusion) (charges : ℕ) (a : Check) → IsTextOfProof (body proof) charges x c → checked (form e.root) e.constants x c charges ≡ a
     → Judged p proof x c charges a
 judged p e h proof x c charges a holds is = record { holds = holds; is = sym (check_is p e h x c charges) ∙ is }
 
@@ -50,7 +50,7 @@ fitting p e h proof k t =
 accepted_told : (p : Problem) (e : Encoded) → IsEncoded p e → (proof : List ℕ) (k : Checked) → ChecksText (form e.root) e.constants proof (Ok k) → (a : Answer) → TellsVerdict p k.constraint k.verdict a → AnswersProof proof p a
 accepted_told p e h proof k t a told = by k.verdict (judged p e h proof t.1 t.2 t.0 (accepted k.verdict) t.3 t.4.0) told
   where
-    told_valid : (vs : List ℤ) → Judged p proof t.1 t.2 t.0 (accepted (Valid vs)) → IsValidTold p k.constraint vs a → AnswersProof proof p a
+    told_valid : (vs : List ℤ) → Judged p proof t.1 t.2 t.0 (accepted (Valid vs)) → IsCheckedValid p k.constraint vs a → AnswersProof proof p a
     told_valid vs j (alone none is) = closed t.1 t.2 t.0 vs j none is
     told_valid vs j (lines text some ls is) =
         valid t.1 t.2 t.0 vs ls.0 j some (subst (λ d. IsTextOf p d ls.0) t.4.1 ls.1) (is ∙ ap (λ x. record { status = 0; text = x }) ls.2)

@@ -3,7 +3,7 @@ use Rattle.std.proofs.Common.{◌≡◌, ◌≢◌, ◌∙◌, ℕ, ℤ, Bool, t
 use Rattle.typed_formula.specs.Truth.{Meaning}
 use Rattle.purse.specs.Trace.{Traced, just, next}
 use Rattle.formula.specs.Form.{Form, IsFormOver, is_pure}
-use Rattle.elim_rules.specs.Whole.{AreOver}
+use Rattle.elim_laws.specs.Whole.{AreOver}
 use Rattle.sequent.proofs.Forming.{start_formed}
 use Rattle.proof_tree.specs.declared.node.Conclusion.{Conclusion}
 use Rattle.proof_tree.specs.declared.node.Conclusion.TheVariants.{Solution, Nothing}
@@ -18,7 +18,7 @@ use Rattle.std.specs.List.{list_all}
 use Rattle.proof_tree.proofs.Proving.{proves_invalid, proves_valid, root_covers}
 use Rattle.sequent.specs.declared.member.Pick.{Pick}
 use Rattle.clause_set.specs.declared.literal.Literal.{Literal}
-use Rattle.tree_names.proofs.Given.{node_given}
+use Rattle.proof_tree.proofs.Given.{node_given}
 use Rattle.tree_checker.specs.Faults.{accepted}
 use Rattle.tree_checker.proofs.Accepting.{accepts_proofs}
 use Rattle.encoding.specs.Problems.{problem_root}

@@ -4,8 +4,8 @@ use Rattle.std.specs.Fmt.{decimal}
 use Rattle.linear_term.specs.declared.range.Place.{Place}
 use Rattle.proof_tree.specs.declared.node.Conclusion.{Conclusion}
 use Rattle.proof_tree.specs.Proof.{Proof}
-use Rattle.proof_lines.specs.declared.refusal.ProofRefusal.TheVariants as r
-use Rattle.proof_lines.specs.Refused.{RefusesFile}
+use Rattle.proof_file.specs.declared.refusal.ProofRefusal.TheVariants as r
+use Rattle.proof_file.specs.Refused.{RefusesProofFile}
 use Rattle.tree_checker.specs.Faults.{Check, wrong, too_costly, leaves}
 use Rattle.pri_typing.specs.declared.problem.Problem.{Problem}
 use Rattle.answers.specs.Answer.{Answer, placed, refused_answer, refused_proof_answer, unknown_answer}
@@ -27,14 +27,14 @@ IsJudged p proof answer = (x : Proof) × (c : Conclusion) × (charges : ℕ) × 
 pub record AreProofCauses (p : Problem) (proof : List ℕ) (answer : Answer) : Type 0 where
   pub accepts : (answer.status ≡ 0) ↔ HoldsProof p proof
   pub refuses : (answer.status ≡ 4) ↔ (¬ (HoldsProof p proof))
-  pub syntax : (at : ℕ) → RefusesFile proof (r.Syntax at) → answer ≡ refused_proof_answer (codes "Syntax at " ++ decimal at)
-  pub deep : (at : ℕ) → RefusesFile proof (r.Deep at) → answer ≡ refused_proof_answer (codes "Deep at " ++ decimal at)
+  pub syntax : (at : ℕ) → RefusesProofFile proof (r.Syntax at) → answer ≡ refused_proof_answer (codes "Syntax at " ++ decimal at)
+  pub deep : (at : ℕ) → RefusesProofFile proof (r.Deep at) → answer ≡ refused_proof_answer (codes "Deep at " ++ decimal at)
   pub node : (m : ℕ) → IsJudged p proof (wrong m) → answer ≡ refused_proof_answer (codes "node " ++ decimal m)
   pub range : (m : ℕ) (numbers : List Place) → IsJudged p proof (leaves m numbers) → answer ≡ refused_proof_answer (codes "range " ++ decimal m)
   pub cost : (m : ℕ) → IsJudged p proof (too_costly m) → answer ≡ refused_proof_answer (codes "cost " ++ decimal m)
 
 -- each answer comes exactly where its row says, and a refusal with the name and the place
-pub record Causes (proof bytes : List ℕ) (answer : Answer) : Type 0 where
+pub record CheckCauses (proof bytes : List ℕ) (answer : Answer) : Type 0 where
   pub judged : (p : Problem) → Poses bytes p → Fits p → AreProofCauses p proof answer
   pub overflow : (answer ≡ unknown_answer (codes "overflow")) ↔ PosesOne bytes LeavesRange
   pub refuses : (answer.status ≡ 3) ↔ IsRefused bytes

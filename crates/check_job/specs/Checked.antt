@@ -5,10 +5,10 @@ use Rattle.linear_term.specs.declared.range.Place.{Place}
 use Rattle.proof_tree.specs.declared.node.Conclusion.{Conclusion}
 use Rattle.proof_tree.specs.declared.run.Verdict.TheVariants.{Valid, Invalid}
 use Rattle.proof_tree.specs.Proof.{Proof, given}
-use Rattle.tree_text.specs.Shaped.{Holds}
-use Rattle.proof_lines.specs.declared.refusal.ProofRefusal.TheVariants as r
-use Rattle.proof_lines.specs.Body.{body}
-use Rattle.proof_lines.specs.Refused.{RefusesFile}
+use Rattle.proof_grammar.specs.Shaped.{IsTextOfProof}
+use Rattle.proof_file.specs.declared.refusal.ProofRefusal.TheVariants as r
+use Rattle.proof_file.specs.Body.{body}
+use Rattle.proof_file.specs.Refused.{RefusesProofFile}
 use Rattle.tree_checker.specs.Faults.{Check, accepted, wrong, too_costly, leaves, checked}
 use Rattle.encoding.specs.Problems.{problem_root}
 use Rattle.pri_typing.specs.declared.problem.Problem.{Problem}
@@ -20,13 +20,13 @@ use Rattle.problem_file.specs.Encoded.{AnswersEncoded}
 
 -- the file holds a proof of which the check, for the encoding of the problem, answers this
 pub record Judged (p : Problem) (proof : List ℕ) (x : Proof) (c : Conclusion) (charges : ℕ) (answer : Check) : Type 0 where
-  pub holds : Holds (body proof) charges x c
+  pub holds : IsTextOfProof (body proof) charges x c
   pub is : checked (problem_root p).value (length p.existentials) x c charges ≡ answer
 
 -- the answer to a problem whose encoding fits, and the proof in a file
 pub data AnswersProof (proof : List ℕ) (p : Problem) (answer : Answer) : Type 0 where
-  syntax : (at : ℕ) → RefusesFile proof (r.Syntax at) → answer ≡ refused_proof_answer (codes "Syntax at " ++ decimal at) → AnswersProof proof p answer
-  deep : (at : ℕ) → RefusesFile proof (r.Deep at) → answer ≡ refused_proof_answer (codes "Deep at " ++ decimal at) → AnswersProof proof p answer
+  syntax : (at : ℕ) → RefusesProofFile proof (r.Syntax at) → answer ≡ refused_proof_answer (codes "Syntax at " ++ decimal at) → AnswersProof proof p answer
+  deep : (at : ℕ) → RefusesProofFile proof (r.Deep at) → answer ≡ refused_proof_answer (codes "Deep at " ++ decimal at) → AnswersProof proof p answer
   node : (x : Proof) (c : Conclusion) (charges m : ℕ) → Judged p proof x c charges (wrong m) → answer ≡ refused_proof_answer (codes "node " ++ decimal m) → AnswersProof proof p answer
   range : (x : Proof) (c : Conclusion) (charges m : ℕ) (numbers : List Place) → Judged p proof x c charges (leaves m numbers) → answer ≡ refused_proof_answer (codes "range " ++ decimal m)
       → AnswersProof proof p answer

@@ -4,8 +4,8 @@ use Rattle.proof_tree.specs.declared.node.Conclusion.{Conclusion}
 use Rattle.proof_tree.specs.declared.run.Verdict.{Verdict}
 use Rattle.proof_tree.specs.Proof.{Proof}
 use Rattle.proof_tree.specs.Proves.{Proves}
-use Rattle.tree_text.specs.Shaped.{Holds}
-use Rattle.proof_lines.specs.Body.{body}
+use Rattle.proof_grammar.specs.Shaped.{IsTextOfProof}
+use Rattle.proof_file.specs.Body.{body}
 use Rattle.encoding.specs.Problems.{problem_root}
 use Rattle.pri_typing.specs.declared.problem.Problem.{Problem}
 use Rattle.answers.specs.Answer.{Answer}
@@ -16,7 +16,7 @@ pub record HoldsProof (p : Problem) (proof : List ℕ) : Type 0 where
   pub conclusion : Conclusion
   pub charges : ℕ
   pub verdict : Verdict
-  pub holds : Holds (body proof) charges tree conclusion
+  pub holds : IsTextOfProof (body proof) charges tree conclusion
   pub proves : Proves (problem_root p).value (length p.existentials) tree conclusion charges verdict
 
 -- the status is 0 exactly where the file holds a proof of the problem, and 4 elsewhere

@@ -2,7 +2,7 @@
 use Rattle.std.specs.Prelude.{◌≡◌, ◌≢◌, ℕ, ℤ, List, [], ◌++◌, length, codes}
 use Rattle.std.specs.Fmt.{decimal}
 use Rattle.clause_set.specs.declared.literal.Literal.{Literal}
-use Rattle.elim_rules.specs.Whole.{AreOver}
+use Rattle.elim_laws.specs.Whole.{AreOver}
 use Rattle.proof_tree.specs.declared.run.Verdict.{Verdict}
 use Rattle.proof_tree.specs.declared.run.Verdict.TheVariants.{Valid, Invalid}
 use Rattle.tree_checker.specs.declared.checking.Checked.{Checked}
@@ -23,12 +23,12 @@ pub record IsFitting (p : Problem) (k : Checked) : Type 0 where
   pub values : HasValues p k.verdict
 
 -- the answer says that a proof of validity is accepted
-pub data IsValidTold (p : Problem) (d : List (List Literal)) (vs : List ℤ) (answer : Answer) : Type 0 where
-  alone : p.existentials ≡ [] → answer ≡ says_line 0 (codes "CHECKED VALID") → IsValidTold p d vs answer
-  lines : (text : List ℕ) → p.existentials ≢ [] → AreValuedLines (codes "CHECKED VALID") p d vs text → answer ≡ record { status = 0; text = text } → IsValidTold p d vs answer
+pub data IsCheckedValid (p : Problem) (d : List (List Literal)) (vs : List ℤ) (answer : Answer) : Type 0 where
+  alone : p.existentials ≡ [] → answer ≡ says_line 0 (codes "CHECKED VALID") → IsCheckedValid p d vs answer
+  lines : (text : List ℕ) → p.existentials ≢ [] → AreValuedLines (codes "CHECKED VALID") p d vs text → answer ≡ record { status = 0; text = text } → IsCheckedValid p d vs answer
 
 abbrev pub TellsVerdict : Problem → List (List Literal) → Verdict → Answer → Type 0
-TellsVerdict p d (Valid vs) answer = IsValidTold p d vs answer
+TellsVerdict p d (Valid vs) answer = IsCheckedValid p d vs answer
 TellsVerdict p d Invalid answer = answer ≡ says_line 0 (codes "CHECKED INVALID")
 
 -- the answer says why the proof is refused; none tells want of memory

@@ -1,7 +1,7 @@
 // What the answers of `check` mean, each the contract of a function with nothing to do.
 
 ghost use Rattle.answers.specs.Answer.{Answer, IsAnswerStatus};
-ghost use Rattle.check_job.specs.Causes.{Causes};
+ghost use Rattle.check_job.specs.Causes.{CheckCauses};
 ghost use Rattle.check_job.specs.Checked.{IsChecked};
 ghost use Rattle.check_job.specs.Exactly.{IsDecided};
 ghost use Rattle.check_job.specs.Meaning.{CheckMeans};
@@ -25,7 +25,7 @@ pub fn one_answer_law()
 
 /// Each answer comes exactly where its row of the table of answers says.
 pub fn causes_law()
-    ensures { (proof bytes : List ℕ) (a : Answer) → IsChecked proof bytes a → Causes proof bytes a }
+    ensures { (proof bytes : List ℕ) (a : Answer) → IsChecked proof bytes a → CheckCauses proof bytes a }
 {}
 
 /// A proof in a file is accepted, with status 0, exactly where the file holds a proof of the problem, and is refused elsewhere, with

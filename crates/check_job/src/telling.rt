@@ -1,8 +1,8 @@
 // How it is told what a check of a proof found.
 
 ghost use Rattle.answers.specs.Answer.{answer_of};
-ghost use Rattle.check_job.specs.Told.{IsFitting, IsValidTold, TellsFault, TellsVerdict};
-ghost use Rattle.elim_rules.specs.Whole.{AreOver};
+ghost use Rattle.check_job.specs.Told.{IsFitting, IsCheckedValid, TellsFault, TellsVerdict};
+ghost use Rattle.elim_laws.specs.Whole.{AreOver};
 ghost use Rattle.pri_typing.specs.WellFormed.{HasDistinctNames, HasIdentifiers, IsWellFormed};
 ghost use Rattle.std.specs.Prelude.{◌≡◌, IfOk, length};
 
@@ -42,7 +42,7 @@ fn valid(
     requires identifiers { HasIdentifiers problem.now }
     requires over { AreOver (length problem.now.existentials) constraint.now }
     requires values { length values.now ≡ length problem.now.existentials }
-    ensures { IfOk result (λ output. IsValidTold problem.now constraint.now values.now (answer_of output)) }
+    ensures { IfOk result (λ output. IsCheckedValid problem.now constraint.now values.now (answer_of output)) }
 {
     if problem.existentials.is_empty() {
         return say(alloc, VALID, b"CHECKED VALID");

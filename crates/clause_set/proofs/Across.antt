@@ -1,7 +1,7 @@
 -- Tidying what is tidy: it stays as it is, and of two tidy disjunctions a clause is kept where no clause of the other one outdoes it.
-use Rattle.std.proofs.Common.{◌≡◌, Bool, true, false, not, cond, ◌||◌, List, [], ◌∷◌, ◌++◌, length, arith, ◌⊎◌, inl, inr, refl, sym, ◌∙◌, ap}
+use Rattle.std.proofs.Common.{◌≡◌, Bool, true, false, not, ◌||◌, List, [], ◌∷◌, ◌++◌, length, arith, ◌⊎◌, inl, inr, refl, sym, ◌∙◌, ap}
 use Rattle.std.specs.Prelude.{All}
-use Rattle.std.specs.List.{AllByRecursion, list_all, list_any, filter, flat_map}
+use Rattle.std.specs.List.{AllByRecursion, list_all, filter}
 use Rattle.std.specs.Cmp.{first_so, second_so}
 use Rattle.std.specs.List.Sorted.{IsStrictlySortedBy}
 use Rattle.std.proofs.lemmas.List.{append-nil}
@@ -14,7 +14,7 @@ use Rattle.clause_set.specs.Order.{clause_cmp, sorted_once}
 use Rattle.clause_set.specs.Clauses.{clause_of, found}
 use Rattle.clause_set.specs.Dnfs.{outdoes, is_covered, uncovered, tidied, joined, joined_with, top}
 use Rattle.clause_set.specs.Keeping.{kept_by}
-use Rattle.clause_set.proofs.Covers.{Among, among_filter, among_filter_back, by_no, not_true}
+use Rattle.clause_set.proofs.Covers.{Among, among_filter, among_filter_back}
 use Rattle.clause_set.proofs.Orders.{clause_cmp-equal, sorted_once-any}
 use Rattle.clause_set.proofs.Sorted.{clause_cmp-total, sorted_once-sorted, sorted-same, all_among}
 use Rattle.clause_set.proofs.Putting.{among_sorted, sorted_among}
@@ -30,13 +30,13 @@ filter_whole test (x ∷ xs) h =
     (λ _. ap (λ z. x ∷ z) (filter_whole test xs (second_so (test x) (list_all test xs) h)))
     (λ n. let z : true ≡ false = sym (first_so (test x) (list_all test xs) h) ∙ n in absurd cc)
 
-filter_all : {X : Type 0} (test : X → Bool) (xs : List X) → AllByRecursion (λ x. test x ≡ true) xs → filter test xs ≡ xs
+pub filter_all : {X : Type 0} (test : X → Bool) (xs : List X) → AllByRecursion (λ x. test x ≡ true) xs → filter test xs ≡ xs
 filter_all test [] h = refl
 filter_all test (x ∷ xs) h =
     by_test (λ z. z ≡ x ∷ xs) (test x) (x ∷ filter test xs) (filter test xs)
     (λ _. ap (λ z. x ∷ z) (filter_all test xs h.1)) (λ n. let z : true ≡ false = sym h.0 ∙ n in absurd cc)
 
-not_covered : (cs ds : List (List Literal)) → AllByRecursion (λ c. is_covered cs c ≡ false) ds → AllByRecursion (λ c. not (is_covered cs c) ≡ true) ds
+pub not_covered : (cs ds : List (List Literal)) → AllByRecursion (λ c. is_covered cs c ≡ false) ds → AllByRecursion (λ c. not (is_covered cs c) ≡ true) ds
 not_covered cs [] h = tt
 not_covered cs (d ∷ ds) h = (ap not h.0, not_covered cs ds h.1)
 
@@ -53,17 +53,17 @@ among_more : {X : Type 0} (x z : X) (xs ys : List X) → Among x xs ⊎ Among x 
 among_more x z xs ys (inl m) = inl (inr m)
 among_more x z xs ys (inr m) = inr m
 
-among_append : {X : Type 0} (x : X) (xs ys : List X) → Among x (xs ++ ys) → Among x xs ⊎ Among x ys
+pub among_append : {X : Type 0} (x : X) (xs ys : List X) → Among x (xs ++ ys) → Among x xs ⊎ Among x ys
 among_append x [] ys m = inr m
 among_append x (z ∷ xs) ys (inl e) = inl (inl e)
 among_append x (z ∷ xs) ys (inr m) = among_more x z xs ys (among_append x xs ys m)
 
-among_left : {X : Type 0} (x : X) (xs ys : List X) → Among x xs → Among x (xs ++ ys)
+pub among_left : {X : Type 0} (x : X) (xs ys : List X) → Among x xs → Among x (xs ++ ys)
 among_left x [] ys m = absurd m
 among_left x (z ∷ xs) ys (inl e) = inl e
 among_left x (z ∷ xs) ys (inr m) = inr (among_left x xs ys m)
 
-among_right : {X : Type 0} (x : X) (xs ys : List X) → Among x ys → Among x (xs ++ ys)
+pub among_right : {X : Type 0} (x : X) (xs ys : List X) → Among x ys → Among x (xs ++ ys)
 among_right x [] ys m = m
 among_right x (z ∷ xs) ys m = inr (among_right x xs ys m)
 
@@ -164,12 +164,6 @@ joined-top_right [] h = refl
 joined-top_right (c ∷ d) h = ap (λ z. z ++ joined d top) (with_top c h.0) ∙ ap (λ z. c ∷ z) (joined-top_right d h.1)
 
 -- ---- as the code has it
-pub all_kept : (cs : List (List Literal)) → list_all (λ d. not (is_covered cs d)) cs ≡ true → cs ≡ uncovered cs
-all_kept cs h = sym (filter_whole (λ d. not (is_covered cs d)) cs h)
-
-pub all_stay_kept : (cs xs ys : List (List Literal)) (b : Bool) → xs ≡ cs → ys ≡ cs → b ≡ list_all (λ d. not (is_covered xs d)) ys → b ≡ true → cs ≡ uncovered cs
-all_stay_kept cs xs ys b ex ey e t = all_kept cs (sym (e ∙ ap (λ z. list_all (λ d. not (is_covered z d)) ys) ex ∙ ap (λ z. list_all (λ d. not (is_covered cs d)) z) ey) ∙ t)
-
 pub sorted_both : (a b ka kb all d : List (List Literal)) → IsDnf a → IsDnf b → ka ≡ kept_by b a → kb ≡ kept_by a b → all ≡ ka ++ kb → d ≡ sorted_once clause_cmp all → d ≡ tidied (a ++ b)
 sorted_both a b ka kb all d h k ea eb e is =
     is ∙ ap (sorted_once clause_cmp) (e ∙ ap (λ z. z ++ kb) ea ∙ ap (λ z. kept_by b a ++ z) eb) ∙ tidied-both a b h k
@@ -200,8 +194,6 @@ joined_after_true a b e h = ap (λ z. joined z b) e ∙ joined-top_left b (recur
 
 pub joined_before_true : (a b : List (List Literal)) → b ≡ top → All IsClause a → joined a b ≡ a
 joined_before_true a b e h = ap (λ z. joined a z) e ∙ joined-top_right a (recursion_from_All IsClause a h)
-
-pub ruleset staying = (all_kept)
 
 pub ruleset both = (sorted_both, sorted_whole)
 

@@ -83,7 +83,7 @@ slack-witness [] p k e = absurd (cc)
 slack-witness (l ∷ ls) p k e =
     least_one (Witness (l ∷ ls) p k) (slack_of l p) (slack ls p) k e (λ h. witness_here l ls p k h) (λ h. witness_more l ls p k (slack-witness ls p k h))
 
-at_most_self : (a : Option ℤ) (c : ℤ) → a ≡ Some c → AtMost a c
+pub at_most_self : (a : Option ℤ) (c : ℤ) → a ≡ Some c → AtMost a c
 at_most_self a c e = subst (λ z. AtMost z c) (sym e) (omega (arith, ints))
 
 pub slack-at : (m : Literal) (ls : List Literal) (p : List (ℕ × ℤ)) (c : ℤ) → Among m ls → slack_of m p ≡ Some c → AtMost (slack ls p) c
@@ -99,7 +99,7 @@ within_to : (a : Option ℤ) (k : ℤ) → AtMost a k → is_within a k ≡ true
 within_to None k h = absurd h
 within_to (Some a) k h = (le_decides a k).1 h
 
-at_most_more : (a : Option ℤ) (j k : ℤ) → AtMost a j → j ≤ℤ k → AtMost a k
+pub at_most_more : (a : Option ℤ) (j k : ℤ) → AtMost a j → j ≤ℤ k → AtMost a k
 at_most_more None j k h le = absurd h
 at_most_more (Some a) j k h le = omega (arith, ints, h, le)
 
@@ -209,12 +209,12 @@ pub not_true : (b : Bool) → not b ≡ true → b ≡ true → ⊥
 not_true true h k = cc
 not_true false h k = cc
 
-outdoes-along : (z d c : List Literal) → outdoes z d ≡ true → outdoes d c ≡ true → outdoes z c ≡ true
+pub outdoes-along : (z d c : List Literal) → outdoes z d ≡ true → outdoes d c ≡ true → outdoes z c ≡ true
 outdoes-along z d c h k =
     both_so (covers z c) (not (covers c z)) (covers-along z d c (outdoes-covers z d h) (outdoes-covers d c k))
     (by_bool_not (covers c z) (λ back. not_true (covers d z) (second_so (covers z d) (not (covers d z)) h) (covers-along d c z (outdoes-covers d c k) back)))
 
-outdoes-self : (d : List Literal) → outdoes d d ≡ true → ⊥
+pub outdoes-self : (d : List Literal) → outdoes d d ≡ true → ⊥
 outdoes-self d h = not_true (covers d d) (second_so (covers d d) (not (covers d d)) h) (outdoes-covers d d h)
 
 pub by_no : (b : Bool) → (b ≡ true → ⊥) → b ≡ false

@@ -36,4 +36,7 @@ pub mod Plain
 pub mod Reordered
 pub mod Marking
 pub mod Across
+pub mod Thinning
 pub mod Lengths
+pub mod Merging
+pub mod Implying

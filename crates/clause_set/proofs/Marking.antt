@@ -1,8 +1,8 @@
 -- The marks of a clause are among those of each clause that it covers.
-use Rattle.std.proofs.Common.{◌≡◌, ◌≢◌, ◌≤◌, ◌<◌, ◌+◌, ◌*◌, ◌%◌, ◌^◌, ℕ, ℤ, neg_ℤ, unsigned_abs, Bool, true, false, cond, List, [], ◌∷◌, Some, drop, drop-cons, add-one, length, get_or, inl, inr, refl, sym, ◌∙◌, ap, subst, arith}
+use Rattle.std.proofs.Common.{◌≡◌, ◌≢◌, ◌≤◌, ◌<◌, ◌+◌, ◌*◌, ◌%◌, ◌^◌, ℕ, ℤ, neg_ℤ, unsigned_abs, Bool, true, false, not, ◌&&◌, cond, List, [], ◌∷◌, Some, drop, drop-cons, add-one, length, get_or, inl, inr, refl, sym, ◌∙◌, ap, arith}
 use Rattle.std.specs.Prelude.{bit_and, bit_or}
 use Rattle.std.specs.Int.{bit_at}
-use Rattle.std.specs.List.{list_all, list_any}
+use Rattle.std.specs.List.{list_any}
 use Rattle.std.specs.Cmp.{first_so, second_so}
 use Rattle.std.proofs.lemmas.Int.{ints}
 use Rattle.std.proofs.Math.ListN.{drop_of_length-le}
@@ -16,7 +16,7 @@ use Rattle.clause_set.specs.declared.literal.Literal.TheVariants.{Eq, Geq, Div, 
 use Rattle.clause_set.specs.Normal.{leads_negative, negated}
 use Rattle.clause_set.specs.Order.{is_literal}
 use Rattle.clause_set.specs.Clauses.{slack, slack_of}
-use Rattle.clause_set.specs.Dnfs.{covers, follows, is_implied}
+use Rattle.clause_set.specs.Dnfs.{covers, follows, is_implied, outdoes}
 use Rattle.clause_set.specs.Marks.{mixed, shade, mark, mark_of, marks}
 use Rattle.clause_set.proofs.ClauseTruth.{by_first}
 use Rattle.clause_set.proofs.Covers.{Among, any_from, by_no, same_literal_test, slack-witness, within_some}
@@ -127,6 +127,12 @@ pub opposite_apart : (d c : List Literal) (m n : ℕ) → m ≡ marks true d →
 opposite_apart d c m n e f other = marked_apart true d c m n e f other
 
 pub ruleset apart = (own_apart, opposite_apart)
+
+-- what covers nothing outdoes nothing
+pub outdoes_none : (d c : List Literal) → covers d c ≡ false → outdoes d c ≡ false
+outdoes_none d c e = ap (λ b. b && not (covers c d)) e
+
+pub ruleset outdoing = (outdoes_none)
 
 -- ---- the loop over the coefficients
 shade_less_more : (h : ℕ) (ps : List (ℕ × ℤ)) → h < 64 → shade h ps < 64

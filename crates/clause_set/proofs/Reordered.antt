@@ -14,7 +14,7 @@ use Rattle.clause_set.proofs.Orders.{literal_cmp-equal}
 use Rattle.clause_set.proofs.Putting.{among_sorted, sorted_among}
 use Rattle.clause_set.proofs.Sorted.{literal_cmp-total, sorted_once-sorted, sorted-same}
 
-same_least : (a b : Option ℤ) → ((k : ℤ) → a ≡ Some k → AtMost b k) → ((k : ℤ) → b ≡ Some k → AtMost a k) → a ≡ b
+pub same_least : (a b : Option ℤ) → ((k : ℤ) → a ≡ Some k → AtMost b k) → ((k : ℤ) → b ≡ Some k → AtMost a k) → a ≡ b
 same_least None None f g = refl
 same_least None (Some k) f g = absurd (g k refl)
 same_least (Some j) None f g = absurd (f j refl)
@@ -23,7 +23,7 @@ same_least (Some j) (Some k) f g =
     let high : j ≤ℤ k = g k refl in
     ap Some (let e : j ≡ k = omega (arith, ints, low, high) in e)
 
-bounded_by : (xs ys : List Literal) → ((l : Literal) → Among l xs → Among l ys) → (q : List (ℕ × ℤ)) (k : ℤ) → slack xs q ≡ Some k → AtMost (slack ys q) k
+pub bounded_by : (xs ys : List Literal) → ((l : Literal) → Among l xs → Among l ys) → (q : List (ℕ × ℤ)) (k : ℤ) → slack xs q ≡ Some k → AtMost (slack ys q) k
 bounded_by xs ys f q k e = let w = slack-witness xs q k e in slack-at w.literal ys q k (f w.literal w.among) w.is
 
 module _ (xs ys : List Literal) (f : (l : Literal) → Among l xs → Among l ys) (g : (l : Literal) → Among l ys → Among l xs) where
@@ -46,7 +46,7 @@ module _ (xs ys : List Literal) (f : (l : Literal) → Among l xs → Among l ys
 any_kept : (p q : Literal → Bool) (xs ys : List Literal) → ((l : Literal) → p l ≡ q l) → ((l : Literal) → Among l xs → Among l ys) → list_any p xs ≡ true → list_any q ys ≡ true
 any_kept p q xs ys same f h = let w = any_from p xs h in any_with q w.element ys (f w.element w.among) (sym (same w.element) ∙ w.passes)
 
-among_map : {X Y : Type 0} (h : X → Y) (x : X) (xs : List X) → Among x xs → Among (h x) (map h xs)
+pub among_map : {X Y : Type 0} (h : X → Y) (x : X) (xs : List X) → Among x xs → Among (h x) (map h xs)
 among_map h x [] m = absurd m
 among_map h x (y ∷ ys) (inl e) = inl (ap h e)
 among_map h x (y ∷ ys) (inr m) = inr (among_map h x ys m)
@@ -56,7 +56,7 @@ map_kept h k [] ys z same f m = absurd m
 map_kept h k (x ∷ xs) ys z same f (inl e) = subst (λ w. Among w (map k ys)) (sym (e ∙ same x)) (among_map k x ys (f x (inl refl)))
 map_kept h k (x ∷ xs) ys z same f (inr m) = map_kept h k xs ys z same (λ y a. f y (inr a)) m
 
-same_sorted : (us vs : List Literal) → ((z : Literal) → Among z us → Among z vs) → ((z : Literal) → Among z vs → Among z us) → sorted_once literal_cmp us ≡ sorted_once literal_cmp vs
+pub same_sorted : (us vs : List Literal) → ((z : Literal) → Among z us → Among z vs) → ((z : Literal) → Among z vs → Among z us) → sorted_once literal_cmp us ≡ sorted_once literal_cmp vs
 same_sorted us vs f g =
     sorted-same literal_cmp literal_cmp-total (sorted_once literal_cmp us) (sorted_once literal_cmp vs) (sorted_once-sorted literal_cmp literal_cmp-total us) (sorted_once-sorted literal_cmp literal_cmp-total vs)
     (λ z m. among_sorted literal_cmp literal_cmp-equal z vs (f z (sorted_among literal_cmp z us m)))

@@ -21,3 +21,6 @@ pub mod Table
 pub mod Apart
 pub mod Marks
 pub mod Keeping
+pub mod Thinning
+pub mod Tighter
+pub mod Implying

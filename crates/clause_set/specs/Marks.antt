@@ -1,5 +1,5 @@
 -- Marks of clauses: small sets of what their literals speak of. Those of a clause are among those of each one that it covers.
-use Rattle.std.specs.Prelude.{ℕ, ℤ, ◌≡◌, ◌+◌, ◌*◌, ◌%◌, ◌^◌, Bool, true, false, not, cond, unsigned_abs, List, [], ◌∷◌, bit_or}
+use Rattle.std.specs.Prelude.{ℕ, ℤ, ◌≡◌, ◌+◌, ◌*◌, ◌%◌, ◌^◌, Bool, true, false, cond, unsigned_abs, List, [], ◌∷◌, bit_or}
 use Rattle.clause_set.specs.declared.literal.Literal.{Literal}
 use Rattle.clause_set.specs.declared.literal.Literal.TheVariants.{Eq, Geq, Div, NDiv}
 use Rattle.clause_set.specs.Normal.{leads_negative}

@@ -1,6 +1,7 @@
 // The bounds that literals set to a linear form.
 
 ghost use Rattle.clause_set.specs.Clauses.{bounds_apart, is_negative, is_zero, least, same_pairs, slack_of, slack, with_constant};
+ghost use Rattle.clause_set.specs.Dnfs.{is_within};
 ghost use Rattle.clause_set.specs.Normal.{leads_negative, negated, turned};
 ghost use Rattle.clause_set.specs.Table.{bound_at, tight_or_void};
 ghost use Rattle.linear_term.specs.Linear.{IsNormal};
@@ -126,6 +127,113 @@ pub fn slack(literals: &[Literal], p: &[(u32, i128)]) -> Option<i128>
     found
 }
 
+/// The number k of which the literal says −p + k ≥ 0.
+#[tactic(auto, using(crate::proofs::Slack::opposites))]
+fn opposite_slack_of(literal: &Literal, p: &[(u32, i128)]) -> Option<i128>
+    requires { All (λ r. InRange r.1) p.now }
+    ensures exact { result ≡ slack_of literal.now (negated p.now) }
+    ensures range { IfSome result (λ k. InRange k) }
+{
+    match literal {
+        Literal::Eq(t) => opposite_equation_slack(t, p),
+        Literal::Geq(t) => {
+            if are_opposite(t.pairs(), p) {
+                return Some(t.constant());
+            }
+            None
+        }
+        Literal::Div(_, _) => None,
+        Literal::NDiv(_, _) => None,
+    }
+}
+
+#[tactic(auto, using(crate::proofs::Slack::opposites))]
+fn opposite_equation_slack(t: &Term, p: &[(u32, i128)]) -> Option<i128>
+    requires { All (λ r. InRange r.1) p.now }
+    ensures exact { result ≡ slack_of (Literal.Eq t.now) (negated p.now) }
+    ensures range { IfSome result (λ k. InRange k) }
+{
+    if are_opposite(t.pairs(), p) {
+        return Some(t.constant());
+    }
+    if same_pairs(t.pairs(), p) {
+        return Some(-t.constant());
+    }
+    None
+}
+
+/// The least number k of which one of the literals says −p + k ≥ 0.
+#[tactic(auto, using(crate::proofs::Slack::slacks))]
+fn opposite_slack(literals: &[Literal], p: &[(u32, i128)]) -> Option<i128>
+    requires { All (λ r. InRange r.1) p.now }
+    ensures exact { result ≡ slack literals.now (negated p.now) }
+    ensures range { IfSome result (λ k. InRange k) }
+{
+    let mut found = None;
+    for literal in literals {
+        found = least(found, opposite_slack_of(literal, p));
+    }
+    found
+}
+
+/// The least numbers that the literals have for the term's coefficients and for their opposite: out of their table, or
+/// where there is none by a walk over the literals.
+#[tactic(auto, using(crate::proofs::Terms::terms))]
+fn ends_of(
+    alloc: Global,
+    table: &Option<Table>,
+    literals: &[Literal],
+    t: &Term,
+) -> Result<(Option<i128>, Option<i128>), Memory>
+    requires exact { IfSome table.now (λ m. (q : List (ℕ × ℤ)) → bound_at m q ≡ slack literals.now q) }
+    requires range { IfSome table.now (λ m. (q : List (ℕ × ℤ)) → IfSome (bound_at m q) (λ k. InRange k)) }
+    ensures own { IfOk result (λ both. both.0 ≡ slack literals.now t.now.pairs) }
+    ensures opposite { IfOk result (λ both. both.1 ≡ slack literals.now (negated t.now.pairs)) }
+    ensures own_range { IfOk result (λ both. IfSome both.0 (λ k. InRange k)) }
+    ensures opposite_range { IfOk result (λ both. IfSome both.1 (λ k. InRange k)) }
+{
+    match table {
+        Some(held) => {
+            let both = bounds_at(alloc, held, t)?;
+            Ok(both)
+        }
+        None => {
+            t.know_normal();
+            let own = slack(literals, t.pairs());
+            let opposite = opposite_slack(literals, t.pairs());
+            Ok((own, opposite))
+        }
+    }
+}
+
+/// Whether the literal bounds the coefficients of t at least as tightly as t ≥ 0 does. Of bounds the constants are asked
+/// first, in which most of them differ.
+#[tactic(auto, using(crate::proofs::Slack::within, crate::proofs::Terms::terms))]
+pub(crate) fn sets_bound(l: &Literal, t: &Term) -> bool
+    ensures { result ≡ is_within (slack_of l.now t.now.pairs) t.now.constant }
+{
+    match l {
+        Literal::Eq(s) => equation_sets_bound(s, t),
+        Literal::Geq(s) => s.constant() <= t.constant() && same_pairs(s.pairs(), t.pairs()),
+        Literal::Div(_, _) => false,
+        Literal::NDiv(_, _) => false,
+    }
+}
+
+#[tactic(auto, using(crate::proofs::Terms::terms))]
+fn equation_sets_bound(s: &Term, t: &Term) -> bool
+    ensures { result ≡ is_within (slack_of (Literal.Eq s.now) t.now.pairs) t.now.constant }
+{
+    t.know_normal();
+    if same_pairs(s.pairs(), t.pairs()) {
+        return s.constant() <= t.constant();
+    }
+    if are_opposite(s.pairs(), t.pairs()) {
+        return opposite_of(s.constant()) <= t.constant();
+    }
+    false
+}
+
 /// Whether bounds −j from below and k from above leave no value between them.
 #[tactic(auto, using(crate::proofs::Slack::apart))]
 fn is_negative(j: Option<i128>, k: Option<i128>) -> bool
@@ -195,16 +303,16 @@ pub(crate) fn leads_negative(pairs: &[(u32, i128)]) -> bool
 #[tactic(auto, using(crate::proofs::Terms::turning))]
 fn tightened_bound(
     alloc: Global,
-    table: &Table,
+    table: &Option<Table>,
     literals: &[Literal],
     t: &Term,
 ) -> Result<Option<Literal>, Memory>
-    requires exact { (q : List (ℕ × ℤ)) → bound_at table.now q ≡ slack literals.now q }
-    requires range { (q : List (ℕ × ℤ)) → IfSome (bound_at table.now q) (λ k. InRange k) }
+    requires exact { IfSome table.now (λ m. (q : List (ℕ × ℤ)) → bound_at m q ≡ slack literals.now q) }
+    requires range { IfSome table.now (λ m. (q : List (ℕ × ℤ)) → IfSome (bound_at m q) (λ k. InRange k)) }
     ensures { IfOk result (λ o. o ≡ tight_or_void literals.now (Literal.Geq t.now)) }
 {
     t.know_normal();
-    let (low, high) = bounds_at(alloc, table, t)?;
+    let (low, high) = ends_of(alloc, table, literals, t)?;
     if is_negative(low, high) {
         return Ok(None);
     }
@@ -221,16 +329,16 @@ fn tightened_bound(
 #[tactic(auto, using(crate::proofs::Terms::terms))]
 fn kept_equation(
     alloc: Global,
-    table: &Table,
+    table: &Option<Table>,
     literals: &[Literal],
     t: &Term,
 ) -> Result<Option<Literal>, Memory>
-    requires exact { (q : List (ℕ × ℤ)) → bound_at table.now q ≡ slack literals.now q }
-    requires range { (q : List (ℕ × ℤ)) → IfSome (bound_at table.now q) (λ k. InRange k) }
+    requires exact { IfSome table.now (λ m. (q : List (ℕ × ℤ)) → bound_at m q ≡ slack literals.now q) }
+    requires range { IfSome table.now (λ m. (q : List (ℕ × ℤ)) → IfSome (bound_at m q) (λ k. InRange k)) }
     ensures { IfOk result (λ o. o ≡ tight_or_void literals.now (Literal.Eq t.now)) }
 {
     t.know_normal();
-    let (own, opposite) = bounds_at(alloc, table, t)?;
+    let (own, opposite) = ends_of(alloc, table, literals, t)?;
     if is_negative(own, opposite) {
         return Ok(None);
     }
@@ -251,12 +359,12 @@ fn constant_of(k: Option<i128>, t: &Term) -> i128
 /// The literal as the others tighten it; none where its coefficients have no value.
 pub(crate) fn tightened(
     alloc: Global,
-    table: &Table,
+    table: &Option<Table>,
     literals: &[Literal],
     literal: &Literal,
 ) -> Result<Option<Literal>, Memory>
-    requires exact { (q : List (ℕ × ℤ)) → bound_at table.now q ≡ slack literals.now q }
-    requires range { (q : List (ℕ × ℤ)) → IfSome (bound_at table.now q) (λ k. InRange k) }
+    requires exact { IfSome table.now (λ m. (q : List (ℕ × ℤ)) → bound_at m q ≡ slack literals.now q) }
+    requires range { IfSome table.now (λ m. (q : List (ℕ × ℤ)) → IfSome (bound_at m q) (λ k. InRange k)) }
     ensures { IfOk result (λ o. o ≡ tight_or_void literals.now literal.now) }
 {
     match literal {

@@ -9,6 +9,7 @@ ghost use Rattle.std.specs.List.{flat_map, list_any};
 ghost use Rattle.std.specs.Prelude.{◌≡◌, ◌<◌, ◌++◌, All, cond, false, IfOk, length, List, None, OnOk, slice_get, Some, ℤ};
 
 use super::compact::compact;
+use super::conjoined::conjoined;
 use super::literal::{Literal, Norm};
 use super::marks::{Marks, all_marks};
 use super::normal_form::normalized;
@@ -117,6 +118,21 @@ impl Clause {
     {
         know_literals(ls.as_slice());
         let Some(literals) = clause_literals(alloc, ls.as_slice())? else {
+            return Ok(None);
+        };
+        know_literals(literals.as_slice());
+        let marks = all_marks(literals.as_slice());
+        Ok(Some(Clause { literals, marks }))
+    }
+
+    /// The conjunction of two clauses, whose literals are in normal form already; none where it is found to be false.
+    #[tactic(auto, using(crate::proofs::Merging::conjunctions))]
+    pub(crate) fn of_both(alloc: Global, c: &Clause, d: &Clause) -> Result<Option<Clause>, Memory>
+        ensures { IfOk result (λ both. both ≡ clause_of (c.now ++ d.now)) }
+    {
+        c.know_clause();
+        d.know_clause();
+        let Some(literals) = conjoined(alloc, c.literals(), d.literals())? else {
             return Ok(None);
         };
         know_literals(literals.as_slice());

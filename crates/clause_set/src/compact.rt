@@ -20,11 +20,11 @@ use std::alloc::Global;
 #[tactic(auto, using(crate::proofs::Tightening::tightenings))]
 fn all_tightened(
     alloc: Global,
-    table: &Table,
+    table: &Option<Table>,
     literals: &[Literal],
 ) -> Result<Option<Items<Literal>>, Memory>
-    requires exact { (q : List (ℕ × ℤ)) → bound_at table.now q ≡ slack literals.now q }
-    requires range { (q : List (ℕ × ℤ)) → IfSome (bound_at table.now q) (λ k. InRange k) }
+    requires exact { IfSome table.now (λ m. (q : List (ℕ × ℤ)) → bound_at m q ≡ slack literals.now q) }
+    requires range { IfSome table.now (λ m. (q : List (ℕ × ℤ)) → IfSome (bound_at m q) (λ k. InRange k)) }
     ensures { IfOk result (λ o. o ≡ cond (list_any (is_void literals.now) literals.now) None (Some (map (tightened literals.now) literals.now))) }
 {
     let mut out = room_for(alloc, literals.len())?;
@@ -37,12 +37,26 @@ fn all_tightened(
     Ok(Some(out))
 }
 
-/// The literals tightened by a table of all bounds, sorted, each once; none where a form has no value.
+/// Up to so many literals each one is compared with each other one.
+const FEW: usize = 16;
+
+/// A table of all bounds, where there are more than a few literals.
+fn table_for(alloc: Global, literals: &[Literal]) -> Result<Option<Table>, Memory>
+    ensures exact { IfOk result (λ o. IfSome o (λ m. (q : List (ℕ × ℤ)) → bound_at m q ≡ slack literals.now q)) }
+    ensures range { IfOk result (λ o. IfSome o (λ m. (q : List (ℕ × ℤ)) → IfSome (bound_at m q) (λ k. InRange k))) }
+{
+    if literals.len() <= FEW {
+        return Ok(None);
+    }
+    Ok(Some(table_of(alloc, literals)?))
+}
+
+/// The literals tightened by all bounds, sorted, each once; none where a form has no value.
 #[tactic(auto, using(crate::proofs::Tightening::ends), unfolding(crate::specs::Clauses::compact))]
-fn by_table(alloc: Global, literals: &[Literal]) -> Result<Option<Items<Literal>>, Memory>
+fn by_bounds(alloc: Global, literals: &[Literal]) -> Result<Option<Items<Literal>>, Memory>
     ensures { IfOk result (λ answer. answer ≡ compact literals.now) }
 {
-    let table = table_of(alloc, literals)?;
+    let table = table_for(alloc, literals)?;
     match all_tightened(alloc, &table, literals)? {
         Some(tight) => Ok(Some(sort_once(alloc, tight)?)),
         None => Ok(None),
@@ -64,5 +78,5 @@ pub(crate) fn compact(
     if are_apart(sorted.as_slice()) {
         return Ok(Some(sorted));
     }
-    by_table(alloc, sorted.as_slice())
+    by_bounds(alloc, sorted.as_slice())
 }

@@ -1,17 +1,19 @@
 // Which clause covers which, and the clauses that no other one covers.
 
 ghost use Rattle.clause_set.specs.Clause.{IsDnf};
-ghost use Rattle.clause_set.specs.Dnfs.{covers, follows, is_covered, is_implied, outdoes, tidied, uncovered};
+ghost use Rattle.clause_set.specs.Dnfs.{covers, is_covered, is_implied, outdoes, tidied, uncovered};
+ghost use Rattle.clause_set.specs.Implying.{implies};
 ghost use Rattle.clause_set.specs.Keeping.{kept_by};
 ghost use Rattle.clause_set.specs.Order.{is_literal};
+ghost use Rattle.clause_set.specs.Thinning.{AreThinned, IsThin};
 ghost use Rattle.std.specs.List.{list_all, list_any};
-ghost use Rattle.std.specs.Prelude.{◌≡◌, ◌++◌, [], ◌∷◌, filter, IfOk, not, OnOk};
+ghost use Rattle.std.specs.Prelude.{◌≡◌, ◌<◌, ◌≤◌, ◌++◌, [], ◌∷◌, cond, false, filter, IfNone, IfOk, IfSome, length, not, OnOk, reverse, true};
 
-use super::bounds::slack;
+use super::bounds::sets_bound;
 use super::clause::Clause;
 use super::literal::Literal;
-use super::order::{Ordered, sort_once};
-use linear_term::{Memory, Term};
+use super::order::{Ordered, room_for, sort_once};
+use linear_term::Memory;
 use sqlite_items::Items;
 use std::alloc::Global;
 
@@ -30,54 +32,65 @@ fn is_same(l: &Literal, m: &Literal) -> bool
     l.compare(m).is_eq()
 }
 
-/// Whether the literal is one of the clause's.
-#[tactic(auto, using(crate::proofs::Walks::walks))]
-fn has_literal(c: &[Literal], l: &Literal) -> bool
-    ensures { result ≡ list_any (is_literal l.now) c.now }
-{
-    for m in c {
-        if is_same(l, m) {
-            return true;
-        }
-    }
-    false
-}
-
-/// Whether the bound t ≥ 0 follows from the clause's bounds.
-#[tactic(auto, using(crate::proofs::Terms::terms))]
-fn follows_bound(c: &[Literal], t: &Term) -> bool
-    ensures { result ≡ follows c.now (Literal.Geq t.now) }
-{
-    t.know_normal();
-    match slack(c, t.pairs()) {
-        Some(k) => k <= t.constant(),
-        None => false,
-    }
-}
-
-/// Whether the literal is in the clause, or follows from its bounds: a bound that is in it follows.
-#[tactic(auto, using(crate::proofs::Covers::implied))]
-fn is_implied(c: &[Literal], l: &Literal) -> bool
-    ensures { result ≡ is_implied c.now l.now }
+/// Whether l follows from m alone.
+fn implies(m: &Literal, l: &Literal) -> bool
+    ensures { result ≡ implies l.now m.now }
 {
     match l {
-        Literal::Geq(t) => follows_bound(c, t),
-        Literal::Eq(_) => has_literal(c, l),
-        Literal::Div(_, _) => has_literal(c, l),
-        Literal::NDiv(_, _) => has_literal(c, l),
+        Literal::Geq(t) => sets_bound(m, t),
+        Literal::Eq(_) => is_same(l, m),
+        Literal::Div(_, _) => is_same(l, m),
+        Literal::NDiv(_, _) => is_same(l, m),
+    }
+}
+
+/// The place of the last literal that l follows from.
+#[tactic(auto, using(crate::proofs::Implying::backwards))]
+fn last_implying(ls: &[Literal], l: &Literal) -> Option<usize>
+    ensures found { IfSome result (λ at. list_any (implies l.now) ls.now ≡ true) }
+    ensures within { IfSome result (λ at. at < length ls.now) }
+    ensures none { IfNone result (list_any (implies l.now) ls.now ≡ false) }
+{
+    let mut left = ls;
+    while let Some((m, before)) = left.split_last() {
+        if implies(m, l) {
+            return Some(before.len());
+        }
+        left = before;
+    }
+    None
+}
+
+/// The place of a literal of the clause that l follows from. Those before `at` are asked first, the last one of them first.
+#[tactic(auto, using(crate::proofs::Implying::halves))]
+fn implying(c: &[Literal], at: usize, l: &Literal) -> Option<usize>
+    requires { at ≤ length c.now }
+    ensures found { IfSome result (λ place. is_implied c.now l.now ≡ true) }
+    ensures within { IfSome result (λ place. place ≤ length c.now) }
+    ensures none { IfNone result (is_implied c.now l.now ≡ false) }
+{
+    let (near, others) = c.split_at(at);
+    if let Some(place) = last_implying(near, l) {
+        return Some(place);
+    }
+    match last_implying(others, l) {
+        Some(place) => Some(at + place),
+        None => None,
     }
 }
 
 /// Whether the clause d covers the clause c: each literal of d is in c, or follows from its bounds. The last ones, in
-/// which sorted clauses differ most, are asked first.
+/// which sorted clauses differ most, are asked first, each of the literals of c before the one that was found last.
 fn covers(d: &[Literal], c: &[Literal]) -> bool
     ensures { result ≡ covers d.now c.now }
 {
     let mut left = d;
+    let mut at = c.len();
     while let Some((l, rest)) = left.split_last() {
-        if !is_implied(c, l) {
+        let Some(place) = implying(c, at, l) else {
             return false;
-        }
+        };
+        at = place;
         left = rest;
     }
     true
@@ -90,11 +103,20 @@ fn covers_clause(d: &Clause, c: &Clause) -> bool
     d.may_cover(c) && covers(d.literals(), c.literals())
 }
 
+/// Whether d covers c, and is not covered by it: asked of those whose marks leave it open.
+#[inline(never)]
+fn outdoes_marked(d: &Clause, c: &Clause) -> bool
+    ensures { result ≡ outdoes d.now c.now }
+{
+    covers(d.literals(), c.literals()) && !covers_clause(c, d)
+}
+
 /// Whether d covers c, and is not covered by it.
+#[tactic(auto, using(crate::proofs::Marking::outdoing))]
 fn outdoes(d: &Clause, c: &Clause) -> bool
     ensures { result ≡ outdoes d.now c.now }
 {
-    covers_clause(d, c) && !covers_clause(c, d)
+    d.may_cover(c) && outdoes_marked(d, c)
 }
 
 #[tactic(auto, using(crate::proofs::Walks::walks))]
@@ -150,15 +172,51 @@ fn all_stay(cs: &[Clause], ds: &[Clause]) -> bool
     true
 }
 
-/// The clauses that no other one covers: all of them as they are, where that is so.
-#[tactic(auto, using(crate::proofs::Across::staying))]
+/// Puts c behind the others, unless one of them covers it and is not covered by it.
+fn push_thin(c: Clause, out: &mut Items<Clause>) -> Result<(), Memory>
+    ensures { OnOk result (out.new ≡ cond (is_covered out.old c) out.old (out.old ++ c ∷ [])) }
+{
+    if is_covered(out.as_slice(), &c) {
+        return Ok(());
+    }
+    out.push(c)?;
+    Ok(())
+}
+
+/// The clauses without those that one behind them covers, the last one first: each is compared with those that stay.
+#[tactic(auto, using(crate::proofs::Thinning::thinning))]
+fn thinned(alloc: Global, mut cs: Items<Clause>) -> Result<Items<Clause>, Memory>
+    ensures { IfOk result (λ left. AreThinned cs left) }
+{
+    let mut left = room_for(alloc, cs.len())?;
+    while let Some(c) = cs.pop() {
+        push_thin(c, &mut left)?;
+    }
+    Ok(left)
+}
+
+/// The same once more from the other end: after it no clause covers another one.
+#[tactic(auto, using(crate::proofs::Thinning::settling))]
+fn settled(alloc: Global, mut cs: Items<Clause>) -> Result<Items<Clause>, Memory>
+    requires { IsThin (reverse cs) }
+    ensures { IfOk result (λ kept. kept ≡ uncovered (reverse cs)) }
+{
+    let mut kept = room_for(alloc, cs.len())?;
+    while let Some(c) = cs.pop() {
+        push_thin(c, &mut kept)?;
+    }
+    Ok(kept)
+}
+
+/// The clauses that no other one covers. What a clause covers is covered by what covers that one, so those that are left
+/// out need not be asked again.
+#[tactic(auto, using(crate::proofs::Thinning::both_ways))]
 pub(crate) fn uncovered(alloc: Global, cs: Items<Clause>) -> Result<Items<Clause>, Memory>
     ensures { IfOk result (λ kept. kept ≡ uncovered cs) }
 {
-    if all_stay(cs.as_slice(), cs.as_slice()) {
-        return Ok(cs);
-    }
-    kept_by(alloc, cs.as_slice(), cs.as_slice())
+    let left = thinned(alloc, cs)?;
+    let kept = settled(alloc, left)?;
+    Ok(kept)
 }
 
 /// The tidy form of two tidy lists of clauses: each clause is compared with those of the other list alone.

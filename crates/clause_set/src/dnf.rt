@@ -10,7 +10,7 @@ ghost use Rattle.purse.specs.Trace.{combining};
 ghost use Rattle.purse.specs.Work.{Charged, Worked};
 ghost use Rattle.std.specs.Prelude.{◌≡◌, ◌≢◌, ◌<◌, ◌++◌, ◌&&◌, ◌||◌, [], ◌∷◌, pos, negsuc, All, IfOk, IsTrue, length, List, not, OnOk, slice_get, Some, ℤ};
 
-use super::clause::{Clause, copy_literals};
+use super::clause::Clause;
 use super::covering::{tidied_both, tidied_into, uncovered};
 use super::literal::Literal;
 use super::order::{room_for, sort_once};
@@ -393,11 +393,7 @@ fn joined_with(alloc: Global, c: &Clause, d: &[Clause]) -> Result<Items<Clause>,
 fn push_joined(alloc: Global, c: &Clause, e: &Clause, out: &mut Items<Clause>) -> Result<(), Memory>
     ensures { OnOk result (out.new ≡ out.old ++ found (clause_of (c.now ++ e.now))) }
 {
-    c.know_clause();
-    e.know_clause();
-    let mut literals = copy_literals(alloc, c.literals())?;
-    literals.append(copy_literals(alloc, e.literals())?)?;
-    match Clause::of(alloc, literals)? {
+    match Clause::of_both(alloc, c, e)? {
         Some(clause) => Ok(out.push(clause)?),
         None => Ok(()),
     }

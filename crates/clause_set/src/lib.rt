@@ -5,6 +5,7 @@ mod apart;
 pub mod bounds;
 mod clause;
 mod compact;
+mod conjoined;
 mod covering;
 mod dnf;
 mod laws;

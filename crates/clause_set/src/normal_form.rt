@@ -9,7 +9,7 @@ ghost use Rattle.linear_term.specs.Range.{InRange};
 ghost use Rattle.std.specs.Int.{int_rem_euclid};
 ghost use Rattle.std.specs.Prelude.{◌≡◌, ◌<◌, ◌%◌, ◌<ℤ◌, ℤ, pos, unsigned_abs, [], ◌∷◌, ◌++◌, All, IfOk, OnOk, List};
 
-use super::bounds::{negated, turned};
+use super::bounds::{leads_negative, negated, turned};
 use super::literal::{Literal, Norm};
 use linear_term::{Memory, Term, floor_div, gcd};
 use std::alloc::Global;
@@ -149,14 +149,17 @@ fn reduced_equation(alloc: Global, g: i128, t: &Term) -> Result<Norm, Memory>
     if !divides(g, t.constant()) {
         return Ok(Norm::False);
     }
-    Ok(Norm::Lit(Literal::Eq(turned_term(alloc, &quotient(alloc, g, t)?)?)))
+    Ok(Norm::Lit(Literal::Eq(turned_term(alloc, quotient(alloc, g, t)?)?)))
 }
 
 /// The term or its opposite: the one whose first coefficient is positive.
 #[tactic(auto, using(crate::proofs::Terms::turning))]
-fn turned_term(alloc: Global, t: &Term) -> Result<Term, Memory>
-    ensures { IfOk result (λ q. q ≡ turned t.now) }
+fn turned_term(alloc: Global, t: Term) -> Result<Term, Memory>
+    ensures { IfOk result (λ q. q ≡ turned t) }
 {
+    if !leads_negative(t.pairs()) {
+        return Ok(t);
+    }
     t.know_normal();
     let opposite = negated(alloc, t.pairs())?;
     turned(alloc, t.pairs(), opposite.as_slice(), t.constant())

@@ -5,9 +5,9 @@ use Rattle.typed_formula.specs.Truth.{Meaning}
 use Rattle.typed_formula.specs.declared.world.Table.{Table}
 use Rattle.purse.specs.Trace.{Traced, just, next}
 use Rattle.formula.specs.Form.{Form, FormTruth, is_pure, universal, forms}
-use Rattle.elim_rules.specs.Presburger.{IsPresburger, ArePresburger}
-use Rattle.elim_rules.proofs.Reduced.{presburger_of}
-use Rattle.elim_rules.proofs.Whole.{anywhere, counterexample}
+use Rattle.elim_laws.specs.Presburger.{IsPresburger, ArePresburger}
+use Rattle.elim_laws.proofs.Reduced.{presburger_of}
+use Rattle.elim_laws.proofs.Whole.{anywhere, counterexample}
 use Rattle.encoding.specs.Problems.{body, constants, problem_root}
 use Rattle.encoding.specs.Root.{conditions, for_last}
 use Rattle.encoding.proofs.Problems.{over_constants_is, root_is}

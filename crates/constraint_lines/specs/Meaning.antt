@@ -5,7 +5,7 @@ use Rattle.typed_formula.specs.Truth.{Meaning}
 use Rattle.clause_set.specs.declared.literal.Literal.{Literal}
 use Rattle.clause_set.specs.Literals.{dnf_truth}
 use Rattle.formula.specs.Form.{FormTruth}
-use Rattle.elim_rules.specs.Whole.{AreOver}
+use Rattle.elim_laws.specs.Whole.{AreOver}
 use Rattle.encoding.specs.Problems.{problem_root}
 use Rattle.pri_typing.specs.declared.problem.Problem.{Problem}
 use Rattle.pri_typing.specs.Problems.{Holds, IsTrueAt, Says, SpeaksOfExistentials}

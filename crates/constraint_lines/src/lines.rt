@@ -1,7 +1,7 @@
 // The lines that print a constraint and values.
 
 ghost use Rattle.constraint_lines.specs.Lines.{AreValuedLines};
-ghost use Rattle.elim_rules.specs.Whole.{AreOver};
+ghost use Rattle.elim_laws.specs.Whole.{AreOver};
 ghost use Rattle.pri_typing.specs.WellFormed.{HasDistinctNames, HasIdentifiers, IsWellFormed};
 ghost use Rattle.std.specs.Prelude.{◌≡◌, IfOk, length};
 

@@ -7,7 +7,7 @@ use Rattle.clause_set.specs.declared.literal.Literal.{Literal}
 use Rattle.clause_set.specs.Literals.{term_of, dnf_truth}
 use Rattle.typed_formula.specs.Formula.{Formula}
 use Rattle.typed_formula.specs.Truth.{Meaning}
-use Rattle.elim_rules.specs.Whole.{AreOver, Lacks}
+use Rattle.elim_laws.specs.Whole.{AreOver, Lacks}
 use Rattle.pri_typing.specs.declared.problem.Problem.{Problem}
 use Rattle.pri_typing.specs.declared.problem.Symbol.{Symbol}
 use Rattle.pri_typing.specs.declared.scope.Category.TheVariants as category
@@ -17,7 +17,7 @@ use Rattle.pri_typing.specs.Problems.{IsTrueAt, Says, SpeaksOfExistentials, scop
 use Rattle.pri_typing.specs.Typing.{says}
 use Rattle.pri_typing.specs.WellFormed.{names_of_symbols}
 use Rattle.pri_printer.specs.Formulas.{normal_form_formula}
-use Rattle.pri_printer.specs.Names.{PairNames, ClauseNames, DnfNames, IsBelow}
+use Rattle.pri_printer.specs.Names.{PairNames, ClauseNames, DnfNames, IsVariableBelow}
 use Rattle.pri_printer.specs.Printed.{constants_of, dnf_text, dnf_formula}
 use Rattle.pri_printer.specs.Quotient.{quotient_name, quotient_number, free_from}
 use Rattle.pri_printer.specs.Text.{normal_form_text}
@@ -38,28 +38,28 @@ unnamed-rest p ps y h = by (nat_eq p.0 y) h
     by true e = absurd cc
     by false e = e
 
-pairs_below : (n : ℕ) (ps : List (ℕ × ℤ)) → ((y : ℕ) → n ≤ y → has_name ps y ≡ false) → PairNames (IsBelow n) ps
+pairs_below : (n : ℕ) (ps : List (ℕ × ℤ)) → ((y : ℕ) → n ≤ y → has_name ps y ≡ false) → PairNames (IsVariableBelow n) ps
 pairs_below n [] h = tt
 pairs_below n (p ∷ ps) h =
     (lt_of_not-le (λ (le : n ≤ p.0). let bad : true ≡ false = sym (named-first p ps) ∙ h p.0 le in absurd cc), pairs_below n ps (λ y le. unnamed-rest p ps y (h y le)))
 
-clause_below : (n : ℕ) (c : List Literal) → ((y : ℕ) → n ≤ y → Lacks y c) → ClauseNames (IsBelow n) c
+clause_below : (n : ℕ) (c : List Literal) → ((y : ℕ) → n ≤ y → Lacks y c) → ClauseNames (IsVariableBelow n) c
 unfolding mentions
 clause_below n [] h = tt
 clause_below n (l ∷ ls) h = (pairs_below n (term_of l).pairs (λ y le. (h y le).0), clause_below n ls (λ y le. (h y le).1))
 
 -- a normal form over n names has names below n alone
-pub names_below : (n : ℕ) (d : List (List Literal)) → AreOver n d → DnfNames (IsBelow n) d
+pub names_below : (n : ℕ) (d : List (List Literal)) → AreOver n d → DnfNames (IsVariableBelow n) d
 names_below n [] h = tt
 names_below n (c ∷ cs) h = (clause_below n c (λ y le. (h y le).0), names_below n cs (λ y le. (h y le).1))
 
 -- those of the existential constants are those of constants
-pub constants_below : (p : Problem) (d : List (List Literal)) → AreOver (length p.existentials) d → DnfNames (IsBelow (length (constants_of p))) d
+pub constants_below : (p : Problem) (d : List (List Literal)) → AreOver (length p.existentials) d → DnfNames (IsVariableBelow (length (constants_of p))) d
 constants_below p d h =
     names_below (length (constants_of p)) d (λ y le. h y (let m = length-append p.existentials p.universals in omega arith))
 
 -- and one over all constants is over these
-pub all_below : (p : Problem) (d : List (List Literal)) → AreOver (length p.existentials + length p.universals) d → DnfNames (IsBelow (length (constants_of p))) d
+pub all_below : (p : Problem) (d : List (List Literal)) → AreOver (length p.existentials + length p.universals) d → DnfNames (IsVariableBelow (length (constants_of p))) d
 all_below p d h =
     names_below (length (constants_of p)) d (λ y le. h y (let m = length-append p.existentials p.universals in omega (arith, le, m)))
 

@@ -3,7 +3,7 @@
 ghost use Rattle.clause_set.specs.Literals.{dnf_truth};
 ghost use Rattle.clause_set.specs.declared.literal.Literal.{Literal};
 ghost use Rattle.constraint_text.specs.Constraint.{IsTextOf};
-ghost use Rattle.elim_rules.specs.Whole.{AreOver};
+ghost use Rattle.elim_laws.specs.Whole.{AreOver};
 ghost use Rattle.pri_printer.specs.Printed.{dnf_formula};
 ghost use Rattle.pri_typing.specs.Problems.{IsTrueAt, SpeaksOfExistentials};
 ghost use Rattle.pri_typing.specs.declared.problem.Problem.{Problem};

@@ -2,8 +2,8 @@
 
 ghost use Rattle.answers.specs.Answer.{line};
 ghost use Rattle.constraint_text.specs.Constraint.{IsLineOf, constraint_line, interpolant_line};
-ghost use Rattle.elim_rules.specs.Whole.{AreOver};
-ghost use Rattle.pri_printer.specs.Names.{DnfNames, IsBelow};
+ghost use Rattle.elim_laws.specs.Whole.{AreOver};
+ghost use Rattle.pri_printer.specs.Names.{DnfNames, IsVariableBelow};
 ghost use Rattle.pri_printer.specs.Printed.{constants_of};
 ghost use Rattle.pri_typing.specs.WellFormed.{HasDistinctNames, HasIdentifiers, IsWellFormed};
 ghost use Rattle.std.specs.Prelude.{◌+◌, ◌++◌, IfOk, length};
@@ -42,7 +42,7 @@ fn labelled(alloc: Global, label: &[u8], p: &Problem, d: &Dnf) -> Result<Vec<u8>
     requires well_formed { IsWellFormed p.now }
     requires distinct { HasDistinctNames p.now }
     requires identifiers { HasIdentifiers p.now }
-    requires over { DnfNames (IsBelow (length (constants_of p.now))) d.now }
+    requires over { DnfNames (IsVariableBelow (length (constants_of p.now))) d.now }
     ensures { IfOk result (λ text. IsLineOf (λ x. line (label.now ++ x)) p.now d.now text.items) }
 {
     let printed = print_dnf(alloc, p, d)?;

@@ -1,8 +1,9 @@
 // Counterexamples of files.
 
 ghost use Rattle.encoding.specs.Problems.{problem_root};
+ghost use Rattle.limits.specs.Limits.{branch_limit};
 ghost use Rattle.open_trees.specs.Levels.{HasLevels};
-ghost use Rattle.open_trees.specs.Open.{IsSaturated};
+ghost use Rattle.open_trees.specs.Open.{IsSaturatedTree};
 ghost use Rattle.pri_typing.specs.WellFormed.{IsWellFormed};
 ghost use Rattle.problem_file.specs.Encoded.{IsEncoded};
 ghost use Rattle.proof_tree.specs.Views.{proof_of};
@@ -41,8 +42,8 @@ fn explained(
 ) -> Result<End, Memory>
     requires formed { IsWellFormed p.now }
     requires encoded { IsEncoded p.now e.now }
-    requires saturated { IsSaturated (problem_root p.now).value (length p.now.existentials) (proof_of tree.now.root) }
-    requires levels { HasLevels 2000 (proof_of tree.now.root) }
+    requires saturated { IsSaturatedTree (problem_root p.now).value (length p.now.existentials) (proof_of tree.now.root) }
+    requires levels { HasLevels branch_limit (proof_of tree.now.root) }
     requires budget { budget < 2 ^ 32 }
 {
     let Some(at) = probe(alloc, p)? else {

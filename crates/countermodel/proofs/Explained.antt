@@ -1,9 +1,6 @@
 -- From the open tree of an encoded problem the walk is ready to start, and what it finds is a counterexample.
-use Rattle.std.proofs.Common.{◌≡◌, ◌≤◌, ◌+◌, ℕ, zero, suc, ℤ, Bool, true, false, ◌||◌, nat_lt, List, [], ◌∷◌, ◌++◌, take, drop, length, Option, Some, refl, sym, ◌∙◌, ap, subst, length-append, arith}
-use Rattle.std.proofs.lemmas.Grind.{common_steps}
+use Rattle.std.proofs.Common.{◌≡◌, ◌≤◌, ◌+◌, ℕ, zero, suc, ℤ, false, List, [], ◌∷◌, ◌++◌, take, drop, length, Option, Some, refl, sym, ◌∙◌, ap, subst, length-append, arith}
 use Rattle.std.proofs.lemmas.List.Elements.{recursion_from_All}
-use Rattle.formula.specs.Form.{Form}
-use Rattle.formula.specs.Sizes.{size, depth}
 use Rattle.typed_formula.specs.Sorts.{AreValuesOf, IsSortRanged}
 use Rattle.sequent.proofs.Forming.{start_formed}
 use Rattle.node_steps.proofs.Keeping.{start_within}
@@ -15,34 +12,22 @@ use Rattle.encoding.specs.Problems.{is_large, problem_root}
 use Rattle.encoding.proofs.Conditions.{values_length}
 use Rattle.encoding.proofs.Problems.{root_over}
 use Rattle.problem_file.proofs.Reduced.{problem_reduced}
+use Rattle.problem_file.proofs.Sizes.{within_limits}
 use Rattle.open_trees.specs.Levels.{HasLevels}
-use Rattle.open_trees.specs.Open.{IsSaturated}
+use Rattle.open_trees.specs.Open.{IsSaturatedTree}
 use Rattle.open_trees.specs.Walk.{Stop, walk}
 use Rattle.open_trees.proofs.Refuting.{walk_refutes}
-use Rattle.open_walk.specs.Ready.{IsReady}
+use Rattle.open_walk.specs.Ready.{IsWalkReady}
 use Rattle.refuted_runs.specs.Refuting.{IsCounterexample, IsExplained, found_at}
 use Rattle.refuted_runs.proofs.Problems.{explained}
 use Rattle.countermodel.specs.Probes.{probe_values}
 use Rattle.countermodel.proofs.Nearest.{probes_are, probes_ranged, typed_probes}
 
-neither : (a b : Bool) → (a || b) ≡ false → (a ≡ false) × (b ≡ false)
-neither true b h = absurd cc
-neither false b h = (refl, h)
-
-not_above : (most n : ℕ) → nat_lt most n ≡ false → n ≤ most
-not_above most n h = grind (arith, common_steps)
-
-small_size : (f : Form) → is_large f ≡ false → size f ≤ 1000000
-small_size f small = not_above 1000000 (size f) (neither (nat_lt 1000000 (size f)) (nat_lt 2000 (depth f)) small).0
-
-small_depth : (f : Form) → is_large f ≡ false → depth f ≤ 2000
-small_depth f small = not_above 2000 (depth f) (neither (nat_lt 1000000 (size f)) (nat_lt 2000 (depth f)) small).1
-
 -- the probe values, as a tree's walk takes them
 pub record IsAsked (p : Problem) (x : Proof) (e : List ℤ) : Type 0 where
   pub formed : IsWellFormed p
   pub small : is_large (problem_root p).value ≡ false
-  pub saturated : IsSaturated (problem_root p).value (length p.existentials) x
+  pub saturated : IsSaturatedTree (problem_root p).value (length p.existentials) x
   pub probes : probe_values p.existential_types ≡ Some e
 
 typed_asked : (p : Problem) (x : Proof) (e : List ℤ) → IsAsked p x e → AreValuesOf p.existential_types e
@@ -52,13 +37,13 @@ many_asked : (p : Problem) (x : Proof) (e : List ℤ) → IsAsked p x e → leng
 many_asked p x e a = values_length p.existential_types e (typed_asked p x e a) ∙ a.formed.existential_types.many
 
 -- the walk is ready at the root
-pub ready_root : (p : Problem) (x : Proof) (e : List ℤ) → IsAsked p x e → HasLevels 2000 x → IsReady 2000 (start (problem_root p).value (length p.existentials)) x e
+pub ready_root : (p : Problem) (x : Proof) (e : List ℤ) → IsAsked p x e → HasLevels 2000 x → IsWalkReady 2000 (start (problem_root p).value (length p.existentials)) x e
 ready_root p x e a levels =
     let f = (problem_root p).value in
     let n = length p.existentials in
     let few : n ≤ 1000 = (let all = a.formed.few in omega (arith, all)) in
     record {
-      within = start_within f n (root_over p a.formed) (small_size f a.small) (small_depth f a.small) few;
+      within = start_within f n (root_over p a.formed) ((within_limits f a.small).0) ((within_limits f a.small).1) few;
       reduced = (problem_reduced p, tt);
       levels = levels;
       gives = ((a.saturated).tree).gives;

@@ -19,12 +19,12 @@ use Rattle.encoding.specs.Problems.{problem_root}
 use Rattle.function_encoding.specs.declared.answer.Encoded.{Encoded}
 use Rattle.problem_file.specs.Encoded.{IsEncoded}
 use Rattle.open_trees.specs.Levels.{HasLevels}
-use Rattle.open_trees.specs.Open.{IsSaturated}
+use Rattle.open_trees.specs.Open.{IsSaturatedTree}
 use Rattle.open_trees.specs.Rows.{table_at}
 use Rattle.open_trees.specs.Walk.{Stop, walk}
 use Rattle.open_walk.specs.declared.walking.Stop as code
-use Rattle.open_walk.specs.Doing.{Does}
-use Rattle.open_walk.specs.Ready.{IsReady}
+use Rattle.open_walk.specs.Doing.{DoesWork}
+use Rattle.open_walk.specs.Ready.{IsWalkReady}
 use Rattle.open_walk.specs.Stopped.{stop_of, stopped}
 use Rattle.refuted_runs.specs.Refuting.{IsCounterexample, found_at, universals_of}
 use Rattle.countermodel.specs.declared.explaining.Counterexample.{Counterexample}
@@ -53,44 +53,44 @@ found_whole p stop v w us ms t m k values members did there many more is =
     work_ok _ _ (subst (λ q. Worked q (Ok t)) (table_of_leaf stop v ms values members) did) (work_just _ _ (λ i. Some (worked_value (subst (λ q. Worked q (Ok t)) (table_of_leaf stop v ms values members) did) i, (is ∙ (λ j. universals_of (many j) (more j) (there j))) i)))
 
 -- ---- the walk
-pub asked : (p : Problem) (e : Encoded) (x : Proof) (at : List ℤ) → IsWellFormed p → IsEncoded p e → IsSaturated (problem_root p).value (length p.existentials) x → probe_values p.existential_types ≡ Some at → IsAsked p x at
+pub asked : (p : Problem) (e : Encoded) (x : Proof) (at : List ℤ) → IsWellFormed p → IsEncoded p e → IsSaturatedTree (problem_root p).value (length p.existentials) x → probe_values p.existential_types ≡ Some at → IsAsked p x at
 asked p e x at formed encoded saturated probes = record { formed = formed; small = (encoded.fits).0; saturated = saturated; probes = probes }
 
 -- the sequent of the code is that of the encoded problem
 pub started : (p : Problem) (e : Encoded) (s : Sequent) → IsEncoded p e → s ≡ start (form e.root) e.constants → s ≡ start (problem_root p).value (length p.existentials)
 started p e s encoded is = is ∙ (λ i. start (encoded.root i) (encoded.constants i))
 
-pub ready_code : (p : Problem) (x : Proof) (s : Sequent) (at v : List ℤ) → IsAsked p x at → HasLevels 2000 x → s ≡ start (problem_root p).value (length p.existentials) → v ≡ at → IsReady 2000 s x v
-ready_code p x s at v a levels is same = subst (λ q. IsReady 2000 q x v) (sym is) (subst (λ u. IsReady 2000 (start (problem_root p).value (length p.existentials)) x u) (sym same) (ready_root p x at a levels))
+pub ready_code : (p : Problem) (x : Proof) (s : Sequent) (at v : List ℤ) → IsAsked p x at → HasLevels 2000 x → s ≡ start (problem_root p).value (length p.existentials) → v ≡ at → IsWalkReady 2000 s x v
+ready_code p x s at v a levels is same = subst (λ q. IsWalkReady 2000 q x v) (sym is) (subst (λ u. IsWalkReady 2000 (start (problem_root p).value (length p.existentials)) x u) (sym same) (ready_root p x at a levels))
 
 module _ (p : Problem) (x : Proof) (s : Sequent) (at v : List ℤ) (is : s ≡ start (problem_root p).value (length p.existentials)) (same : v ≡ at) where
-  there : {a b : Funds} (r : Result (Option Stop) StepFault) → Does (walk s x v) a r b → Does (walk (start (problem_root p).value (length p.existentials)) x at) a r b
-  there {a} {b} r did = subst (λ w. Does w a r b) (λ i. walk (is i) x (same i)) did
+  there : {a b : Funds} (r : Result (Option Stop) StepFault) → DoesWork (walk s x v) a r b → DoesWork (walk (start (problem_root p).value (length p.existentials)) x at) a r b
+  there {a} {b} r did = subst (λ w. DoesWork w a r b) (λ i. walk (is i) x (same i)) did
 
-  pub walk_cut : {a b : Funds} {e : StepFault} (r : Result Counterexample StepFault) → Does (walk s x v) a (Err e) b → IsErrAnd r (λ y. y ≡ e) → Does (explaining p x at) a (explained_as r) b
+  pub walk_cut : {a b : Funds} {e : StepFault} (r : Result Counterexample StepFault) → DoesWork (walk s x v) a (Err e) b → IsErrAnd r (λ y. y ≡ e) → DoesWork (explaining p x at) a (explained_as r) b
   walk_cut {e = e} r did h = follow_err _ _ (explained_as r) (explained_err e r h) (there (Err e) did)
 
-  stopped_there : {a b : Funds} (o : Option code.Stop) (stop : code.Stop) → o ≡ Some stop → Does (walk s x v) a (stopped (Ok o)) b → Does (walk (start (problem_root p).value (length p.existentials)) x at) a (Ok (Some (stop_of stop))) b
-  stopped_there {a} {b} o stop some did = there (Ok (Some (stop_of stop))) (subst (λ (z : Option code.Stop). Does (walk s x v) a (stopped (Ok z)) b) some did)
+  stopped_there : {a b : Funds} (o : Option code.Stop) (stop : code.Stop) → o ≡ Some stop → DoesWork (walk s x v) a (stopped (Ok o)) b → DoesWork (walk (start (problem_root p).value (length p.existentials)) x at) a (Ok (Some (stop_of stop))) b
+  stopped_there {a} {b} o stop some did = there (Ok (Some (stop_of stop))) (subst (λ (z : Option code.Stop). DoesWork (walk s x v) a (stopped (Ok z)) b) some did)
 
-  pub stops_at : {a b : Funds} (o : Option code.Stop) (stop : code.Stop) → o ≡ Some stop → Does (walk s x v) a (stopped (Ok o)) b → (walk (start (problem_root p).value (length p.existentials)) x at).value ≡ Some (stop_of stop)
+  pub stops_at : {a b : Funds} (o : Option code.Stop) (stop : code.Stop) → o ≡ Some stop → DoesWork (walk s x v) a (stopped (Ok o)) b → (walk (start (problem_root p).value (length p.existentials)) x at).value ≡ Some (stop_of stop)
   stops_at o stop some did = sym (followed_value (stopped_there o stop some did))
 
-  pub walk_whole : {a b : Funds} (o : Option code.Stop) (stop : code.Stop) (r : Result Counterexample StepFault) → o ≡ Some stop → Does (walk s x v) a (stopped (Ok o)) b → Worked (at_leaf p (stop_of stop)) (explained_as r)
-      → Does (explaining p x at) a (explained_as r) b
+  pub walk_whole : {a b : Funds} (o : Option code.Stop) (stop : code.Stop) (r : Result Counterexample StepFault) → o ≡ Some stop → DoesWork (walk s x v) a (stopped (Ok o)) b → Worked (at_leaf p (stop_of stop)) (explained_as r)
+      → DoesWork (explaining p x at) a (explained_as r) b
   walk_whole o stop r some did found = follow_ok _ _ (stopped_there o stop some did) (follow_free (explained_as r) found)
 
-  pub many_values : {a b : Funds} (o : Option code.Stop) (stop : code.Stop) → IsAsked p x at → o ≡ Some stop → Does (walk s x v) a (stopped (Ok o)) b → length p.existentials + length p.universals ≤ length stop.values
+  pub many_values : {a b : Funds} (o : Option code.Stop) (stop : code.Stop) → IsAsked p x at → o ≡ Some stop → DoesWork (walk s x v) a (stopped (Ok o)) b → length p.existentials + length p.universals ≤ length stop.values
   many_values o stop a some did = many_there p x at (stop_of stop) a (stops_at o stop some did)
 
   -- there is a way to a leaf
-  pub walk_ends : {a b : Funds} {A : Type 0} (o : Option code.Stop) → IsAsked p x at → o ≡ None → Does (walk s x v) a (stopped (Ok o)) b → A
+  pub walk_ends : {a b : Funds} {A : Type 0} (o : Option code.Stop) → IsAsked p x at → o ≡ None → DoesWork (walk s x v) a (stopped (Ok o)) b → A
   walk_ends {a} {b} o k none did =
-      let q : None ≡ (walk (start (problem_root p).value (length p.existentials)) x at).value = followed_value (there (Ok None) (subst (λ (z : Option code.Stop). Does (walk s x v) a (stopped (Ok z)) b) none did)) in
+      let q : None ≡ (walk (start (problem_root p).value (length p.existentials)) x at).value = followed_value (there (Ok None) (subst (λ (z : Option code.Stop). DoesWork (walk s x v) a (stopped (Ok z)) b) none did)) in
       let e = ends_somewhere p x at k in
       absurd (let z : None ≡ Some (e.0) = q ∙ e.1 in cc)
 
-  pub is_counterexample : {a b : Funds} (o : Option code.Stop) (stop : code.Stop) (r : Result Counterexample StepFault) → IsAsked p x at → o ≡ Some stop → Does (walk s x v) a (stopped (Ok o)) b → Worked (at_leaf p (stop_of stop)) (explained_as r)
+  pub is_counterexample : {a b : Funds} (o : Option code.Stop) (stop : code.Stop) (r : Result Counterexample StepFault) → IsAsked p x at → o ≡ Some stop → DoesWork (walk s x v) a (stopped (Ok o)) b → Worked (at_leaf p (stop_of stop)) (explained_as r)
       → IfOk r (λ c. IsCounterexample p at (c.table, c.universals))
   unfolding next just
   is_counterexample o stop (Err e) a some did found = tt

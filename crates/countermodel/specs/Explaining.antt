@@ -12,7 +12,7 @@ use Rattle.open_trees.specs.Rows.{table_at}
 use Rattle.open_trees.specs.Walk.{Stop, walk}
 use Rattle.countermodel.specs.declared.explaining.Counterexample.{Counterexample}
 -- the words of what `explain` answers, and of the runs that it explains
-pub use Rattle.open_walk.specs.Doing.{Does}
+pub use Rattle.open_walk.specs.Doing.{DoesWork}
 pub use Rattle.refuted_runs.specs.Ends.{run_end}
 pub use Rattle.refuted_runs.specs.Refuting.{IsCounterexample, found_at, universals_of}
 

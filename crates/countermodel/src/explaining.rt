@@ -3,10 +3,11 @@
 ghost use Rattle.countermodel.specs.Explaining.{at_leaf, explained_as, explaining};
 ghost use Rattle.countermodel.specs.Probes.{probe_values};
 ghost use Rattle.encoding.specs.Problems.{problem_root};
+ghost use Rattle.limits.specs.Limits.{branch_limit};
 ghost use Rattle.linear_term.specs.Range.{InRange};
 ghost use Rattle.open_trees.specs.Levels.{HasLevels};
-ghost use Rattle.open_trees.specs.Open.{IsSaturated};
-ghost use Rattle.open_walk.specs.Doing.{Does};
+ghost use Rattle.open_trees.specs.Open.{IsSaturatedTree};
+ghost use Rattle.open_walk.specs.Doing.{DoesWork};
 ghost use Rattle.open_walk.specs.Stopped.{stop_of};
 ghost use Rattle.pri_typing.specs.WellFormed.{IsWellFormed};
 ghost use Rattle.problem_file.specs.Encoded.{IsEncoded};
@@ -17,6 +18,7 @@ ghost use Rattle.std.specs.List.{AllByRecursion};
 ghost use Rattle.std.specs.Prelude.{◌≡◌, ◌<◌, ◌≤◌, ◌^◌, ◌+◌, IfOk, length, Some};
 
 use function_encoding::Encoded;
+use limits::BRANCH_LIMIT;
 use linear_term::Memory;
 use open_walk::{Stop, table_at, walk};
 use pri_typing::Problem;
@@ -74,16 +76,16 @@ pub fn explain(
 ) -> Result<Counterexample, StepFault>
     requires formed { IsWellFormed p.now }
     requires encoded { IsEncoded p.now e.now }
-    requires saturated { IsSaturated (problem_root p.now).value (length p.now.existentials) (proof_of t.now.root) }
-    requires levels { HasLevels 2000 (proof_of t.now.root) }
+    requires saturated { IsSaturatedTree (problem_root p.now).value (length p.now.existentials) (proof_of t.now.root) }
+    requires levels { HasLevels branch_limit (proof_of t.now.root) }
     requires values { probe_values p.now.existential_types ≡ Some at.now }
     requires budget { purse.old.budget < 2 ^ 32 }
-    ensures work { Does (explaining p.now (proof_of t.now.root) at.now) purse.old (explained_as result) purse.new }
+    ensures work { DoesWork (explaining p.now (proof_of t.now.root) at.now) purse.old (explained_as result) purse.new }
     ensures is { IfOk result (λ c. IsCounterexample p.now at.now (c.table, c.universals)) }
 {
     let s = start(alloc, &e.root, e.constants)?;
     let values = Items::from_slice(alloc, at)?;
-    match walk(alloc, s, &t.root, 2000, values, purse)? {
+    match walk(alloc, s, &t.root, BRANCH_LIMIT, values, purse)? {
         Some(stop) => at_leaf(alloc, p, &stop),
         None => unreachable!(),
     }

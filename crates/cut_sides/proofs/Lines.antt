@@ -14,7 +14,7 @@ use Rattle.pri_typing.specs.declared.problem.Problem.{Problem}
 use Rattle.pri_typing.specs.Problems.{Holds, assumed_by, IsPlainlyValid}
 use Rattle.pri_typing.specs.WellFormed.{IsWellFormed}
 use Rattle.pri_typing.proofs.Sides.{sides_are}
-use Rattle.cut_sides.specs.Between.{AreTyped, Condition, Contradict, IsPassed, Leads}
+use Rattle.cut_sides.specs.Between.{AreTyped, Condition, Contradict, IsSetPassed, Leads}
 use Rattle.cut_sides.proofs.Standing.{strong_strong, strong_weak, weak_weak, strongest_follows, strongest_contradicts, weakest_follows, weakest_contradicts}
 use Rattle.cut_sides.specs.Symbols.{symbols_in, is_symbol, uses, is_within, is_empty}
 use Rattle.cut_sides.specs.Sides.{first_side, other_side, set_side, Case, arithmetic, first_itself, second_denied, none, case_between, case_of, StandsBy, Stands}
@@ -48,7 +48,7 @@ other_in : (cut : Cut) (j : ℕ) → j < length cut.sets → IsInSet (concat (dr
 other_in cut j l = subst (IsInSet (concat (drop (suc j) cut.sets))) (sym (next_other cut.sets j l)) (right_set (get_or cut.sets j []) (concat (drop (suc j) cut.sets)))
 
 pub passed : (w : Meaning) (p : Problem) (cut : Cut) (j : ℕ) → j < length cut.sets
-    → IsPassed w p (first_side p cut j) (other_side p cut j) (set_side p cut j) (first_side p cut (suc j)) (other_side p cut (suc j))
+    → IsSetPassed w p (first_side p cut j) (other_side p cut j) (set_side p cut j) (first_side p cut (suc j)) (other_side p cut (suc j))
 passed w p cut j l = record {
   joins = λ e m. subst (λ z. Truth w (assumed_by p z) e ↔ (Truth w (first_side p cut j) e × Truth w (set_side p cut j) e)) (sym (next_first cut.sets j l))
       (assumes_both w p (concat (take j cut.sets)) (get_or cut.sets j []) e);

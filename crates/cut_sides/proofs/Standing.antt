@@ -8,7 +8,7 @@ use Rattle.typed_formula.specs.Truth.{Meaning, Truth}
 use Rattle.pri_typing.specs.declared.problem.Problem.{Problem}
 use Rattle.encoding.specs.Occurrences.{occurs}
 use Rattle.encoding.specs.Problems.{types}
-use Rattle.cut_sides.specs.Between.{AreTyped, Condition, AgreeOn, Contradict, IsStrongest, IsWeakest, IsPassed, Leads}
+use Rattle.cut_sides.specs.Between.{AreTyped, Condition, AgreeOn, Contradict, IsStrongest, IsWeakest, IsSetPassed, Leads}
 use Rattle.cut_sides.proofs.Agreeing.{agree_true, agree_self, agree_less}
 
 pub strongest_follows : (w : Meaning) (p : Problem) (first second : Formula) (c : Condition) → IsStrongest w p first second c
@@ -29,13 +29,13 @@ weakest_contradicts w p first second c s e l h = (s e l).0 h e l (agree_self fir
 
 -- Neighbours.
 
-pub strong_strong : (w : Meaning) (p : Problem) (first second between wider narrower : Formula) (i j : Condition) → IsPassed w p first second between wider narrower
+pub strong_strong : (w : Meaning) (p : Problem) (first second between wider narrower : Formula) (i j : Condition) → IsSetPassed w p first second between wider narrower
     → IsStrongest w p first second i → IsStrongest w p wider narrower j → Leads w p i between j
 strong_strong w p first second between wider narrower i j o s t e l h b =
     (t e l).1 (λ k. (s e l).0 h (λ d m a f.
     k d m (agree_less second narrower e d o.narrower_left a) ((o.joins d m).1 (f, (agree_true w between e d (agree_less second between e d o.between_left a)).1 b))))
 
-pub weak_weak : (w : Meaning) (p : Problem) (first second between wider narrower : Formula) (i j : Condition) → IsPassed w p first second between wider narrower
+pub weak_weak : (w : Meaning) (p : Problem) (first second between wider narrower : Formula) (i j : Condition) → IsSetPassed w p first second between wider narrower
     → IsWeakest w p first second i → IsWeakest w p wider narrower j → Leads w p i between j
 weak_weak w p first second between wider narrower i j o s t e l h b =
     (t e l).1 (λ d m a k.
@@ -89,7 +89,7 @@ typed-mixed test (s ∷ ss) (v ∷ e) others h k =
     either true = h.0
     either false = first_typed s ss others k
 
-pub strong_weak : (w : Meaning) (p : Problem) (first second between wider narrower : Formula) (i j : Condition) → IsPassed w p first second between wider narrower
+pub strong_weak : (w : Meaning) (p : Problem) (first second between wider narrower : Formula) (i j : Condition) → IsSetPassed w p first second between wider narrower
     → Contradict w p first second → IsStrongest w p first second i → IsWeakest w p wider narrower j → Leads w p i between j
 strong_weak w p first second between wider narrower i j o apart s t e l h b =
     (t e l).1 (λ d td a k. (s e l).0 h (λ u tu v f.

@@ -39,7 +39,7 @@ IsWeakest w p first second c = (e : List ℤ) → AreTyped p e → c e ↔ ((d :
 
 -- One set of parts goes from the second side to the first: `wider` says what `first` and `between` say, `second` what `between`
 -- and `narrower` say, and their names are names of the whole.
-pub record IsPassed (w : Meaning) (p : Problem) (first second between wider narrower : Formula) : Type 0 where
+pub record IsSetPassed (w : Meaning) (p : Problem) (first second between wider narrower : Formula) : Type 0 where
   pub joins : (e : List ℤ) → AreTyped p e → Truth w wider e ↔ (Truth w first e × Truth w between e)
   pub splits : (e : List ℤ) → AreTyped p e → Truth w second e ↔ (Truth w between e × Truth w narrower e)
   pub first_names : (x : ℕ) → occurs x first ≡ true → occurs x wider ≡ true

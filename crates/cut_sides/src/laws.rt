@@ -1,7 +1,7 @@
 // What stands between the sides of a cut, each the contract of a function with nothing to do.
 
 ghost use Rattle.std.specs.Prelude.{◌≡◌, ◌↔◌, ◌<◌, ℕ, suc, ℤ, List, [], length, Contains};
-ghost use Rattle.cut_sides.specs.Between.{AgreeOn, AreTyped, Contradict, IsPassed, IsStrongest, IsWeakest, Leads};
+ghost use Rattle.cut_sides.specs.Between.{AgreeOn, AreTyped, Contradict, IsSetPassed, IsStrongest, IsWeakest, Leads};
 ghost use Rattle.cut_sides.specs.Closing.{strongest_formula, weakest_formula};
 ghost use Rattle.cut_sides.specs.Sides.{case_of, first_side, other_side, second_denied, set_side, Stands};
 ghost use Rattle.pri_typing.specs.Problems.{Holds, IsPlainlyValid};
@@ -42,13 +42,13 @@ pub fn closing_law()
 /// earlier one and what the set assumes.
 pub fn neighbours_law()
     ensures strong_strong { (w : Meaning) (p : Problem) (first second between wider narrower i j : Formula)
-        → IsPassed w p first second between wider narrower → IsStrongest w p first second (Truth w i)
+        → IsSetPassed w p first second between wider narrower → IsStrongest w p first second (Truth w i)
         → IsStrongest w p wider narrower (Truth w j) → Leads w p (Truth w i) between (Truth w j) }
     ensures strong_weak { (w : Meaning) (p : Problem) (first second between wider narrower i j : Formula)
-        → IsPassed w p first second between wider narrower → Contradict w p first second → IsStrongest w p first second (Truth w i)
+        → IsSetPassed w p first second between wider narrower → Contradict w p first second → IsStrongest w p first second (Truth w i)
         → IsWeakest w p wider narrower (Truth w j) → Leads w p (Truth w i) between (Truth w j) }
     ensures weak_weak { (w : Meaning) (p : Problem) (first second between wider narrower i j : Formula)
-        → IsPassed w p first second between wider narrower → IsWeakest w p first second (Truth w i)
+        → IsSetPassed w p first second between wider narrower → IsWeakest w p first second (Truth w i)
         → IsWeakest w p wider narrower (Truth w j) → Leads w p (Truth w i) between (Truth w j) }
 {}
 

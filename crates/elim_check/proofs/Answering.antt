@@ -9,12 +9,12 @@ use Rattle.purse.proofs.Meaning.{passes_where_runs}
 use Rattle.clause_set.specs.declared.literal.Literal.{Literal}
 use Rattle.formula.specs.Form.{Form}
 use Rattle.formula.specs.Sizes.{depth}
-use Rattle.elim_rules.specs.Logs.{Reader, by_whole_log, entries_of}
-use Rattle.elim_rules.specs.Whole.{eliminating}
-use Rattle.elim_rules.proofs.Wholes.{form_log}
+use Rattle.elim_laws.specs.Logs.{Reader, by_whole_log, entries_of}
+use Rattle.elim_laws.specs.Whole.{eliminating}
+use Rattle.elim_laws.proofs.Wholes.{form_log}
 use Rattle.elim_check.specs.declared.fault.LogFault.{LogFault}
 use Rattle.elim_check.specs.declared.fault.LogFault.TheVariants as log_fault
-use Rattle.elim_check.specs.Answers.{Fits, paid_for, GoesThrough, IsSameAnswer, UnlessMemory}
+use Rattle.elim_check.specs.Answers.{FitsFunds, paid_for, GoesThrough, IsSameAnswer, UnlessLogMemory}
 use Rattle.elim_check.specs.Checked.{EndsAt, Checked}
 use Rattle.elim_check.specs.Reading.{noted, reading}
 
@@ -54,7 +54,7 @@ module _ {A : Type 0} (m : Reader A) (log : List Entry) (old : Funds) where
   whole_done le g = (passes_where_runs (by_whole_log m log).events (at old []) _ le).1 (record { within = g.fits.within; stay = g.fits.stay; stands = refl })
 
   -- one that goes through is accepted
-  pub through_accepted : (v : A) (r : Result A LogFault) (new : Funds) → old.spent ≤ old.budget → Checked m log old r new → GoesThrough m log old v → UnlessMemory r (r ≡ Ok v)
+  pub through_accepted : (v : A) (r : Result A LogFault) (new : Funds) → old.spent ≤ old.budget → Checked m log old r new → GoesThrough m log old v → UnlessLogMemory r (r ≡ Ok v)
   through_accepted v (Ok w) new le h g = let e = (ended_ok h).0 in let k = g.value in let same : w ≡ v = cc in ap Ok same
   through_accepted v (Err (log_fault.Entry n)) new le h g = absurd (let e = (ended_ok h).0 in let k = g.value in cc)
   through_accepted v (Err (log_fault.Cost n)) new le h g = absurd (let e = ended_cost h in let k = whole_done le g in cc)
@@ -65,7 +65,7 @@ module _ {A : Type 0} (m : Reader A) (log : List Entry) (old : Funds) where
   same_place : (n k : ℕ) {f g : Funds} → n ≤ length log → k ≤ length log → at f (noted log n) ≡ at g (noted log k) → (n ≡ k) × (f ≡ g)
   same_place n k h l is = (sym (noted-length log n h) ∙ ap (λ (a : At). length a.marks) is ∙ noted-length log k l, ap (λ (a : At). a.funds) is)
 
-  pub same_answer : (r s : Result A LogFault) (f g : Funds) → Checked m log old r f → Checked m log old s g → UnlessMemory r (UnlessMemory s (IsSameAnswer r s × (f ≡ g)))
+  pub same_answer : (r s : Result A LogFault) (f g : Funds) → Checked m log old r f → Checked m log old s g → UnlessLogMemory r (UnlessLogMemory s (IsSameAnswer r s × (f ≡ g)))
   same_answer (Err log_fault.Memory) s f g h k = tt
   same_answer (Ok v) (Ok w) f g h k =
       let a = ended_ok h in let b = ended_ok k in
@@ -101,7 +101,7 @@ module _ {A : Type 0} (m : Reader A) (log : List Entry) (old : Funds) where
   same_answer (Err (log_fault.Range n a)) (Err log_fault.Memory) f g h k = tt
 
 -- ---- the log of a run
-log_through : {A : Type 0} (m : Reader A) (log : List Entry) (old : Funds) (work : Traced A) → by_whole_log m log ≡ next work (λ a. just (Some a)) → Fits work old → GoesThrough m log old work.value
+log_through : {A : Type 0} (m : Reader A) (log : List Entry) (old : Funds) (work : Traced A) → by_whole_log m log ≡ next work (λ a. just (Some a)) → FitsFunds work old → GoesThrough m log old work.value
 unfolding next just
 log_through m log old work same fits =
     let events : (by_whole_log m log).events ≡ work.events = ap (λ (w : Traced _). w.events) same ∙ append-nil work.events in
@@ -116,21 +116,21 @@ log_paid m log old new work same le h =
     let events : (by_whole_log m log).events ≡ work.events = ap (λ (w : Traced _). w.events) same ∙ append-nil work.events in
     ap (λ (a : At). a.funds) (runs_through m log old le h).stands ∙ ap (λ es. record { budget = old.budget; spent = old.spent + total es }) events
 
-pub run_accepted : {A : Type 0} (m : Reader A) (log : List Entry) (old : Funds) (work : Traced A) → by_whole_log m log ≡ next work (λ a. just (Some a)) → Fits work old → (r : Result A LogFault) (new : Funds) → Checked m log old r new
-    → UnlessMemory r ((r ≡ Ok work.value) × (new ≡ paid_for work old))
+pub run_accepted : {A : Type 0} (m : Reader A) (log : List Entry) (old : Funds) (work : Traced A) → by_whole_log m log ≡ next work (λ a. just (Some a)) → FitsFunds work old → (r : Result A LogFault) (new : Funds) → Checked m log old r new
+    → UnlessLogMemory r ((r ≡ Ok work.value) × (new ≡ paid_for work old))
 run_accepted m log old work same fits r new h =
     let within = fits.within in
     let le : old.spent ≤ old.budget = omega (arith, within) in
     by r h (through_accepted m log old work.value r new le h (log_through m log old work same fits)) le
   where
-    by : (r : Result _ LogFault) → Checked m log old r new → UnlessMemory r (r ≡ Ok work.value) → old.spent ≤ old.budget → UnlessMemory r ((r ≡ Ok work.value) × (new ≡ paid_for work old))
+    by : (r : Result _ LogFault) → Checked m log old r new → UnlessLogMemory r (r ≡ Ok work.value) → old.spent ≤ old.budget → UnlessLogMemory r ((r ≡ Ok work.value) × (new ≡ paid_for work old))
     by (Ok v) h is le = (is, log_paid m log old new work same le h)
     by (Err (log_fault.Entry n)) h is le = absurd (cc)
     by (Err (log_fault.Cost n)) h is le = absurd (cc)
     by (Err (log_fault.Range n p)) h is le = absurd (cc)
     by (Err log_fault.Memory) h is le = tt
 
-pub form_run : (n : ℕ) (f : Form) (old new : Funds) (r : Result (List (List Literal)) LogFault) → Fits (eliminating n f) old → Checked (reading n f) (entries_of (eliminating n f).events) old r new
-    → UnlessMemory r ((r ≡ Ok (eliminating n f).value) × (new ≡ paid_for (eliminating n f) old))
+pub form_run : (n : ℕ) (f : Form) (old new : Funds) (r : Result (List (List Literal)) LogFault) → FitsFunds (eliminating n f) old → Checked (reading n f) (entries_of (eliminating n f).events) old r new
+    → UnlessLogMemory r ((r ≡ Ok (eliminating n f).value) × (new ≡ paid_for (eliminating n f) old))
 unfolding reading eliminating
 form_run n f old new r fits h = run_accepted (reading n f) (entries_of (eliminating n f).events) old (eliminating n f) (form_log (suc (depth f)) n f) fits r new h

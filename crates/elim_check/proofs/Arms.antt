@@ -20,9 +20,9 @@ use Rattle.formula.specs.Duals.{dual}
 use Rattle.formula.specs.Made.{Made}
 use Rattle.formula.specs.Tree.{form, forms_of}
 use Rattle.formula.proofs.Building.{form-Eq, form-Neq, form-Geq, form-Pred, form-NotPred, form-NotFun, form-And, form-Or, form-Forall, form-Exists}
-use Rattle.elim_rules.specs.Logs.{Reader, reads_none, read_next, all_by_log, any_by_log, name_by_log}
-use Rattle.elim_rules.specs.Whole.{paid, two_sides}
-use Rattle.elim_rules.proofs.Duals.{dual-depth}
+use Rattle.elim_laws.specs.Logs.{Reader, reads_none, read_next, all_by_log, any_by_log, name_by_log}
+use Rattle.elim_laws.specs.Whole.{paid, two_sides}
+use Rattle.elim_laws.proofs.Duals.{dual-depth}
 use Rattle.elim_check.specs.declared.fault.Stop.{Stop}
 use Rattle.elim_check.specs.declared.fault.Stop.TheVariants as stop
 use Rattle.elim_check.specs.Reading.{ReadAt, reading}

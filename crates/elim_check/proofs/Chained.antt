@@ -6,7 +6,7 @@ use Rattle.purse.specs.declared.log.Entry.{Entry}
 use Rattle.purse.specs.Trace.{Funds, at, Traced, just}
 use Rattle.purse.specs.Work.{ChargedAt, Charged}
 use Rattle.purse.proofs.Charging.{then_ok, then_fault, then_just, unnoted, no_memory}
-use Rattle.elim_rules.specs.Logs.{rest, Reader, reads_none, go_on, read_next}
+use Rattle.elim_laws.specs.Logs.{rest, Reader, reads_none, go_on, read_next}
 use Rattle.elim_check.specs.declared.fault.Stop.{Stop}
 use Rattle.elim_check.specs.declared.fault.Stop.TheVariants as stop
 use Rattle.elim_check.specs.Reading.{noted, with_rest, ReadAt}

@@ -10,7 +10,7 @@ use Rattle.clause_set.specs.Dnfs.{conjunction, disjunction}
 use Rattle.formula.specs.declared.calculus.Core.{Core}
 use Rattle.formula.specs.Form.{Form}
 use Rattle.formula.specs.Tree.{form, forms_of}
-use Rattle.elim_rules.specs.Logs.{Reader, reads_none, read_next, all_by_log, any_by_log}
+use Rattle.elim_laws.specs.Logs.{Reader, reads_none, read_next, all_by_log, any_by_log}
 use Rattle.elim_check.specs.declared.fault.Stop.{Stop}
 use Rattle.elim_check.specs.declared.fault.Stop.TheVariants as stop
 use Rattle.elim_check.specs.Reading.{ReadAt}

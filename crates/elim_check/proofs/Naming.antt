@@ -5,7 +5,7 @@ use Rattle.purse.specs.Trace.{Funds, just}
 use Rattle.purse.proofs.Charging.{then_just}
 use Rattle.clause_set.specs.declared.literal.Literal.{Literal}
 use Rattle.clause_set.specs.Dnfs.{tidying}
-use Rattle.elim_rules.specs.Logs.{Reader, reads_none, name_by_log, names_by_log}
+use Rattle.elim_laws.specs.Logs.{Reader, reads_none, name_by_log, names_by_log}
 use Rattle.elim_check.specs.declared.fault.Stop.{Stop}
 use Rattle.elim_check.specs.Reading.{ReadAt}
 use Rattle.elim_check.specs.Steps.{replaying}

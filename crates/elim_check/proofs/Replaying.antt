@@ -13,7 +13,7 @@ use Rattle.purse.proofs.Tracing.{next-assoc, next-same, next-just}
 use Rattle.clause_set.specs.declared.literal.Literal.{Literal}
 use Rattle.clause_set.specs.Names.{has}
 use Rattle.clause_set.specs.Rules.{applies, rule}
-use Rattle.elim_rules.specs.Logs.{Rest, rest, Reader, replayed, up_to, turn_of}
+use Rattle.elim_laws.specs.Logs.{Rest, rest, Reader, replayed, up_to, turn_of}
 use Rattle.elim_check.specs.declared.fault.Stop.{Stop}
 use Rattle.elim_check.specs.declared.fault.Stop.TheVariants as stop
 use Rattle.elim_check.specs.Reading.{noted, outcome, with_rest, ReadAt}

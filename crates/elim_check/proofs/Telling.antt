@@ -8,8 +8,8 @@ use Rattle.purse.specs.declared.log.Entry.{Entry}
 use Rattle.purse.specs.Trace.{Funds, at, just}
 use Rattle.purse.specs.Work.{ChargedAt}
 use Rattle.purse.proofs.Charging.{then_ok, then_fault, then_just, charged_value}
-use Rattle.elim_rules.specs.Logs.{rest, Reader, used_up, by_whole_log, Yields}
-use Rattle.elim_rules.proofs.Wholes.{whole_yields}
+use Rattle.elim_laws.specs.Logs.{rest, Reader, used_up, by_whole_log, Yields}
+use Rattle.elim_laws.proofs.Wholes.{whole_yields}
 use Rattle.elim_check.specs.declared.fault.LogFault.{LogFault}
 use Rattle.elim_check.specs.declared.fault.LogFault.TheVariants as log_fault
 use Rattle.elim_check.specs.declared.fault.Stop.{Stop}

@@ -7,15 +7,16 @@ use Rattle.clause_set.specs.declared.literal.Literal.{Literal}
 use Rattle.clause_set.specs.Dnfs.{conjunction, disjunction, negation, top}
 use Rattle.formula.specs.declared.calculus.Core.{Core}
 use Rattle.formula.specs.Form as tree
-use Rattle.formula.specs.Form.{Form, Forms}
+use Rattle.formula.specs.Form.{Form, Forms, IsFormOver}
 use Rattle.formula.specs.Sizes.{size, depth, depths}
 use Rattle.formula.specs.Duals.{dual}
 use Rattle.formula.specs.Tree.{form, forms_of}
-use Rattle.elim_rules.specs.Logs.{Rest, rest, Reader, reads_none, go_on, read_next, all_by_log, any_by_log, by_log, name_by_log, Yields}
-use Rattle.elim_rules.specs.Presburger.{IsPresburger}
-use Rattle.elim_rules.specs.Whole.{IsExact}
-use Rattle.elim_rules.proofs.Accepted.{log_exact}
-use Rattle.elim_rules.proofs.Duals.{dual-depth}
+use Rattle.elim_laws.specs.Logs.{Rest, rest, Reader, reads_none, go_on, read_next, all_by_log, any_by_log, by_log, name_by_log, Yields}
+use Rattle.elim_laws.specs.Presburger.{IsPresburger}
+use Rattle.elim_laws.specs.Whole.{AreOver, IsExact}
+use Rattle.elim_laws.proofs.Accepted.{log_exact}
+use Rattle.elim_laws.proofs.LogOver.{log_over}
+use Rattle.elim_laws.proofs.Duals.{dual-depth}
 use Rattle.elim_check.specs.Reading.{reading}
 
 -- readers that do the same with every log
@@ -123,3 +124,8 @@ member_depth fs i f gs is =
 pub reading_yields : (n : ℕ) (f : Form) → IsPresburger f → Yields (reading n f) (λ d. IsExact d f n)
 unfolding reading
 reading_yields n f p = log_exact (suc (depth f)) n f (omega arith) p
+
+-- over the names of the formula
+pub reading_over : (n : ℕ) (f : Form) → IsPresburger f → IsFormOver n f → Yields (reading n f) (AreOver n)
+unfolding reading
+reading_over n f p o = log_over (suc (depth f)) n f (omega arith) p o

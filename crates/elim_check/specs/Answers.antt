@@ -3,12 +3,12 @@ use Rattle.std.specs.Prelude.{◌≡◌, ◌+◌, ◌≤◌, true, List, Some, R
 use Rattle.purse.specs.Runs.{total, raw_stay}
 use Rattle.purse.specs.Trace.{Funds, Traced}
 use Rattle.purse.specs.declared.log.Entry.{Entry}
-use Rattle.elim_rules.specs.Logs.{Reader, by_whole_log}
+use Rattle.elim_laws.specs.Logs.{Reader, by_whole_log}
 use Rattle.elim_check.specs.declared.fault.LogFault.{LogFault}
 use Rattle.elim_check.specs.declared.fault.LogFault.TheVariants.{Range, Memory}
 
 -- the charges of the work are within the budget, and its raw numbers within the range
-pub record Fits {A : Type 0} (work : Traced A) (old : Funds) : Type 0 where
+pub record FitsFunds {A : Type 0} (work : Traced A) (old : Funds) : Type 0 where
   pub within : old.spent + total work.events ≤ old.budget
   pub stay : raw_stay work.events ≡ true
 
@@ -19,12 +19,12 @@ paid_for work old = record { budget = old.budget; spent = old.spent + total work
 -- the work of the whole log fits, and ends in the value v
 pub record GoesThrough {A : Type 0} (m : Reader A) (log : List Entry) (old : Funds) (v : A) : Type 0 where
   pub value : (by_whole_log m log).value ≡ Some v
-  pub fits : Fits (by_whole_log m log) old
+  pub fits : FitsFunds (by_whole_log m log) old
 
 -- p, unless memory was wanting
-abbrev pub UnlessMemory : {A : Type 0} → Result A LogFault → Type 0 → Type 0
-UnlessMemory (Err Memory) p = Unit {0}
-UnlessMemory _ p = p
+abbrev pub UnlessLogMemory : {A : Type 0} → Result A LogFault → Type 0 → Type 0
+UnlessLogMemory (Err Memory) p = Unit {0}
+UnlessLogMemory _ p = p
 
 -- the same answer; of several numbers of one step that leave the range either may be named
 abbrev pub IsSameAnswer : {A : Type 0} → Result A LogFault → Result A LogFault → Type 0

@@ -5,7 +5,7 @@ use Rattle.purse.specs.declared.fault.StepFault.TheVariants.{Steps, Overflow, Me
 use Rattle.purse.specs.declared.log.Entry.{Entry}
 use Rattle.purse.specs.Trace.{Funds, at}
 use Rattle.purse.specs.Work.{ChargedAt}
-use Rattle.elim_rules.specs.Logs.{Reader, by_whole_log}
+use Rattle.elim_laws.specs.Logs.{Reader, by_whole_log}
 use Rattle.elim_check.specs.declared.fault.LogFault.{LogFault}
 use Rattle.elim_check.specs.declared.fault.LogFault.TheVariants as log_fault
 use Rattle.elim_check.specs.declared.fault.Stop.{Stop}

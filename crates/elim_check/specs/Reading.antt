@@ -7,7 +7,7 @@ use Rattle.purse.specs.Work.{ChargedAt}
 use Rattle.clause_set.specs.declared.literal.Literal.{Literal}
 use Rattle.formula.specs.Form.{Form}
 use Rattle.formula.specs.Sizes.{depth}
-use Rattle.elim_rules.specs.Logs.{Rest, rest, Reader, by_log}
+use Rattle.elim_laws.specs.Logs.{Rest, rest, Reader, by_log}
 use Rattle.elim_check.specs.declared.fault.Stop.{Stop}
 use Rattle.elim_check.specs.declared.fault.Stop.TheVariants as stop
 

@@ -6,7 +6,7 @@ use Rattle.purse.specs.Trace.{Traced, just, next, pay}
 use Rattle.clause_set.specs.declared.literal.Literal.{Literal}
 use Rattle.clause_set.specs.Names.{has}
 use Rattle.clause_set.specs.Rules.{applies, rule}
-use Rattle.elim_rules.specs.Logs.{Reader, replayed}
+use Rattle.elim_laws.specs.Logs.{Reader, replayed}
 
 -- no clause is left, or the first one has x
 abbrev pub is_turn : ℕ → List (List Literal) → Bool

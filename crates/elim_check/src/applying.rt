@@ -6,11 +6,11 @@ ghost use Rattle.std.specs.List.{list_all, list_any};
 ghost use Rattle.std.specs.Prelude.{◌≡◌, ◌||◌, not};
 
 use clause_set::Clause;
-use performed_rules::{
+use purse::Entry;
+use rule_code::{
     bounds_alone, has_divisibilities_at, has_equation_at, has_indivisibility_at, has_name,
     has_only_divisibility_at, has_unit, is_lower, is_upper,
 };
-use purse::Entry;
 
 /// Whether x is in c, and that in inequalities alone.
 fn is_bounded(c: &Clause, x: u32) -> bool

@@ -2,11 +2,11 @@
 
 ghost use Rattle.elim_check.specs.Checked.{Checked, told};
 ghost use Rattle.elim_check.specs.Reading.{reading};
-ghost use Rattle.elim_rules.specs.Elimination.{IsEvery, IsOut};
-ghost use Rattle.elim_rules.specs.Logs.{every_by_log, name_by_log, names_by_log};
-ghost use Rattle.elim_rules.specs.Whole.{IsExact, IsSatisfied};
+ghost use Rattle.elim_laws.specs.Elimination.{IsEvery, IsOut};
+ghost use Rattle.elim_laws.specs.Logs.{every_by_log, name_by_log, names_by_log};
+ghost use Rattle.elim_laws.specs.Whole.{AreOver, IsExact, HasSolution};
 ghost use Rattle.clause_set.specs.Literals.{dnf_truth};
-ghost use Rattle.formula.specs.Form.{is_pure};
+ghost use Rattle.formula.specs.Form.{IsFormOver, is_pure};
 ghost use Rattle.formula.specs.Sizes.{depth};
 ghost use Rattle.formula.specs.Tree.{form};
 ghost use Rattle.std.specs.Prelude.{◌≡◌, ◌+◌, ◌-◌, ◌<◌, ◌≤◌, ◌^◌, ◌↔◌, [], IfOk, true};
@@ -15,7 +15,7 @@ use super::fault::{LogFault, Stop};
 use super::forms::form_by_log;
 use super::names::{every_value, some_value_kept, some_values};
 use clause_set::Dnf;
-use elim_rules::know_formed;
+use elim_laws::know_formed;
 use formula::Core;
 use purse::{ElimLog, Purse, StepFault};
 use std::alloc::Global;
@@ -56,6 +56,7 @@ pub fn check_log(
     requires { names + depth (form f.now) ≤ 2 ^ 32 }
     ensures work { Checked (reading names (form f.now)) log.now.entries purse.old result purse.new }
     ensures exact { is_pure (form f.now) ≡ true → IfOk result (λ d. IsExact d (form f.now) names) }
+    ensures over { is_pure (form f.now) ≡ true → IsFormOver names (form f.now) → IfOk result (λ d. AreOver names d) }
 {
     f.know_reduced();
     let entries = log.entries.as_slice();
@@ -113,7 +114,7 @@ pub fn check_all(
     purse: &mut Purse,
 ) -> Result<Dnf, LogFault>
     ensures work { Checked (names_by_log names d.now) log.now.entries purse.old result purse.new }
-    ensures satisfied { IfOk result (λ r. IsSatisfied d.now names ↔ (dnf_truth r [] ≡ true)) }
+    ensures satisfied { IfOk result (λ r. HasSolution d.now names ↔ (dnf_truth r [] ≡ true)) }
 {
     know_formed(d.clauses());
     let entries = log.entries.as_slice();

@@ -2,7 +2,7 @@
 
 ghost use Rattle.clause_set.specs.Dnfs.{top};
 ghost use Rattle.elim_check.specs.Reading.{ReadAt, reading};
-ghost use Rattle.elim_rules.specs.Logs.{all_by_log, any_by_log};
+ghost use Rattle.elim_laws.specs.Logs.{all_by_log, any_by_log};
 ghost use Rattle.formula.specs.Form.{existential, universal};
 ghost use Rattle.formula.specs.Sizes.{depth, depths};
 ghost use Rattle.formula.specs.Tree.{form, forms_of};
@@ -11,7 +11,7 @@ ghost use Rattle.std.specs.Prelude.{◌+◌, ◌≤◌, ◌^◌, [], length};
 use super::fault::Stop;
 use super::names::some_value;
 use clause_set::{Dnf, Literal, and, not, or_into};
-use elim_rules::{of_literal, of_unequal};
+use elim_laws::{of_literal, of_unequal};
 use formula::{Core, dual, size};
 use purse::{Entry, Purse};
 use std::alloc::Global;

@@ -1,7 +1,7 @@
 // Names out of a disjunction, by the entries of a log.
 
 ghost use Rattle.elim_check.specs.Reading.{ReadAt};
-ghost use Rattle.elim_rules.specs.Logs.{every_by_log, name_by_log, names_by_log};
+ghost use Rattle.elim_laws.specs.Logs.{every_by_log, name_by_log, names_by_log};
 ghost use Rattle.std.specs.Prelude.{◌≡◌, ◌≤◌, IfOk, length};
 
 use super::fault::Stop;

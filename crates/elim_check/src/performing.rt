@@ -6,11 +6,11 @@ ghost use Rattle.purse.specs.declared.log.Entry.TheVariants.{Dark, Exact};
 ghost use Rattle.std.specs.Prelude.{◌≡◌, true};
 
 use clause_set::Clause;
-use performed_rules::{
+use purse::{Entry, Purse, StepFault};
+use rule_code::{
     Side, dark, equation_clauses, exact, free_ndiv, literals_on, merge_clauses, one_sided,
     shift_clauses,
 };
-use purse::{Entry, Purse, StepFault};
 use sqlite_items::Items;
 use std::alloc::Global;
 

@@ -10,8 +10,8 @@ use super::applying::does_apply;
 use super::fault::Stop;
 use super::performing::perform;
 use clause_set::Clause;
-use performed_rules::has_name;
 use purse::{Entry, Purse, StepFault};
+use rule_code::has_name;
 use sqlite_items::Items;
 use std::alloc::Global;
 

@@ -1,7 +1,7 @@
 -- Where each answer of `elim` comes.
 use Rattle.std.proofs.Common.{◌≡◌, ◌≢◌, ◌⊎◌, inl, inr, ℕ, List, None, refl, sym, ◌∙◌, ap, subst, codes, slice_index_or, arith}
 use Rattle.clause_set.specs.declared.literal.Literal.{Literal}
-use Rattle.search.specs.Run.{Ending, ends_with, out_of_steps, overflows}
+use Rattle.purse.specs.Ending.{Ending, IsMade, IsOutOfRange, IsOutOfSteps, ends_with, out_of_steps, overflows}
 use Rattle.pri_typing.specs.declared.problem.Problem.{Problem}
 use Rattle.answers.specs.Answer.{Answer, placed, refused_answer, unknown_answer}
 use Rattle.problem_file.specs.Reads.{Refusal}
@@ -10,9 +10,10 @@ use Rattle.problem_file.specs.Refused.{ComesOf}
 use Rattle.problem_file.proofs.Naming.{comes_of, not_impure, not_large}
 use Rattle.problem_file.specs.Answers.{Poses, refused, posed}
 use Rattle.problem_file.specs.Encoded.{Fits, LeavesRange, impure, pure, large, leaves, runs}
-use Rattle.elim_job.specs.Eliminated.{AnswersEnd, made, steps, overflow, elimination_end, IsEliminated}
+use Rattle.elim_job.specs.Eliminated.{AnswersElimEnd, made, steps, overflow, elimination_end, IsEliminated}
+use Rattle.problem_file.specs.Pure.{PosesPure}
 use Rattle.elim_job.specs.Causes as cause
-use Rattle.elim_job.specs.Causes.{IsMade, IsOutOfSteps, IsOutOfRange, PosesPure, Ends, IsRefused, Causes, Decides}
+use Rattle.elim_job.specs.Causes.{ElimEnds, IsElimRefused, ElimCauses, ElimDecides}
 use Rattle.elim_job.proofs.Exactly.{by_end, end_answer, one_answer, elimination_answered}
 
 abbrev status_of : Answer → ℕ
@@ -24,23 +25,23 @@ cause_byte a = slice_index_or a.text 10 0
 
 -- ---- from an answer to its cause
 
-made_end : (p : Problem) (end : Ending (List (List Literal))) (a : Answer) → AnswersEnd p end a → a.status ≡ 0 → IsMade end
+made_end : (p : Problem) (end : Ending (List (List Literal))) (a : Answer) → AnswersElimEnd p end a → a.status ≡ 0 → IsMade end
 made_end p end a (made d stands x is printed e) z = (d, stands, is)
 made_end p end a (steps stands is e) z = let bad = sym z ∙ ap status_of e in absurd cc
 made_end p end a (overflow numbers stands is e) z = let bad = sym z ∙ ap status_of e in absurd cc
 
-steps_end : (p : Problem) (end : Ending (List (List Literal))) (a : Answer) → AnswersEnd p end a → a ≡ unknown_answer (codes "steps") → IsOutOfSteps end
+steps_end : (p : Problem) (end : Ending (List (List Literal))) (a : Answer) → AnswersElimEnd p end a → a ≡ unknown_answer (codes "steps") → IsOutOfSteps end
 steps_end p end a (made d stands x is printed e) z = let bad = ap status_of (sym z ∙ e) in absurd cc
 steps_end p end a (steps stands is e) z = (stands, is)
 steps_end p end a (overflow numbers stands is e) z = absurd (omega (arith, ap cause_byte (sym z ∙ e)))
 
-overflow_end : (p : Problem) (end : Ending (List (List Literal))) (a : Answer) → AnswersEnd p end a → a ≡ unknown_answer (codes "overflow") → IsOutOfRange end
+overflow_end : (p : Problem) (end : Ending (List (List Literal))) (a : Answer) → AnswersElimEnd p end a → a ≡ unknown_answer (codes "overflow") → IsOutOfRange end
 overflow_end p end a (made d stands x is printed e) z = let bad = ap status_of (sym z ∙ e) in absurd cc
 overflow_end p end a (steps stands is e) z = absurd (omega (arith, ap cause_byte (sym z ∙ e)))
 overflow_end p end a (overflow numbers stands is e) z = (numbers, stands, is)
 
 -- the end of an elimination is told with status 0 or 2
-told_end : (p : Problem) (end : Ending (List (List Literal))) (a : Answer) → AnswersEnd p end a → (a.status ≡ 0) ⊎ (a.status ≡ 2)
+told_end : (p : Problem) (end : Ending (List (List Literal))) (a : Answer) → AnswersElimEnd p end a → (a.status ≡ 0) ⊎ (a.status ≡ 2)
 told_end p end a (made d stands x is printed e) = inl (ap status_of e)
 told_end p end a (steps stands is e) = inr (ap status_of e)
 told_end p end a (overflow numbers stands is e) = inr (ap status_of e)
@@ -51,8 +52,8 @@ other_status a s (inr e) zero two z = two (sym z ∙ e)
 
 -- what an answer with this property comes of, where refusals have it not
 from_end : (budget : ℕ) (bytes : List ℕ) (a : Answer) (P : Answer → Type 0) (Q : Ending (List (List Literal)) → Type 0) → ((name : List ℕ) → ¬ (P (refused_answer name)))
-    → ((p : Problem) (end : Ending (List (List Literal))) (b : Answer) → AnswersEnd p end b → P b → Q end) → IsEliminated budget bytes a → P a
-    → (P (unknown_answer (codes "overflow")) × PosesPure bytes LeavesRange) ⊎ Ends budget bytes Q
+    → ((p : Problem) (end : Ending (List (List Literal))) (b : Answer) → AnswersElimEnd p end b → P b → Q end) → IsEliminated budget bytes a → P a
+    → (P (unknown_answer (codes "overflow")) × PosesPure bytes LeavesRange) ⊎ ElimEnds budget bytes Q
 from_end budget bytes a P Q none some (refused r h e) is = absurd (none (refusal_name r) (subst P e is))
 from_end budget bytes a P Q none some (posed p h (impure at k e)) is = absurd (none (placed (codes "Impure") at) (subst P e is))
 from_end budget bytes a P Q none some (posed p h (pure k (large l e))) is = absurd (none (codes "Large") (subst P e is))
@@ -67,7 +68,7 @@ second_of : {A B C : Type 0} → ((A × B) ⊎ C) → B ⊎ C
 second_of (inl x) = inl x.1
 second_of (inr y) = inr y
 
-refused_by : (budget : ℕ) (bytes : List ℕ) (a : Answer) → IsEliminated budget bytes a → a.status ≡ 3 → IsRefused bytes
+refused_by : (budget : ℕ) (bytes : List ℕ) (a : Answer) → IsEliminated budget bytes a → a.status ≡ 3 → IsElimRefused bytes
 refused_by budget bytes a (refused r h e) z = cause.first r h
 refused_by budget bytes a (posed p h (impure at k e)) z = cause.impure at (p, h, k)
 refused_by budget bytes a (posed p h (pure k (large l e))) z = cause.too_large (p, h, (k, l))
@@ -89,22 +90,22 @@ ended : (budget : ℕ) (bytes : List ℕ) (a : Answer) (p : Problem) (end : Endi
 ended budget bytes a p end eliminated poses none fits is =
     by_end p (elimination_end budget p) a (elimination_answered budget bytes a p eliminated poses none fits) ∙ ap (end_answer p) is
 
-refused_status : (budget : ℕ) (bytes : List ℕ) (a : Answer) → IsEliminated budget bytes a → IsRefused bytes → a.status ≡ 3
+refused_status : (budget : ℕ) (bytes : List ℕ) (a : Answer) → IsEliminated budget bytes a → IsElimRefused bytes → a.status ≡ 3
 refused_status budget bytes a eliminated (cause.first r h) = ap status_of (one_answer budget bytes a _ eliminated (refused r h refl))
 refused_status budget bytes a eliminated (cause.impure at h) = ap status_of (one_answer budget bytes a _ eliminated (posed h.0 h.1 (impure at h.2 refl)))
 refused_status budget bytes a eliminated (cause.too_large h) = ap status_of (one_answer budget bytes a _ eliminated (posed h.0 h.1 (pure h.2.0 (large h.2.1 refl))))
 
 -- the text of a refusal comes of that refusal alone
-only_first : (budget : ℕ) (bytes : List ℕ) (a : Answer) → IsEliminated budget bytes a → (r : Refusal) → a ≡ refused_answer (refusal_name r) → IsRefused bytes → ComesOf bytes r
+only_first : (budget : ℕ) (bytes : List ℕ) (a : Answer) → IsEliminated budget bytes a → (r : Refusal) → a ≡ refused_answer (refusal_name r) → IsElimRefused bytes → ComesOf bytes r
 only_first budget bytes a eliminated r e (cause.first q h) = comes_of bytes a r q e h (one_answer budget bytes a _ eliminated (refused q h refl))
 only_first budget bytes a eliminated r e (cause.impure at h) = absurd (not_impure a r at e (one_answer budget bytes a _ eliminated (posed h.0 h.1 (impure at h.2 refl))))
 only_first budget bytes a eliminated r e (cause.too_large h) = absurd (not_large a r e (one_answer budget bytes a _ eliminated (posed h.0 h.1 (pure h.2.0 (large h.2.1 refl)))))
 
-out_of_range : (budget : ℕ) (bytes : List ℕ) (a : Answer) → IsEliminated budget bytes a → PosesPure bytes LeavesRange ⊎ Ends budget bytes IsOutOfRange → a ≡ unknown_answer (codes "overflow")
+out_of_range : (budget : ℕ) (bytes : List ℕ) (a : Answer) → IsEliminated budget bytes a → PosesPure bytes LeavesRange ⊎ ElimEnds budget bytes IsOutOfRange → a ≡ unknown_answer (codes "overflow")
 out_of_range budget bytes a eliminated (inl h) = one_answer budget bytes a _ eliminated (posed h.0 h.1 (pure h.2.0 (leaves h.2.1 refl)))
 out_of_range budget bytes a eliminated (inr h) = ended budget bytes a h.0 _ eliminated h.1 h.2.0 h.2.1.0 h.2.1.1.2
 
-pub causes : (budget : ℕ) (bytes : List ℕ) (a : Answer) → IsEliminated budget bytes a → Causes budget bytes a
+pub causes : (budget : ℕ) (bytes : List ℕ) (a : Answer) → IsEliminated budget bytes a → ElimCauses budget bytes a
 causes budget bytes a eliminated = record {
   made = (
     λ z. not_left (λ e. cc) (from_end budget bytes a (λ b. b.status ≡ 0) IsMade (λ name e. cc) made_end eliminated z),
@@ -128,7 +129,7 @@ causes budget bytes a eliminated = record {
 
 -- ---- what is always made
 
-pub decides : (budget : ℕ) (bytes : List ℕ) (a : Answer) → IsEliminated budget bytes a → Decides budget bytes a
+pub decides : (budget : ℕ) (bytes : List ℕ) (a : Answer) → IsEliminated budget bytes a → ElimDecides budget bytes a
 decides budget bytes a eliminated p poses none fits no_steps no_overflow = by (elimination_end budget p) refl
   where
     by : (end : Ending (List (List Literal))) → elimination_end budget p ≡ end → a.status ≡ 0

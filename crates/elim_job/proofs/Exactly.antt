@@ -3,8 +3,8 @@ use Rattle.std.proofs.Common.{◌≡◌, ℕ, List, [], length, None, refl, sym,
 use Rattle.purse.specs.Trace.{at}
 use Rattle.clause_set.specs.declared.literal.Literal.{Literal}
 use Rattle.formula.specs.Form.{Form}
-use Rattle.elim_rules.specs.Whole.{eliminating}
-use Rattle.search.specs.Run.{Ending, ending, ends_with, out_of_steps, overflows}
+use Rattle.elim_laws.specs.Whole.{eliminating}
+use Rattle.purse.specs.Ending.{Ending, ending, ends_with, out_of_steps, overflows}
 use Rattle.pri_typing.specs.declared.problem.Problem.{Problem}
 use Rattle.pri_printer.specs.Printed.{dnf_text}
 use Rattle.encoding.specs.Problems.{problem_root}
@@ -15,7 +15,7 @@ use Rattle.problem_file.specs.Answers.{Poses, refused, posed}
 use Rattle.problem_file.specs.Encoded.{AnswersEncoded, AnswersPure, Fits, impure, pure, large, leaves, runs}
 use Rattle.problem_file.proofs.Answering.{one_of_file, posed_answered}
 use Rattle.problem_file.proofs.Encoded.{fitting_answered, one_of_encoded, one_of_pure, pure_answered, root_same, same_encoded, same_pure}
-use Rattle.elim_job.specs.Eliminated.{AnswersEnd, made, steps, overflow, made_answer, elimination_end, AnswersElimination, IsEliminated}
+use Rattle.elim_job.specs.Eliminated.{AnswersElimEnd, made, steps, overflow, made_answer, elimination_end, AnswersElimination, IsEliminated}
 
 -- the answer to each end
 abbrev pub end_answer : Problem → Ending (List (List Literal)) → Answer
@@ -24,15 +24,15 @@ end_answer p (out_of_steps stands) = unknown_answer (codes "steps")
 end_answer p (overflows numbers stands) = unknown_answer (codes "overflow")
 
 -- an answer is that of the end
-pub by_end : (p : Problem) (end : Ending (List (List Literal))) (a : Answer) → AnswersEnd p end a → a ≡ end_answer p end
+pub by_end : (p : Problem) (end : Ending (List (List Literal))) (a : Answer) → AnswersElimEnd p end a → a ≡ end_answer p end
 by_end p end a (made d stands x is printed e) = e ∙ ap made_answer printed.text ∙ sym (ap (end_answer p) is)
 by_end p end a (steps stands is e) = e ∙ sym (ap (end_answer p) is)
 by_end p end a (overflow numbers stands is e) = e ∙ sym (ap (end_answer p) is)
 
-one_of_end : (p : Problem) (end : Ending (List (List Literal))) (a b : Answer) → AnswersEnd p end a → AnswersEnd p end b → a ≡ b
+one_of_end : (p : Problem) (end : Ending (List (List Literal))) (a b : Answer) → AnswersElimEnd p end a → AnswersElimEnd p end b → a ≡ b
 one_of_end p end a b h k = by_end p end a h ∙ sym (by_end p end b k)
 
-same_end : (p q : Problem) (end : Ending (List (List Literal))) (a : Answer) → AreSame p q → AnswersEnd p end a → AnswersEnd q end a
+same_end : (p q : Problem) (end : Ending (List (List Literal))) (a : Answer) → AreSame p q → AnswersElimEnd p end a → AnswersElimEnd q end a
 same_end p q end a same (made d stands x is printed e) = made d stands x is (text_same p q d x same printed) e
 same_end p q end a same (steps stands is e) = steps stands is e
 same_end p q end a same (overflow numbers stands is e) = overflow numbers stands is e
@@ -43,7 +43,7 @@ elimination_end_same budget p q same =
     ap (λ w. from w.value (length p.existentials)) (root_same p q same) ∙ ap (λ names. from (problem_root q).value (length names)) same.existentials
 
 same_elimination : (budget : ℕ) (p q : Problem) (a : Answer) → AreSame p q → AnswersElimination budget p a → AnswersElimination budget q a
-same_elimination budget p q a same h = subst (λ end. AnswersEnd q end a) (elimination_end_same budget p q same) (same_end p q (elimination_end budget p) a same h)
+same_elimination budget p q a same h = subst (λ end. AnswersElimEnd q end a) (elimination_end_same budget p q same) (same_end p q (elimination_end budget p) a same h)
 
 one_elimination : (budget : ℕ) (p : Problem) (a b : Answer) → AnswersElimination budget p a → AnswersElimination budget p b → a ≡ b
 one_elimination budget p = one_of_end p (elimination_end budget p)
@@ -63,7 +63,7 @@ elimination_answered budget bytes a p eliminated poses none =
 
 -- ---- its status
 
-end_status : (p : Problem) (end : Ending (List (List Literal))) (a : Answer) → AnswersEnd p end a → IsAnswerStatus a.status
+end_status : (p : Problem) (end : Ending (List (List Literal))) (a : Answer) → AnswersElimEnd p end a → IsAnswerStatus a.status
 end_status p end a (made d stands x is printed e) = subst (λ b. IsAnswerStatus b.status) (sym e) refl
 end_status p end a (steps stands is e) = subst (λ b. IsAnswerStatus b.status) (sym e) refl
 end_status p end a (overflow numbers stands is e) = subst (λ b. IsAnswerStatus b.status) (sym e) refl

@@ -6,13 +6,13 @@ use Rattle.clause_set.specs.declared.literal.Literal.{Literal}
 use Rattle.clause_set.specs.Literals.{dnf_truth}
 use Rattle.formula.specs.Form.{Form, FormTruth, IsFormOver}
 use Rattle.formula.specs.Sizes.{depth}
-use Rattle.elim_rules.specs.Elimination.{Tells}
-use Rattle.elim_rules.specs.Presburger.{IsPresburger, IsTrueAt as IsPlainlyTrue}
-use Rattle.elim_rules.specs.Whole.{AreOver, IsExact, eliminating}
-use Rattle.elim_rules.proofs.Over.{eliminated-over}
-use Rattle.elim_rules.proofs.Reduced.{presburger_of}
-use Rattle.elim_rules.proofs.Whole.{anywhere, eliminating-exact}
-use Rattle.search.specs.Run.{ended, ends_with}
+use Rattle.elim_laws.specs.Elimination.{Reflects}
+use Rattle.elim_laws.specs.Presburger.{IsPresburger, IsPresburgerTrue as IsPlainlyTrue}
+use Rattle.elim_laws.specs.Whole.{AreOver, IsExact, eliminating}
+use Rattle.elim_laws.proofs.Over.{eliminated-over}
+use Rattle.elim_laws.proofs.Reduced.{presburger_of}
+use Rattle.elim_laws.proofs.Whole.{anywhere, eliminating-exact}
+use Rattle.purse.specs.Ending.{ended, ends_with}
 use Rattle.encoding.specs.Problems.{problem_root}
 use Rattle.encoding.proofs.Problems.{holds_is, pure_is, root_over}
 use Rattle.pri_typing.specs.declared.problem.Problem.{Problem}
@@ -26,7 +26,7 @@ use Rattle.problem_file.specs.Answers.{refused, posed}
 use Rattle.problem_file.specs.Encoded.{impure, pure, large, leaves, runs}
 use Rattle.problem_file.proofs.Bytes.{reads_formed, reads_pure}
 use Rattle.problem_file.proofs.Reduced.{problem_reduced}
-use Rattle.elim_job.specs.Eliminated.{AnswersEnd, made, steps, overflow, elimination_end, IsEliminated}
+use Rattle.elim_job.specs.Eliminated.{AnswersElimEnd, made, steps, overflow, elimination_end, IsEliminated}
 use Rattle.elim_job.specs.Meaning.{Constrained, ElimMeans}
 
 -- ---- the constraint that elimination makes
@@ -38,7 +38,7 @@ eliminating_over : (n : ℕ) (f : Form) → IsPresburger f → IsFormOver n f �
 unfolding eliminating
 eliminating_over n f is over = eliminated-over (suc (depth f)) n f (omega arith) is over
 
-yes_where : (b : Bool) (P : Type 0) → Tells b P → P → b ≡ true
+yes_where : (b : Bool) (P : Type 0) → Reflects b P → P → b ≡ true
 yes_where true P h x = refl
 yes_where false P h x = absurd (h.no refl x)
 
@@ -87,7 +87,7 @@ made_constrains w bytes p d x text reads without is printed e =
 nothing_made : (w : Meaning) (bytes : List ℕ) (a : Answer) (s : ℕ) → a.status ≡ s → s ≢ 0 → ElimMeans w bytes a
 nothing_made w bytes a s e other = λ z. absurd (other (sym e ∙ z))
 
-end_means : (w : Meaning) (budget : ℕ) (bytes : List ℕ) (p : Problem) (a : Answer) → Reads bytes p → IsPure p → AnswersEnd p (elimination_end budget p) a → ElimMeans w bytes a
+end_means : (w : Meaning) (budget : ℕ) (bytes : List ℕ) (p : Problem) (a : Answer) → Reads bytes p → IsPure p → AnswersElimEnd p (elimination_end budget p) a → ElimMeans w bytes a
 end_means w budget bytes p a reads without (made d stands x is printed e) =
     λ z. made_constrains w bytes p d x a.text reads without (sym (ends_same _ d _ stands is)) printed (ap (λ b. b.text) e)
 end_means w budget bytes p a reads without (steps stands is e) = nothing_made w bytes a 2 (ap (λ b. b.status) e) (λ z. cc)

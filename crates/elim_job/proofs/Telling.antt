@@ -1,35 +1,22 @@
 -- What the elimination of the code is for the problem.
-use Rattle.std.proofs.Common.{codes, Result, IfOk, ◌≡◌, ℕ, ◌≤◌, Bool, true, false, ◌||◌, nat_lt, List, [], length, Ok, Err, refl, sym, ◌∙◌, ap, arith}
-use Rattle.std.proofs.lemmas.Grind.{common_steps}
+use Rattle.std.proofs.Common.{codes, Result, IfOk, ◌≡◌, ℕ, List, [], length, Ok, Err, refl, sym, ◌∙◌, ap}
 use Rattle.linear_term.specs.declared.range.Place.{Place}
 use Rattle.purse.specs.Trace.{Traced, Funds, At, at}
 use Rattle.purse.specs.Work.{Logged, marks_of}
 use Rattle.purse.specs.declared.fault.ElimFault.TheVariants as fault
 use Rattle.purse.specs.declared.log.ElimLog.{ElimLog}
 use Rattle.clause_set.specs.declared.literal.Literal.{Literal}
-use Rattle.formula.specs.Form.{Form}
-use Rattle.formula.specs.Sizes.{size, depth}
 use Rattle.formula.specs.Tree.{form}
-use Rattle.elim_rules.specs.Whole.{eliminating}
-use Rattle.search.specs.Run.{Ending, ending, ended, ends_with, out_of_steps, overflows}
-use Rattle.encoding.specs.Problems.{is_large, problem_root}
+use Rattle.elim_laws.specs.Whole.{eliminating}
+use Rattle.purse.specs.Ending.{Ending, ending, ended, ends_with, out_of_steps, overflows}
+use Rattle.encoding.specs.Problems.{problem_root}
 use Rattle.function_encoding.specs.declared.answer.Encoded.{Encoded}
 use Rattle.pri_typing.specs.declared.problem.Problem.{Problem}
 use Rattle.problem_file.specs.Encoded.{IsEncoded}
 use Rattle.linear_term.specs.declared.range.Memory.{Memory}
 use Rattle.answers.specs.Answer.{answer_of, unknown_answer}
 use Rattle.answers.specs.declared.output.Output.{Output}
-use Rattle.elim_job.specs.Eliminated.{AnswersEnd, steps, overflow, elimination_end}
-
-neither : (a b : Bool) → (a || b) ≡ false → b ≡ false
-neither true b h = absurd cc
-neither false b h = h
-
-not_above : (most n : ℕ) → nat_lt most n ≡ false → n ≤ most
-not_above most n h = grind (arith, common_steps)
-
-pub small_depth : (f : Form) → is_large f ≡ false → depth f ≤ 2000
-small_depth f small = not_above 2000 (depth f) (neither (nat_lt 1000000 (size f)) (nat_lt 2000 (depth f)) small)
+use Rattle.elim_job.specs.Eliminated.{AnswersElimEnd, steps, overflow, elimination_end}
 
 -- ---- the elimination of the code is that of the problem
 
@@ -66,11 +53,11 @@ ends_out_of_range budget p e h log place old new from k = let out = k.overflow p
 -- ---- what is told of an elimination that was cut
 
 pub steps_so : (p : Problem) (end : Ending (List (List Literal))) (stands : At) → end ≡ out_of_steps stands → (r : Result Output Memory) → IfOk r (λ o. answer_of o ≡ unknown_answer (codes "steps"))
-    → IfOk r (λ o. AnswersEnd p end (answer_of o))
+    → IfOk r (λ o. AnswersElimEnd p end (answer_of o))
 steps_so p end stands is (Ok o) k = steps stands is k
 steps_so p end stands is (Err m) k = tt
 
 pub overflow_so : (p : Problem) (end : Ending (List (List Literal))) (stands : At) → (numbers : List Place) × (end ≡ overflows numbers stands) → (r : Result Output Memory)
-    → IfOk r (λ o. answer_of o ≡ unknown_answer (codes "overflow")) → IfOk r (λ o. AnswersEnd p end (answer_of o))
+    → IfOk r (λ o. answer_of o ≡ unknown_answer (codes "overflow")) → IfOk r (λ o. AnswersElimEnd p end (answer_of o))
 overflow_so p end stands is (Ok o) k = overflow is.0 stands is.1 k
 overflow_so p end stands is (Err m) k = tt

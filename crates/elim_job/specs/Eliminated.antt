@@ -3,8 +3,8 @@ use Rattle.std.specs.Prelude.{◌≡◌, ℕ, List, [], length, codes}
 use Rattle.linear_term.specs.declared.range.Place.{Place}
 use Rattle.purse.specs.Trace.{At, at}
 use Rattle.clause_set.specs.declared.literal.Literal.{Literal}
-use Rattle.elim_rules.specs.Whole.{eliminating}
-use Rattle.search.specs.Run.{Ending, ending, ends_with, out_of_steps, overflows}
+use Rattle.elim_laws.specs.Whole.{eliminating}
+use Rattle.purse.specs.Ending.{Ending, ending, ends_with, out_of_steps, overflows}
 use Rattle.pri_typing.specs.declared.problem.Problem.{Problem}
 use Rattle.encoding.specs.Problems.{problem_root}
 use Rattle.answers.specs.Answer.{Answer, unknown_answer}
@@ -17,10 +17,10 @@ abbrev pub made_answer : List ℕ → Answer
 made_answer x = record { status = 0; text = constraint_line x }
 
 -- the answer to a problem whose elimination ends so
-pub data AnswersEnd (p : Problem) (end : Ending (List (List Literal))) (answer : Answer) : Type 0 where
-  made : (d : List (List Literal)) (stands : At) (x : List ℕ) → end ≡ ends_with d stands → IsTextOf p d x → answer ≡ made_answer x → AnswersEnd p end answer
-  steps : (stands : At) → end ≡ out_of_steps stands → answer ≡ unknown_answer (codes "steps") → AnswersEnd p end answer
-  overflow : (numbers : List Place) (stands : At) → end ≡ overflows numbers stands → answer ≡ unknown_answer (codes "overflow") → AnswersEnd p end answer
+pub data AnswersElimEnd (p : Problem) (end : Ending (List (List Literal))) (answer : Answer) : Type 0 where
+  made : (d : List (List Literal)) (stands : At) (x : List ℕ) → end ≡ ends_with d stands → IsTextOf p d x → answer ≡ made_answer x → AnswersElimEnd p end answer
+  steps : (stands : At) → end ≡ out_of_steps stands → answer ≡ unknown_answer (codes "steps") → AnswersElimEnd p end answer
+  overflow : (numbers : List Place) (stands : At) → end ≡ overflows numbers stands → answer ≡ unknown_answer (codes "overflow") → AnswersElimEnd p end answer
 
 -- how the elimination of the encoded problem, over its existential constants, ends with this budget
 abbrev pub elimination_end : ℕ → Problem → Ending (List (List Literal))
@@ -28,7 +28,7 @@ elimination_end budget p = ending (eliminating (length p.existentials) (problem_
 
 -- the answer to a problem whose encoding fits
 abbrev pub AnswersElimination : ℕ → Problem → Answer → Type 0
-AnswersElimination budget p answer = AnswersEnd p (elimination_end budget p) answer
+AnswersElimination budget p answer = AnswersElimEnd p (elimination_end budget p) answer
 
 -- the answer of `elim` with this budget to the bytes of a file
 abbrev pub IsEliminated : ℕ → List ℕ → Answer → Type 0

@@ -1,7 +1,7 @@
 // What the answers of `elim` are and mean, each the contract of a function with nothing to do.
 
 ghost use Rattle.answers.specs.Answer.{Answer};
-ghost use Rattle.elim_job.specs.Causes.{Causes, Decides};
+ghost use Rattle.elim_job.specs.Causes.{ElimCauses, ElimDecides};
 ghost use Rattle.elim_job.specs.Eliminated.{IsEliminated};
 ghost use Rattle.elim_job.specs.Meaning.{ElimMeans};
 ghost use Rattle.typed_formula.specs.Truth.{Meaning};
@@ -20,10 +20,10 @@ pub fn meaning_law()
 
 /// Each answer comes exactly where its row of the table of answers says.
 pub fn causes_law()
-    ensures { (budget : ℕ) (bytes : List ℕ) (a : Answer) → IsEliminated budget bytes a → Causes budget bytes a }
+    ensures { (budget : ℕ) (bytes : List ℕ) (a : Answer) → IsEliminated budget bytes a → ElimCauses budget bytes a }
 {}
 
 /// A problem without applications whose encoding fits gets its constraint, unless the budget ends or a number leaves the range.
 pub fn decided_law()
-    ensures { (budget : ℕ) (bytes : List ℕ) (a : Answer) → IsEliminated budget bytes a → Decides budget bytes a }
+    ensures { (budget : ℕ) (bytes : List ℕ) (a : Answer) → IsEliminated budget bytes a → ElimDecides budget bytes a }
 {}

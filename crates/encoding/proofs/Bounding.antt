@@ -3,25 +3,25 @@ use Rattle.std.proofs.Common.{◌≡◌, ℕ, zero, suc, Bool, true, false, not,
 use Rattle.typed_formula.specs.declared.typed.Sort.{Sort}
 use Rattle.purse.specs.Trace.{Traced, just, step, next}
 use Rattle.formula.specs.Form.{Form, Forms, forms, no_form}
-use Rattle.encoding.specs.Encoding.{Bound, least, greatest, bounds, within, outside, limits, restricted, quantified, bound_by}
+use Rattle.encoding.specs.Encoding.{SortBound, least, greatest, bounds, within, outside, limits, restricted, quantified, bound_by}
 use Rattle.encoding.specs.Extent.{Extent, leaf, nothing, beside, above, behind_atoms, restricted_extent, measured, all_measured}
 use Rattle.encoding.proofs.Measuring.{measured-more, measured-junction, measured-quantified, measured-nothing}
 
-measured-limit : (all : Bool) (x : ℕ) (b : Bound) → measured (cond all (outside x b) (within x b)).value ≡ leaf
+measured-limit : (all : Bool) (x : ℕ) (b : SortBound) → measured (cond all (outside x b) (within x b)).value ≡ leaf
 unfolding next step just
 measured-limit true x (least n) = refl
 measured-limit true x (greatest n) = refl
 measured-limit false x (least n) = refl
 measured-limit false x (greatest n) = refl
 
-pub measured-limits : (all : Bool) (x : ℕ) (bs : List Bound) (gs : List Form) (a : Extent) → all_measured (forms gs) ≡ a
+pub measured-limits : (all : Bool) (x : ℕ) (bs : List SortBound) (gs : List Form) (a : Extent) → all_measured (forms gs) ≡ a
     → all_measured (forms ((limits all x bs).value ++ gs)) ≡ behind_atoms (length bs) a
 unfolding next just
 measured-limits all x [] gs a p = p
 measured-limits all x (b ∷ bs) gs a p =
     measured-more (cond all (outside x b) (within x b)).value (forms ((limits all x bs).value ++ gs)) leaf (behind_atoms (length bs) a) (measured-limit all x b) (measured-limits all x bs gs a p)
 
-measured-restricted : (all : Bool) (x : ℕ) (bs : List Bound) (g : Form) (a : Extent) → measured g ≡ a → measured (restricted all (limits all x bs).value g) ≡ restricted_extent (length bs) a
+measured-restricted : (all : Bool) (x : ℕ) (bs : List SortBound) (g : Form) (a : Extent) → measured g ≡ a → measured (restricted all (limits all x bs).value g) ≡ restricted_extent (length bs) a
 unfolding next just
 measured-restricted all x [] g a p = p
 measured-restricted all x (b ∷ bs) g a p =

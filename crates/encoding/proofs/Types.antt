@@ -17,17 +17,17 @@ use Rattle.purse.specs.Trace.{Traced, just, step, next, combining}
 use Rattle.formula.specs.Form.{Form, Forms, FormTruth, AreFormsTrue, AreFormsFalse, IsFormOver, AreFormsOver, is_pure, are_pure, forms, at_least, no_form}
 use Rattle.formula.proofs.Extending.{entry_last, over_number, over_name, over_more}
 use Rattle.formula.proofs.Stability.{form_stable}
-use Rattle.encoding.specs.Encoding.{Bound, least, greatest, bounds, inequality, within, outside, limits, restricted, quantified, bound_by, junction}
+use Rattle.encoding.specs.Encoding.{SortBound, least, greatest, bounds, inequality, within, outside, limits, restricted, quantified, bound_by, junction}
 use Rattle.encoding.specs.Extent.{Extent, leaf, nothing, beside, above, behind_atoms, restricted_extent, measured, all_measured}
 use Rattle.encoding.proofs.Cases.{iff_trans}
 
 -- Bounds of an integer.
 
-abbrev pub IsWithin : Bound → ℤ → Type 0
+abbrev pub IsWithin : SortBound → ℤ → Type 0
 IsWithin (least n) v = n ≤ℤ v
 IsWithin (greatest n) v = v ≤ℤ n
 
-abbrev pub AreWithin : List Bound → ℤ → Type 0
+abbrev pub AreWithin : List SortBound → ℤ → Type 0
 AreWithin [] v = Unit {0}
 AreWithin (b ∷ bs) v = IsWithin b v × AreWithin bs v
 
@@ -37,7 +37,7 @@ within_values Int v = (λ h. h, λ h. h)
 within_values Nat v = (λ h. h.0, λ h. (h, tt))
 within_values (Range a b) v = (λ h. (h.0, h.1.0), λ h. (h.0, (h.1, tt)))
 
-within_stable : (b : Bound) (v : ℤ) → ¬ (¬ (IsWithin b v)) → IsWithin b v
+within_stable : (b : SortBound) (v : ℤ) → ¬ (¬ (IsWithin b v)) → IsWithin b v
 within_stable (least n) v h = related_stable Leq n v h
 within_stable (greatest n) v h = related_stable Leq v n h
 
@@ -58,7 +58,7 @@ less_value n e = omega (arith, ints, value_of-combination (pos 1) (negsuc 0) (li
 negative_value : (n : ℤ) (e : List ℤ) → value_of (combination (negsuc 0) (linear.number n) (negsuc 0) (linear.number (pos 1))) e ≡ neg_ℤ n +ℤ negsuc 0
 negative_value n e = omega (arith, ints, value_of-combination (negsuc 0) (negsuc 0) (linear.number n) (linear.number (pos 1)) e, value_of-number n e, value_of-number (pos 1) e)
 
-within_is : (w : Meaning) (x : ℕ) (b : Bound) (e : List ℤ) → FormTruth w (within x b).value e ↔ IsWithin b (entry e x)
+within_is : (w : Meaning) (x : ℕ) (b : SortBound) (e : List ℤ) → FormTruth w (within x b).value e ↔ IsWithin b (entry e x)
 unfolding next step just
 within_is w x (least n) e = let v = above_value x n e in (λ h. omega (arith, ints), λ h. omega (arith, ints))
 within_is w x (greatest n) e =
@@ -66,7 +66,7 @@ within_is w x (greatest n) e =
     let c = value_of-number n e in
     (λ h. omega (arith, ints), λ h. omega (arith, ints))
 
-outside_is : (w : Meaning) (x : ℕ) (b : Bound) (e : List ℤ) → FormTruth w (outside x b).value e ↔ (¬ (IsWithin b (entry e x)))
+outside_is : (w : Meaning) (x : ℕ) (b : SortBound) (e : List ℤ) → FormTruth w (outside x b).value e ↔ (¬ (IsWithin b (entry e x)))
 unfolding next step just
 outside_is w x (least n) e =
     let c = less_value n e in
@@ -78,7 +78,7 @@ outside_is w x (greatest n) e =
     (λ h k. omega (arith, ints), λ h. let lt = (related_opposite Leq (entry e x) n).1 h in omega (arith, ints))
 
 -- all are false exactly where the name is within the bounds and the formula is false
-all_outside : (w : Meaning) (x : ℕ) (bs : List Bound) (g : Form) (e : List ℤ)
+all_outside : (w : Meaning) (x : ℕ) (bs : List SortBound) (g : Form) (e : List ℤ)
     → AreFormsFalse w (forms ((limits true x bs).value ++ g ∷ [])) e ↔ (AreWithin bs (entry e x) × (¬ (FormTruth w g e)))
 unfolding next just
 all_outside w x [] g e = (λ h. (tt, h.0), λ h. (h.1, tt))
@@ -89,7 +89,7 @@ all_outside w x (b ∷ bs) g e =
       λ h. (λ o. own.0 o (h.0.0), rest.1 (h.0.1, h.1)),
     )
 
-all_within : (w : Meaning) (x : ℕ) (bs : List Bound) (g : Form) (e : List ℤ)
+all_within : (w : Meaning) (x : ℕ) (bs : List SortBound) (g : Form) (e : List ℤ)
     → AreFormsTrue w (forms ((limits false x bs).value ++ g ∷ [])) e ↔ (AreWithin bs (entry e x) × FormTruth w g e)
 unfolding next just
 all_within w x [] g e = (λ h. (tt, h.0), λ h. (h.1, tt))
@@ -101,7 +101,7 @@ all_within w x (b ∷ bs) g e =
     )
 
 -- where the name is within the bounds, the formula is true
-unless_outside : (w : Meaning) (x : ℕ) (bs : List Bound) (g : Form) (e : List ℤ)
+unless_outside : (w : Meaning) (x : ℕ) (bs : List SortBound) (g : Form) (e : List ℤ)
     → FormTruth w (restricted true (limits true x bs).value g) e ↔ (AreWithin bs (entry e x) → FormTruth w g e)
 unfolding next just
 unless_outside w x [] g e = (λ h _. h, λ h. h tt)
@@ -110,7 +110,7 @@ unless_outside w x (b ∷ bs) g e =
     (λ n k. form_stable w g e (λ m. n (all.1 (k, m))), λ h f. let k = all.0 f in k.1 (h k.0))
 
 -- the name is within the bounds, and the formula is true
-and_within : (w : Meaning) (x : ℕ) (bs : List Bound) (g : Form) (e : List ℤ)
+and_within : (w : Meaning) (x : ℕ) (bs : List SortBound) (g : Form) (e : List ℤ)
     → FormTruth w (restricted false (limits false x bs).value g) e ↔ (AreWithin bs (entry e x) × FormTruth w g e)
 unfolding next just
 and_within w x [] g e = (λ h. (tt, h), λ h. h.1)
@@ -149,7 +149,7 @@ conditions_before w x s gs e =
     let value = within_values s (entry e x) in
     (λ h. let k = all.0 h in (value.0 k.0, k.1), λ h. all.1 (value.1 h.0, h.1))
   where
-    by : (bs : List Bound) → AreFormsTrue w (forms ((limits false x bs).value ++ gs)) e ↔ (AreWithin bs (entry e x) × AreFormsTrue w (forms gs) e)
+    by : (bs : List SortBound) → AreFormsTrue w (forms ((limits false x bs).value ++ gs)) e ↔ (AreWithin bs (entry e x) × AreFormsTrue w (forms gs) e)
     by [] = (λ h. (tt, h), λ h. h.1)
     by (b ∷ bs) =
         let rest = by bs in
@@ -164,7 +164,7 @@ inequality_over : (n : ℕ) (k m : ℤ) (x : ℕ) (t : Linear) → x < n → IsO
 unfolding next step just
 inequality_over n k m x t lt h = combination-over n k m (linear.name x) t (over_name n x lt) h
 
-limit_over : (n : ℕ) (all : Bool) (x : ℕ) (b : Bound) → x < n → IsFormOver n (cond all (outside x b) (within x b)).value
+limit_over : (n : ℕ) (all : Bool) (x : ℕ) (b : SortBound) → x < n → IsFormOver n (cond all (outside x b) (within x b)).value
 unfolding next step just
 limit_over n true x (least k) lt =
     inequality_over n (negsuc 0) (pos 1) x _ lt (combination-over n (pos 1) (negsuc 0) (linear.number k) (linear.number (pos 1)) (over_number n k) (over_number n (pos 1)))
@@ -173,12 +173,12 @@ limit_over n true x (greatest k) lt =
 limit_over n false x (least k) lt = inequality_over n (pos 1) (negsuc 0) x (linear.number k) lt (over_number n k)
 limit_over n false x (greatest k) lt = inequality_over n (negsuc 0) (pos 1) x (linear.number k) lt (over_number n k)
 
-pub limits_over : (n : ℕ) (all : Bool) (x : ℕ) (bs : List Bound) (gs : List Form) → x < n → AreFormsOver n (forms gs) → AreFormsOver n (forms ((limits all x bs).value ++ gs))
+pub limits_over : (n : ℕ) (all : Bool) (x : ℕ) (bs : List SortBound) (gs : List Form) → x < n → AreFormsOver n (forms gs) → AreFormsOver n (forms ((limits all x bs).value ++ gs))
 unfolding next just
 limits_over n all x [] gs lt h = h
 limits_over n all x (b ∷ bs) gs lt h = (limit_over n all x b lt, limits_over n all x bs gs lt h)
 
-restricted_over : (n : ℕ) (all : Bool) (x : ℕ) (bs : List Bound) (g : Form) → x < n → IsFormOver n g → IsFormOver n (restricted all (limits all x bs).value g)
+restricted_over : (n : ℕ) (all : Bool) (x : ℕ) (bs : List SortBound) (g : Form) → x < n → IsFormOver n g → IsFormOver n (restricted all (limits all x bs).value g)
 unfolding next just
 restricted_over n all x [] g lt h = h
 restricted_over n true x (b ∷ bs) g lt h = limits_over n true x (b ∷ bs) (g ∷ []) lt (h, tt)
@@ -194,14 +194,14 @@ bound_over n all s body h = quantified_over all n _ (restricted_over (suc n) all
 
 -- Applications.
 
-pure-limit : (all : Bool) (x : ℕ) (b : Bound) → is_pure (cond all (outside x b) (within x b)).value ≡ true
+pure-limit : (all : Bool) (x : ℕ) (b : SortBound) → is_pure (cond all (outside x b) (within x b)).value ≡ true
 unfolding next step just
 pure-limit true x (least n) = refl
 pure-limit true x (greatest n) = refl
 pure-limit false x (least n) = refl
 pure-limit false x (greatest n) = refl
 
-pub pure-limits : (all : Bool) (x : ℕ) (bs : List Bound) (gs : List Form) → are_pure (forms ((limits all x bs).value ++ gs)) ≡ are_pure (forms gs)
+pub pure-limits : (all : Bool) (x : ℕ) (bs : List SortBound) (gs : List Form) → are_pure (forms ((limits all x bs).value ++ gs)) ≡ are_pure (forms gs)
 unfolding next just
 pure-limits all x [] gs = refl
 pure-limits all x (b ∷ bs) gs = λ i. pure-limit all x b i && pure-limits all x bs gs i
@@ -210,7 +210,7 @@ only : (b : Bool) → (b && true) ≡ b
 only true = refl
 only false = refl
 
-pure-restricted : (all : Bool) (x : ℕ) (bs : List Bound) (g : Form) → is_pure (restricted all (limits all x bs).value g) ≡ is_pure g
+pure-restricted : (all : Bool) (x : ℕ) (bs : List SortBound) (g : Form) → is_pure (restricted all (limits all x bs).value g) ≡ is_pure g
 unfolding next just
 pure-restricted all x [] g = refl
 pure-restricted true x (b ∷ bs) g = pure-limits true x (b ∷ bs) (g ∷ []) ∙ only (is_pure g)

@@ -70,12 +70,12 @@ product_of left s t = cond left (multiple s.constant t) (multiple t.constant s)
 -- Types.
 
 -- a bound of a type: its least value, or its greatest
-pub data Bound : Type 0 where
-  least : ℤ → Bound
-  greatest : ℤ → Bound
+pub data SortBound : Type 0 where
+  least : ℤ → SortBound
+  greatest : ℤ → SortBound
 
 -- the bounds of a type
-abbrev pub bounds : Sort → List Bound
+abbrev pub bounds : Sort → List SortBound
 bounds Int = []
 bounds Nat = least (pos 0) ∷ []
 bounds (Range a b) = least a ∷ greatest b ∷ []
@@ -85,17 +85,17 @@ abbrev pub inequality : ℤ → ℕ → ℤ → Linear → Traced Form
 inequality k x m t = next (combining k (linear.name x) m t) (λ u. just (at_least u))
 
 -- the name x is within the bound: x - n is at least 0, or -x + n is
-abbrev pub within : ℕ → Bound → Traced Form
+abbrev pub within : ℕ → SortBound → Traced Form
 within x (least n) = inequality (pos 1) x (negsuc 0) (linear.number n)
 within x (greatest n) = inequality (negsuc 0) x (pos 1) (linear.number n)
 
 -- it is not: -x + (n - 1) is at least 0, or x + (-n - 1) is
-abbrev pub outside : ℕ → Bound → Traced Form
+abbrev pub outside : ℕ → SortBound → Traced Form
 outside x (least n) = next (combining (pos 1) (linear.number n) (negsuc 0) (linear.number (pos 1))) (λ c. inequality (negsuc 0) x (pos 1) c)
 outside x (greatest n) = next (combining (negsuc 0) (linear.number n) (negsuc 0) (linear.number (pos 1))) (λ c. inequality (pos 1) x (pos 1) c)
 
 -- for all, that the name x is outside the one bound or the other; for some, that it is within each
-abbrev pub limits : Bool → ℕ → List Bound → Traced (List Form)
+abbrev pub limits : Bool → ℕ → List SortBound → Traced (List Form)
 limits all x [] = just []
 limits all x (b ∷ bs) = next (cond all (outside x b) (within x b)) (λ h. next (limits all x bs) (λ hs. just (h ∷ hs)))
 

@@ -1,5 +1,6 @@
 -- The encoding of a problem, and of what parts of it assume.
 use Rattle.std.specs.Prelude.{ℕ, ◌+◌, Bool, true, not, ◌||◌, nat_lt, List, ◌++◌, length}
+use Rattle.limits.specs.Limits.{most_levels, most_nodes}
 use Rattle.purse.specs.Trace.{Traced, just, next}
 use Rattle.typed_formula.specs.declared.typed.Sort.{Sort}
 use Rattle.typed_formula.specs.Formula.{Formula, formula}
@@ -53,4 +54,4 @@ assumed_form p c = (encoded (names_from 0 (constants p)) (constants p) (not c.pl
 
 -- more than 1,000,000 nodes, or a depth above 2,000
 abbrev pub is_large : Form → Bool
-is_large f = nat_lt 1000000 (size f) || nat_lt 2000 (depth f)
+is_large f = nat_lt most_nodes (size f) || nat_lt most_levels (depth f)

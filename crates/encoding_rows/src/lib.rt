@@ -3,8 +3,8 @@
 #![tactic(auto)]
 
 #[cfg(test)]
-mod forms;
+mod at_limits;
 #[cfg(test)]
-mod limits;
+mod forms;
 #[cfg(test)]
 mod shown;

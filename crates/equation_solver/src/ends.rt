@@ -155,7 +155,7 @@ fn solutions_reach_the_end_of_the_range(rt: HostRuntime) -> Result<(), StepFault
 }
 
 /// These literals, and bounds of the name x by each of the names from 2 up to `last`.
-#[tactic(auto, using(performed_rules::proofs::Steps::pushing))]
+#[tactic(auto, using(rule_code::proofs::Steps::pushing))]
 fn with_bounds(
     rt: &impl Abort,
     alloc: Global,

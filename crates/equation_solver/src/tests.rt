@@ -61,7 +61,7 @@ fn literal(rt: &impl Abort, alloc: Global, said: Said) -> Result<Literal, StepFa
     }
 }
 
-#[tactic(auto, using(performed_rules::proofs::Steps::pushing))]
+#[tactic(auto, using(rule_code::proofs::Steps::pushing))]
 pub(crate) fn literals(
     rt: &impl Abort,
     alloc: Global,

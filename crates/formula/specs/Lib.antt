@@ -4,4 +4,5 @@ pub mod Reduced
 pub mod Made
 pub mod Shifts
 pub mod Sizes
+pub mod Searchable
 pub mod Tree

@@ -11,13 +11,13 @@ use Rattle.formula.specs.Form.{Form, Forms, forms}
 use Rattle.formula.specs.Tree.{form, forms_of}
 use Rattle.formula.specs.Made.{Made}
 use Rattle.formula.proofs.Making.{made_ok, made_err, made_just, pushed}
-use Rattle.encoding.specs.Encoding.{Bound, least, greatest, bounds, within, outside, limits, restricted, quantified, bound_by, junction}
+use Rattle.encoding.specs.Encoding.{SortBound, least, greatest, bounds, within, outside, limits, restricted, quantified, bound_by, junction}
 use Rattle.encoding.specs.Root.{for_last}
 use Rattle.encoding.proofs.Arithmetic.{no_test}
 use Rattle.function_encoding.proofs.Kept.{read_any}
 
 -- the atom of a bound
-abbrev pub limit : Bool → ℕ → Bound → Traced Form
+abbrev pub limit : Bool → ℕ → SortBound → Traced Form
 limit all x b = cond all (outside x b) (within x b)
 
 -- atoms behind others
@@ -31,14 +31,14 @@ none_behind : (out : List Form) → behind_others out (just []) ≡ just out
 unfolding next just
 none_behind out = ap (λ l. record { value = l; events = [] }) (append-nil out)
 
-one_behind : (all : Bool) (x : ℕ) (b : Bound) (out : List Form) → behind_others out (limits all x (b ∷ [])) ≡ one_more out (limit all x b)
+one_behind : (all : Bool) (x : ℕ) (b : SortBound) (out : List Form) → behind_others out (limits all x (b ∷ [])) ≡ one_more out (limit all x b)
 unfolding next just
 one_behind all x b out = next-assoc (limit all x b) (λ h. just (h ∷ [])) (λ hs. just (out ++ hs))
 
 two_events : (a b : List Event) → (a ++ ((b ++ []) ++ [])) ++ [] ≡ (a ++ []) ++ (b ++ [])
 two_events a b = append-nil (a ++ ((b ++ []) ++ [])) ∙ ap (λ z. a ++ z) (append-nil (b ++ [])) ∙ ap (λ z. z ++ (b ++ [])) (sym (append-nil a))
 
-two_behind : (all : Bool) (x : ℕ) (a b : Bound) (out : List Form) → behind_others out (limits all x (a ∷ b ∷ [])) ≡ next (one_more out (limit all x a)) (λ zs. one_more zs (limit all x b))
+two_behind : (all : Bool) (x : ℕ) (a b : SortBound) (out : List Form) → behind_others out (limits all x (a ∷ b ∷ [])) ≡ next (one_more out (limit all x a)) (λ zs. one_more zs (limit all x b))
 unfolding next just
 two_behind all x a b out = λ i. record {
   value = sym (append_assoc out ((limit all x a).value ∷ []) ((limit all x b).value ∷ [])) i;

@@ -31,7 +31,7 @@ use Rattle.function_encoding.specs.Encoded.{all_assumed, all_signed}
 use Rattle.function_encoding.specs.Marks.{AreMarks, is_marked}
 use Rattle.function_encoding.proofs.Kept.{left_over, over-two_first, behind-sum, kept-two_first, conditions-same, conditions_measured}
 use Rattle.function_encoding.specs.Ranged.{IsRanged, AreRanged}
-use Rattle.function_encoding.specs.Room.{HasRoom}
+use Rattle.function_encoding.specs.Room.{HasNamesLeft}
 use Rattle.function_encoding.specs.declared.component.Component.{Component}
 use Rattle.function_encoding.proofs.Encodings.{rest, rest-more, rest_none, room_beside, room_under}
 use Rattle.function_encoding.proofs.Limits.{large_is}
@@ -79,12 +79,12 @@ pub chosen_ranged : (cs : List Component) (i : ℕ) (c : Component) → i < leng
 chosen_ranged cs i c lt is h =
     let r = subst (λ l. AreRanged (all_assumed l)) (drop-item cs i c lt is) h in (assumed_ranged c.plus (formula c.what.now) r.0, r.1)
 
-pub chosen_room : (n : ℕ) (cs : List Component) (i : ℕ) (c : Component) → i < length cs → c ≡ get_or cs i c → HasRoom n (extents (all_assumed (drop i cs)))
-    → HasRoom n (extent (formula c.what.now)) × HasRoom n (extents (all_assumed (drop (i + 1) cs)))
+pub chosen_room : (n : ℕ) (cs : List Component) (i : ℕ) (c : Component) → i < length cs → c ≡ get_or cs i c → HasNamesLeft n (extents (all_assumed (drop i cs)))
+    → HasNamesLeft n (extent (formula c.what.now)) × HasNamesLeft n (extents (all_assumed (drop (i + 1) cs)))
 chosen_room n cs i c lt is h =
     let r = room_beside n (extent (assumed (record { plus = c.plus; what = formula c.what.now }))) (extents (all_assumed (drop (i + 1) cs)))
-    (subst (λ l. HasRoom n (extents (all_assumed l))) (drop-item cs i c lt is) h) in
-    (subst (HasRoom n) (assumed_extent c.plus (formula c.what.now)) r.0, r.1)
+    (subst (λ l. HasNamesLeft n (extents (all_assumed l))) (drop-item cs i c lt is) h) in
+    (subst (HasNamesLeft n) (assumed_extent c.plus (formula c.what.now)) r.0, r.1)
 
 -- the components of a set are what its parts assume
 pub chosen_are : (p : Problem) (set : List ℕ) (cs : List Component) → all_signed cs ≡ filter (λ c. is_part_in set c.what) (components_of p) → every (all_assumed cs) ≡ assumed_by p set
@@ -159,18 +159,18 @@ before_levels : (fs : Formulas) (e : Extent) → (extents fs).levels ≤ (extent
 before_levels no_formula e = omega arith
 before_levels (and_formula f fs) e = let rest = before_levels fs e in omega (arith, rest)
 
-less_room : (n : ℕ) (a b : Extent) → a.levels ≤ b.levels → HasRoom n b → HasRoom n a
+less_room : (n : ℕ) (a b : Extent) → a.levels ≤ b.levels → HasNamesLeft n b → HasNamesLeft n a
 less_room n a b le h = omega (arith, le, h)
 
 pub parts_room : (p : Problem) (set : List ℕ) (marks : List Bool) (cs : List Component) → IsWellFormed p → AreMarks (constants p) (assumed_by p set) marks → constants p ≤ 1000
-    → is_large (parts_root p set).value ≡ false → all_signed cs ≡ filter (λ c. is_part_in set c.what) (components_of p) → HasRoom (constants p) (extents (all_assumed cs))
+    → is_large (parts_root p set).value ≡ false → all_signed cs ≡ filter (λ c. is_part_in set c.what) (components_of p) → HasNamesLeft (constants p) (extents (all_assumed cs))
 parts_room p set marks cs formed m few small chosen =
     let fs = all_assumed cs in
     let is : above (extents_before fs (marked_extent p marks)) ≡ measured (parts_root p set).value =
     ap (λ l. above (extents_before (formulas (map assumed l)) (marked_extent p marks))) chosen ∙ sym (parts_measured p set marks formed m) in
     less_room (constants p) (extents fs) (extents_before fs (marked_extent p marks)) (before_levels fs (marked_extent p marks))
     (room_under (constants p) (extents_before fs (marked_extent p marks))
-    (subst (HasRoom (constants p)) (sym is) (small_room (constants p) (parts_root p set).value (measured (parts_root p set).value) few small (omega arith))))
+    (subst (HasNamesLeft (constants p)) (sym is) (small_room (constants p) (parts_root p set).value (measured (parts_root p set).value) few small (omega arith))))
 
 -- their conjunction
 pub members_as : (at all : List ℕ) (n m : ℕ) (fs : Formulas) (r : Result (List Core) TermFault) → all ≡ at → m ≡ n → Made forms_of (all_encoded all m true fs) r → Made forms_of (all_encoded at n true fs) r

@@ -6,21 +6,21 @@ use Rattle.typed_formula.specs.Formula.{Expression, expression, expressions_of}
 use Rattle.purse.proofs.Charging.{drop-item, drop_all}
 use Rattle.pri_typing.specs.WellFormed.{size}
 use Rattle.function_encoding.specs.Actions.{Action, add, compiled, compiled_all, compiled_more}
-use Rattle.function_encoding.specs.Instructions.{Follows, actions_of}
+use Rattle.function_encoding.specs.Instructions.{FollowsActions, actions_of}
 use Rattle.function_encoding.specs.declared.instruction.Instruction.{Instruction}
 use Rattle.function_encoding.specs.Members.{is_subtracted, without_minus}
 use Rattle.function_encoding.specs.Weight.{weight_of, weights_of}
 use Rattle.function_encoding.proofs.Members.{more_is}
 
-pub follows_then : {a b c : List Action} {f g : List Action → List Action} → Follows a b f → Follows b c g → Follows a c (λ m. f (g m))
+pub follows_then : {a b c : List Action} {f g : List Action → List Action} → FollowsActions a b f → FollowsActions b c g → FollowsActions a c (λ m. f (g m))
 follows_then {f = f} {g = g} h k = record { is = λ m. k.is m ∙ h.is (g m) }
 
-pub follows_last : {E : Type 0} (r : Result (Unit {0}) E) (a b c : List Action) (f g : List Action → List Action) → Follows a b f → OnOk r (Follows b c g) → OnOk r (Follows a c (λ m. f (g m)))
+pub follows_last : {E : Type 0} (r : Result (Unit {0}) E) (a b c : List Action) (f g : List Action → List Action) → FollowsActions a b f → OnOk r (FollowsActions b c g) → OnOk r (FollowsActions a c (λ m. f (g m)))
 follows_last (Ok u) a b c f g h k = follows_then h k
 follows_last (Err e) a b c f g h k = tt
 
 -- what is put behind nothing
-pub follows_none : (old : List Instruction) (new : List Action) (f : List Action → List Action) → old ≡ [] → Follows (actions_of old) new f → new ≡ f []
+pub follows_none : (old : List Instruction) (new : List Action) (f : List Action → List Action) → old ≡ [] → FollowsActions (actions_of old) new f → new ≡ f []
 follows_none old new f e h = sym (append-nil new) ∙ h.is [] ∙ ap (λ l. actions_of l ++ f []) e
 
 pub terms_many : (ts : List TypedTerm) → size (expressions_of ts) ≡ length ts
@@ -34,17 +34,17 @@ pub record Goes (old now : List Action) (rest whole : List Action → List Actio
 pub goes_all : (old now : List Action) (f : List Action → List Action) → now ≡ old → Goes old now f f
 goes_all old now f e = record { is = λ m. ap (λ l. l ++ f m) e }
 
-pub goes_next : {old now new : List Action} {f g whole : List Action → List Action} → Goes old now (λ m. f (g m)) whole → Follows now new f → Goes old new g whole
+pub goes_next : {old now new : List Action} {f g whole : List Action → List Action} → Goes old now (λ m. f (g m)) whole → FollowsActions now new f → Goes old new g whole
 goes_next {g = g} h k = record { is = λ m. k.is (g m) ∙ h.is m }
 
-pub goes_end : {old now : List Action} {whole : List Action → List Action} → Goes old now (λ m. m) whole → Follows old now whole
+pub goes_end : {old now : List Action} {whole : List Action → List Action} → Goes old now (λ m. m) whole → FollowsActions old now whole
 goes_end h = record { is = h.is }
 
 pub all_item : {old now : List Action} {whole : List Action → List Action} (ts : List TypedTerm) (i : ℕ) (t : TypedTerm) → i < length ts → t ≡ get_or ts i t
     → Goes old now (compiled_all (expressions_of (drop i ts))) whole → Goes old now (λ m. compiled (expression t) (compiled_all (expressions_of (drop (i + 1) ts)) m)) whole
 all_item {old} {now} {whole} ts i t lt is h = subst (λ l. Goes old now (compiled_all (expressions_of l)) whole) (drop-item ts i t lt is) h
 
-pub all_end : {old now : List Action} {whole : List Action → List Action} (ts : List TypedTerm) (i : ℕ) → length ts ≤ i → Goes old now (compiled_all (expressions_of (drop i ts))) whole → Follows old now whole
+pub all_end : {old now : List Action} {whole : List Action → List Action} (ts : List TypedTerm) (i : ℕ) → length ts ≤ i → Goes old now (compiled_all (expressions_of (drop i ts))) whole → FollowsActions old now whole
 all_end {old} {now} {whole} ts i le h = goes_end (subst (λ l. Goes old now (compiled_all (expressions_of l)) whole) (drop_all ts i le) h)
 
 pub more_item : {old now : List Action} {whole : List Action → List Action} (ts : List TypedTerm) (i : ℕ) (t : TypedTerm) → i < length ts → t ≡ get_or ts i t
@@ -55,14 +55,14 @@ more_item {old} {now} {whole} ts i t lt is h =
     (subst (λ l. Goes old now (compiled_more (expressions_of l)) whole) (drop-item ts i t lt is) h)
 
 pub more_pushed : {old now mid new : List Action} {whole : List Action → List Action} (ts : List TypedTerm) (i : ℕ) (t : TypedTerm) (u : Expression) (b : Bool) → i < length ts → t ≡ get_or ts i t
-    → u ≡ without_minus (expression t) → b ≡ is_subtracted (expression t) → Goes old now (compiled_more (expressions_of (drop i ts))) whole → Follows now mid (compiled u) → Follows mid new (λ m. add b ∷ m)
+    → u ≡ without_minus (expression t) → b ≡ is_subtracted (expression t) → Goes old now (compiled_more (expressions_of (drop i ts))) whole → FollowsActions now mid (compiled u) → FollowsActions mid new (λ m. add b ∷ m)
     → Goes old new (compiled_more (expressions_of (drop (i + 1) ts))) whole
 more_pushed {old} {now} {mid} {new} {whole} ts i t u b lt is part sign h k l =
     goes_next {f = λ m. add (is_subtracted (expression t)) ∷ m} {g = compiled_more (expressions_of (drop (i + 1) ts))}
     (goes_next {f = compiled (without_minus (expression t))} {g = λ m. add (is_subtracted (expression t)) ∷ compiled_more (expressions_of (drop (i + 1) ts)) m} (more_item ts i t lt is h)
-    (subst (λ z. Follows now mid (compiled z)) part k)) (subst (λ z. Follows mid new (λ m. add z ∷ m)) sign l)
+    (subst (λ z. FollowsActions now mid (compiled z)) part k)) (subst (λ z. FollowsActions mid new (λ m. add z ∷ m)) sign l)
 
-pub more_end : {old now : List Action} {whole : List Action → List Action} (ts : List TypedTerm) (i : ℕ) → length ts ≤ i → Goes old now (compiled_more (expressions_of (drop i ts))) whole → Follows old now whole
+pub more_end : {old now : List Action} {whole : List Action → List Action} (ts : List TypedTerm) (i : ℕ) → length ts ≤ i → Goes old now (compiled_more (expressions_of (drop i ts))) whole → FollowsActions old now whole
 more_end {old} {now} {whole} ts i le h = goes_end (subst (λ l. Goes old now (compiled_more (expressions_of l)) whole) (drop_all ts i le) h)
 
 -- a member is lighter than all of them

@@ -18,7 +18,7 @@ use Rattle.encoding.specs.Encoding.{encoded, all_encoded, signed_relation}
 use Rattle.encoding.specs.Extent.{Extent, above, above_two, beside, nothing, behind_atoms, restricted_extent, in_both, extent, extents, extent_with}
 use Rattle.function_encoding.specs.Actions.{Action, relate, predicate, ran, compiled, compiled_all}
 use Rattle.function_encoding.specs.Ranged.{IsRanged, AreRanged}
-use Rattle.function_encoding.specs.Room.{HasRoom, AreActionsRanged, extent_left}
+use Rattle.function_encoding.specs.Room.{HasNamesLeft, AreActionsRanged, extent_left}
 use Rattle.function_encoding.specs.Stops.{Halts, stopped}
 use Rattle.function_encoding.specs.Weight.{weight, weights, weight_left}
 use Rattle.function_encoding.specs.declared.stop.Stop.{Stop}
@@ -29,30 +29,30 @@ pub formula_as : (at : List ℕ) (n : ℕ) (plus : Bool) (r : Result Core TermFa
 formula_as at n plus r f g e h = subst (λ z. Made form (encoded at n plus z) r) (sym e) h
 
 -- room below a node, and in two cases
-pub room_above : (n : ℕ) (e : Extent) → HasRoom n (above e) → HasRoom (n + 1) e
+pub room_above : (n : ℕ) (e : Extent) → HasNamesLeft n (above e) → HasNamesLeft (n + 1) e
 room_above n e h = omega arith
 
 levels_behind : (k : ℕ) (e : Extent) → e.levels ≤ (behind_atoms k e).levels
 levels_behind zero e = omega arith
 levels_behind (suc k) e = let rest = levels_behind k e in omega (arith, rest)
 
-pub room_bound : (n k : ℕ) (e : Extent) → HasRoom n (above (restricted_extent k e)) → HasRoom (n + 1) e
+pub room_bound : (n k : ℕ) (e : Extent) → HasNamesLeft n (above (restricted_extent k e)) → HasNamesLeft (n + 1) e
 room_bound n zero e h = room_above n e h
 room_bound n (suc k) e h =
     let all = room_above n (above (behind_atoms (suc k) (beside e nothing))) h in
     let le = levels_behind (suc k) (beside e nothing) in
     omega (arith, all, le)
 
-pub room_two : (n : ℕ) (a b : Extent) → HasRoom n (above_two a b) → HasRoom n a × HasRoom n b
+pub room_two : (n : ℕ) (a b : Extent) → HasNamesLeft n (above_two a b) → HasNamesLeft n a × HasNamesLeft n b
 room_two n a b h = (omega arith, omega arith)
 
-pub room_both : (n : ℕ) (c rest : Extent) → HasRoom n (in_both c rest) → HasRoom n c × HasRoom n rest
+pub room_both : (n : ℕ) (c rest : Extent) → HasNamesLeft n (in_both c rest) → HasNamesLeft n c × HasNamesLeft n rest
 room_both n c rest h = room_two n c rest (omega arith)
 
-pub room_under : (n : ℕ) (e : Extent) → HasRoom n (above e) → HasRoom n e
+pub room_under : (n : ℕ) (e : Extent) → HasNamesLeft n (above e) → HasNamesLeft n e
 room_under n e h = omega arith
 
-pub room_beside : (n : ℕ) (a b : Extent) → HasRoom n (beside a b) → HasRoom n a × HasRoom n b
+pub room_beside : (n : ℕ) (a b : Extent) → HasNamesLeft n (beside a b) → HasNamesLeft n a × HasNamesLeft n b
 room_beside n a b h = (omega arith, omega arith)
 
 -- formulas before others
@@ -111,8 +111,8 @@ rest_end at n plus fs i out work le h = rest_none at n plus out work (subst (λ 
 pub item_ranged : (fs : List Typed) (i : ℕ) (f : Typed) → i < length fs → f ≡ get_or fs i f → AreRanged (formulas_of (drop i fs)) → IsRanged (formula f) × AreRanged (formulas_of (drop (i + 1) fs))
 item_ranged fs i f lt is h = let r = subst (λ l. AreRanged (formulas_of l)) (drop-item fs i f lt is) h in (r.0, r.1)
 
-pub item_room : (n : ℕ) (fs : List Typed) (i : ℕ) (f : Typed) → i < length fs → f ≡ get_or fs i f → HasRoom n (extents (formulas_of (drop i fs))) → HasRoom n (extent (formula f)) × HasRoom n (extents (formulas_of (drop (i + 1) fs)))
-item_room n fs i f lt is h = room_beside n (extent (formula f)) (extents (formulas_of (drop (i + 1) fs))) (subst (λ l. HasRoom n (extents (formulas_of l))) (drop-item fs i f lt is) h)
+pub item_room : (n : ℕ) (fs : List Typed) (i : ℕ) (f : Typed) → i < length fs → f ≡ get_or fs i f → HasNamesLeft n (extents (formulas_of (drop i fs))) → HasNamesLeft n (extent (formula f)) × HasNamesLeft n (extents (formulas_of (drop (i + 1) fs)))
+item_room n fs i f lt is h = room_beside n (extent (formula f)) (extents (formulas_of (drop (i + 1) fs))) (subst (λ l. HasNamesLeft n (extents (formulas_of l))) (drop-item fs i f lt is) h)
 
 pub item_weight : (fs : List Typed) (i : ℕ) (f : Typed) (w : ℕ) → i < length fs → f ≡ get_or fs i f → weights (formulas_of (drop i fs)) ≤ w → (weight (formula f) ≤ w) × (weights (formulas_of (drop (i + 1) fs)) ≤ w)
 item_weight fs i f w lt is h =
@@ -120,25 +120,25 @@ item_weight fs i f w lt is h =
     (omega arith, omega arith)
 
 -- the instructions of an atom are ready to be run
-pub relation_ready : (s t : Expression) (q r : Relation) (c : List Action) (n : ℕ) → c ≡ compiled s (compiled t (relate q ∷ [])) → IsRanged (compares r s t) → HasRoom n (extent (compares r s t))
-    → (weight_left c + 2 < weight (compares r s t)) × AreActionsRanged c × HasRoom n (extent_left c)
+pub relation_ready : (s t : Expression) (q r : Relation) (c : List Action) (n : ℕ) → c ≡ compiled s (compiled t (relate q ∷ [])) → IsRanged (compares r s t) → HasNamesLeft n (extent (compares r s t))
+    → (weight_left c + 2 < weight (compares r s t)) × AreActionsRanged c × HasNamesLeft n (extent_left c)
 relation_ready s t q r c n e h k =
     let w = compiled_weight s (compiled t (relate q ∷ [])) in
     let v = compiled_weight t (relate q ∷ []) in
     let x = ap weight_left e in (
       omega arith,
       subst AreActionsRanged (sym e) (compiled_ranged s (compiled t (relate q ∷ [])) (h.0) (compiled_ranged t (relate q ∷ []) (h.1) tt)),
-      subst (HasRoom n) (sym (ap extent_left e ∙ compiled_extent s (compiled t (relate q ∷ [])) ∙ ap (extent_with s) (compiled_extent t (relate q ∷ [])))) k,
+      subst (HasNamesLeft n) (sym (ap extent_left e ∙ compiled_extent s (compiled t (relate q ∷ [])) ∙ ap (extent_with s) (compiled_extent t (relate q ∷ [])))) k,
     )
 
-pub predicate_ready : (ts : Expressions) (plus : Bool) (p : ℕ) (c : List Action) (n : ℕ) → c ≡ compiled_all ts (predicate plus p (size ts) ∷ []) → IsRanged (applies p ts) → HasRoom n (extent (applies p ts))
-    → (weight_left c + 2 < weight (applies p ts)) × AreActionsRanged c × HasRoom n (extent_left c)
+pub predicate_ready : (ts : Expressions) (plus : Bool) (p : ℕ) (c : List Action) (n : ℕ) → c ≡ compiled_all ts (predicate plus p (size ts) ∷ []) → IsRanged (applies p ts) → HasNamesLeft n (extent (applies p ts))
+    → (weight_left c + 2 < weight (applies p ts)) × AreActionsRanged c × HasNamesLeft n (extent_left c)
 predicate_ready ts plus p c n e h k =
     let w = all_weight ts (predicate plus p (size ts) ∷ []) in
     let x = ap weight_left e in (
       omega arith,
       subst AreActionsRanged (sym e) (all_ranged ts (predicate plus p (size ts) ∷ []) h tt),
-      subst (HasRoom n) (sym (ap extent_left e ∙ all_extent ts (predicate plus p (size ts) ∷ []))) k,
+      subst (HasNamesLeft n) (sym (ap extent_left e ∙ all_extent ts (predicate plus p (size ts) ∷ []))) k,
     )
 
 -- and make it

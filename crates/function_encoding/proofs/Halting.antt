@@ -14,7 +14,7 @@ use Rattle.formula.proofs.Making.{made_err, made_memory}
 use Rattle.function_encoding.specs.Actions.{Action, put_number, put_name, negate, multiply, add, apply, choose, take_absolute, take_extreme, relate, predicate, is_simple, acted, ran}
 use Rattle.function_encoding.specs.Instructions.{action_of, actions_of}
 use Rattle.function_encoding.specs.Room.{extent_left, AreActionsRanged}
-use Rattle.function_encoding.specs.Stops.{Halts, Stands}
+use Rattle.function_encoding.specs.Stops.{Halts, IsStopOf}
 use Rattle.function_encoding.specs.Weight.{weight_left}
 use Rattle.function_encoding.specs.declared.instruction.Instruction.{Instruction}
 use Rattle.function_encoding.specs.declared.stop.Stop.{Stop}
@@ -82,7 +82,7 @@ leads_err at c vs a more ws e d h l same m n =
     let k : Made form (next (acted at a ws) (ran at more n)) (Err d) = made_err (λ xs. reverse xs) form (acted at a ws) (ran at more n) (Err d) same m in
     record { works = l.works n (Err (step_fault_of d)) (subst (λ z. Worked z (Err (step_fault_of d))) (sym (simple_ran a at more n ws h)) k.works) }
 
-pub leads_stop : (at : List ℕ) (c : List Action) (vs : List Linear) (a : Action) (more : List Action) (ws : List Linear) (s : Stop) → Leads at c vs (a ∷ more) ws → Stands a ws s → Halts at c vs s more
+pub leads_stop : (at : List ℕ) (c : List Action) (vs : List Linear) (a : Action) (more : List Action) (ws : List Linear) (s : Stop) → Leads at c vs (a ∷ more) ws → IsStopOf a ws s → Halts at c vs s more
 leads_stop at c vs a more ws s l st = record {
   works = λ n r w. l.works n r (subst (λ z. Worked z r) (st.is at n more) w);
   extent = st.extent more ∙ l.extent;

@@ -12,7 +12,7 @@ use Rattle.formula.specs.Form.{Form, Forms, forms}
 use Rattle.formula.specs.Tree.{form}
 use Rattle.formula.specs.Made.{Made}
 use Rattle.formula.proofs.Making.{made_just, left_made, left_err, left_done}
-use Rattle.encoding.specs.Encoding.{Bound, bounds, limits}
+use Rattle.encoding.specs.Encoding.{SortBound, bounds, limits}
 use Rattle.encoding.specs.Extent.{Extent, beside, leaf, nothing, above, behind_atoms, restricted_extent, measured, all_measured}
 use Rattle.encoding.specs.Root.{conditions}
 use Rattle.encoding.proofs.Bounding.{measured-limits}
@@ -177,7 +177,7 @@ conditions_measured kept x (s ∷ ss) gs a p =
     ∙ sym (behind-sum (cond (kept x) (length (bounds s)) 0) (kept_bounds kept (suc x) ss) a)
 
 -- how many conditions there are
-limits_many : (x : ℕ) (bs : List Bound) → length (limits false x bs).value ≡ length bs
+limits_many : (x : ℕ) (bs : List SortBound) → length (limits false x bs).value ≡ length bs
 unfolding next just
 limits_many x [] = refl
 limits_many x (b ∷ bs) = ap suc (limits_many x bs)

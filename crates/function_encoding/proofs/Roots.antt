@@ -26,7 +26,7 @@ use Rattle.encoding.proofs.Problems.{holds_is, pure_is, root_over}
 use Rattle.function_encoding.specs.Encoded.{Encodes}
 use Rattle.function_encoding.specs.Ranged.{IsRanged, AreRanged, IsTermRanged, AreTermsRanged}
 use Rattle.function_encoding.specs.Refusals.{refusal_of}
-use Rattle.function_encoding.specs.Room.{HasRoom}
+use Rattle.function_encoding.specs.Room.{HasNamesLeft}
 use Rattle.function_encoding.specs.declared.answer.EncodeRefusal.{EncodeRefusal}
 use Rattle.function_encoding.proofs.Limits.{problem_extent, restricted_levels, types_levels}
 
@@ -72,13 +72,13 @@ not_deep : (d : ℕ) → nat_lt 2000 d ≡ false → d ≤ 2000
 not_deep d h = grind (arith, common_steps)
 
 -- what is not too large leaves room for all its names
-pub small_room : (n : ℕ) (f : Form) (e : Extent) → n ≤ 1000 → is_large f ≡ false → e.levels ≤ (measured f).levels → HasRoom n e
+pub small_room : (n : ℕ) (f : Form) (e : Extent) → n ≤ 1000 → is_large f ≡ false → e.levels ≤ (measured f).levels → HasNamesLeft n e
 small_room n f e few small le = let d = not_deep (depth f) (neither (nat_lt 1000000 (size f)) (nat_lt 2000 (depth f)) small) in omega arith
 
 few_names : (n l : ℕ) → n ≤ 1000 → l ≤ 2000 → n + l < 2 ^ 32
 few_names n l p q = omega arith
 
-pub problem_room : (p : Problem) → constants p ≤ 1000 → is_large (problem_root p).value ≡ false → HasRoom (constants p) (extent (formula p.formula))
+pub problem_room : (p : Problem) → constants p ≤ 1000 → is_large (problem_root p).value ≡ false → HasNamesLeft (constants p) (extent (formula p.formula))
 problem_room p few small =
     let f = (problem_root p).value in
     let e = extent (formula p.formula) in

@@ -2,12 +2,12 @@
 use Rattle.std.specs.Prelude.{ℕ, zero, suc, ℤ, ◌+◌, Bool, true, false, cond, List, [], ◌∷◌, length}
 use Rattle.typed_formula.specs.declared.typed.Sort.{Sort}
 use Rattle.encoding.specs.Encoding as encoding
-use Rattle.encoding.specs.Encoding.{Bound, bounds}
+use Rattle.encoding.specs.Encoding.{SortBound, bounds}
 use Rattle.encoding.specs.Extent.{Extent, above, beside, extent, restricted_extent}
 use Rattle.typed_formula.specs.Formula.{Formulas, no_formula, and_formula}
 
 -- n as the greatest value of a type, or else as the least
-abbrev pub bound_of : Bool → ℤ → Bound
+abbrev pub bound_of : Bool → ℤ → SortBound
 bound_of greatest n = cond greatest (encoding.greatest n) (encoding.least n)
 
 -- how many conditions those of the names from x on have that are kept

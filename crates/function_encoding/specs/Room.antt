@@ -7,8 +7,8 @@ use Rattle.function_encoding.specs.Actions.{Action, put_number, apply, choose, t
 use Rattle.function_encoding.specs.Ranged.{IsRanged}
 
 -- where n names are bound, there are numbers left for those that an encoding of this extent binds
-abbrev pub HasRoom : ℕ → extents.Extent → Type 0
-HasRoom n e = n + e.levels < 2 ^ 32
+abbrev pub HasNamesLeft : ℕ → extents.Extent → Type 0
+HasNamesLeft n e = n + e.levels < 2 ^ 32
 
 -- how large the formula is that a list of actions makes
 abbrev pub extent_left : List Action → extents.Extent

@@ -62,7 +62,7 @@ stop_weight (stop.Cases b first turned second) w = test_weight b + w + 2
 stop_weight _ w = 0
 
 -- the stop is what this action is over this stack
-pub record Stands (a : Action) (vs : List Linear) (s : Stop) : Type 0 where
+pub record IsStopOf (a : Action) (vs : List Linear) (s : Stop) : Type 0 where
   pub is : (at : List ℕ) (n : ℕ) (c : List Action) → stopped at n c s ≡ ran at (a ∷ c) n vs
   pub extent : (c : List Action) → stop_extent s (extent_left c) ≡ extent_left (a ∷ c)
   pub ranged : (c : List Action) → AreActionsRanged (a ∷ c) → IsStopRanged s × AreActionsRanged c

@@ -1,5 +1,6 @@
 // The conditions of several names.
 
+ghost use Rattle.limits.specs.Limits.{most_constants};
 ghost use Rattle.std.specs.Prelude.{◌≡◌, ◌||◌, ◌+◌, ◌<◌, ◌≤◌, ◌^◌, false, ◌++◌, [], cond, length, map, All};
 ghost use Rattle.purse.specs.Trace.{just, next};
 ghost use Rattle.typed_formula.specs.Sorts.{IsSortRanged};
@@ -64,7 +65,7 @@ pub fn conditions(
     sorts: &[Sort],
     out: Items<Core>,
 ) -> Result<Items<Core>, TermFault>
-    requires few { first + length sorts.now ≤ 1000 }
+    requires few { first + length sorts.now ≤ most_constants }
     requires ranged { All IsSortRanged sorts.now }
     ensures { Made (λ hs. map form hs) (next (roots.conditions (λ x. all || marking.is_marked marks.now x) first sorts.now) (λ hs. just (map form out ++ hs))) result }
 {

@@ -12,7 +12,7 @@ ghost use Rattle.encoding.specs.Extent.{above, above_two, extent, extents, in_bo
 ghost use Rattle.function_encoding.specs.Actions.{behind, parted, ran};
 ghost use Rattle.function_encoding.specs.Instructions.{actions_of};
 ghost use Rattle.function_encoding.specs.Ranged.{AreRanged, IsRanged};
-ghost use Rattle.function_encoding.specs.Room.{AreActionsRanged, HasRoom, extent_left};
+ghost use Rattle.function_encoding.specs.Room.{AreActionsRanged, HasNamesLeft, extent_left};
 ghost use Rattle.function_encoding.specs.Stops as stops;
 ghost use Rattle.function_encoding.specs.Stops.{IsTestRanged, test_extent};
 
@@ -37,7 +37,7 @@ use typed_formula::Sort;
 #[cycle(encode)]
 pub fn encoded(alloc: Global, at: &[u32], n: u32, plus: bool, f: &Typed) -> Result<Core, TermFault>
     requires ranged { IsRanged (formula f.now) }
-    requires room { HasRoom n (extent (formula f.now)) }
+    requires room { HasNamesLeft n (extent (formula f.now)) }
     ensures { Made form (encoding.encoded at.now n plus (formula f.now)) result }
 {
     match f {
@@ -70,7 +70,7 @@ fn all_encoded(
     formulas: &[Typed],
 ) -> Result<Items<Core>, TermFault>
     requires ranged { AreRanged (formulas_of formulas.now) }
-    requires room { HasRoom n (extents (formulas_of formulas.now)) }
+    requires room { HasNamesLeft n (extents (formulas_of formulas.now)) }
     ensures { Made (λ gs. forms_of gs) (encoding.all_encoded at.now n plus (formulas_of formulas.now)) result }
 {
     let mut out = Items::new(alloc);
@@ -90,7 +90,7 @@ fn implied(
     h: &Typed,
 ) -> Result<Core, TermFault>
     requires ranged { IsRanged (implies (formula g.now) (formula h.now)) }
-    requires room { HasRoom n (extent (implies (formula g.now) (formula h.now))) }
+    requires room { HasNamesLeft n (extent (implies (formula g.now) (formula h.now))) }
     ensures { Made form (encoding.encoded at.now n plus (implies (formula g.now) (formula h.now))) result }
 {
     let first = encoded(alloc, &*at, n, !plus, &*g)?;
@@ -108,7 +108,7 @@ fn equivalent(
     h: &Typed,
 ) -> Result<Core, TermFault>
     requires ranged { IsRanged (iff (formula g.now) (formula h.now)) }
-    requires room { HasRoom n (extent (iff (formula g.now) (formula h.now))) }
+    requires room { HasNamesLeft n (extent (iff (formula g.now) (formula h.now))) }
     ensures { Made form (encoding.encoded at.now n plus (iff (formula g.now) (formula h.now))) result }
 {
     let first = encoded(alloc, &*at, n, !plus, &*g)?;
@@ -131,7 +131,7 @@ fn bound(
 ) -> Result<Core, TermFault>
     requires bounds { IsSortRanged sort.now }
     requires ranged { IsRanged (formula g.now) }
-    requires room { HasRoom n (above (restricted_extent (length (encoding.bounds sort.now)) (extent (formula g.now)))) }
+    requires room { HasNamesLeft n (above (restricted_extent (length (encoding.bounds sort.now)) (extent (formula g.now)))) }
     ensures { Made form (encoding.bound_by for_all n sort.now (encoding.encoded (at.now ++ n ∷ []) (suc n) plus (formula g.now))) result }
 {
     let names = with_name(alloc, at, n)?;
@@ -149,7 +149,7 @@ fn run(
     stack: Items<Term>,
 ) -> Result<Core, TermFault>
     requires ranged { AreActionsRanged (actions_of code.now) }
-    requires room { HasRoom n (extent_left (actions_of code.now)) }
+    requires room { HasNamesLeft n (extent_left (actions_of code.now)) }
     ensures { Made form (ran at.now (actions_of code.now) n (reverse stack)) result }
 {
     let Halt { stop, rest } = halt(alloc, &*at, &*code, stack)?;
@@ -176,7 +176,7 @@ fn graph(
     code: &[Instruction],
 ) -> Result<Core, TermFault>
     requires ranged { AreActionsRanged (actions_of code.now) }
-    requires room { HasRoom n (above (above_two leaf (extent_left (actions_of code.now)))) }
+    requires room { HasNamesLeft n (above (above_two leaf (extent_left (actions_of code.now)))) }
     ensures { Made form (next (ran at.now (actions_of code.now) (suc n) (linear.name n ∷ reverse stack)) (λ g. just (behind function terms n g))) result }
 {
     let stack = with_last(stack, Term::name(alloc, n))?;
@@ -198,7 +198,7 @@ fn cases(
 ) -> Result<Core, TermFault>
     requires test { IsTestRanged test.now }
     requires ranged { AreActionsRanged (actions_of code.now) }
-    requires room { HasRoom n (in_both (test_extent test.now) (extent_left (actions_of code.now))) }
+    requires room { HasNamesLeft n (in_both (test_extent test.now) (extent_left (actions_of code.now))) }
     ensures { Made form (parted (stops.tested at.now n test.now) (reverse first) negate (reverse second) (ran at.now (actions_of code.now) n)) result }
 {
     let when = tested(alloc, &*at, n, true, &*test)?;
@@ -213,7 +213,7 @@ fn cases(
 #[cycle(encode)]
 fn tested(alloc: Global, at: &[u32], n: u32, plus: bool, test: &Test) -> Result<Core, TermFault>
     requires ranged { IsTestRanged test.now }
-    requires room { HasRoom n (test_extent test.now) }
+    requires room { HasNamesLeft n (test_extent test.now) }
     ensures { Made form (stops.tested at.now n test.now plus) result }
 {
     match test {

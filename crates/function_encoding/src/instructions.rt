@@ -4,7 +4,7 @@ ghost use Rattle.std.specs.Prelude.{◌≡◌, ◌∷◌, [], IfOk, OnOk};
 ghost use Rattle.typed_formula.specs.Formula.{expression, expressions_of};
 ghost use Rattle.pri_typing.specs.WellFormed.{size};
 ghost use Rattle.function_encoding.specs.Actions.{compiled, compiled_all, compiled_sum, predicate, relate};
-ghost use Rattle.function_encoding.specs.Instructions.{Follows, action_of, actions_of};
+ghost use Rattle.function_encoding.specs.Instructions.{FollowsActions, action_of, actions_of};
 
 use crate::instruction::Instruction;
 use crate::plain::{is_numeric, is_subtracted, without_minus};
@@ -15,7 +15,7 @@ use std::alloc::Global;
 
 /// One more instruction.
 fn put<'a>(code: &mut Items<Instruction<'a>>, instruction: Instruction<'a>) -> Result<(), Memory>
-    ensures { OnOk result (Follows (actions_of code.old) (actions_of code.new) (λ more. action_of instruction.entry ∷ more)) }
+    ensures { OnOk result (FollowsActions (actions_of code.old) (actions_of code.new) (λ more. action_of instruction.entry ∷ more)) }
 {
     Ok(code.push(instruction)?)
 }
@@ -23,7 +23,7 @@ fn put<'a>(code: &mut Items<Instruction<'a>>, instruction: Instruction<'a>) -> R
 /// The instructions that finish the term, behind others.
 #[cycle(compile)]
 fn compile<'a>(term: &'a TypedTerm, code: &mut Items<Instruction<'a>>) -> Result<(), Memory>
-    ensures { OnOk result (Follows (actions_of code.old) (actions_of code.new) (compiled (expression term.now))) }
+    ensures { OnOk result (FollowsActions (actions_of code.old) (actions_of code.new) (compiled (expression term.now))) }
 {
     match term {
         TypedTerm::Number(v) => put(code, Instruction::Number(*v)),
@@ -66,7 +66,7 @@ fn compile<'a>(term: &'a TypedTerm, code: &mut Items<Instruction<'a>>) -> Result
 
 #[cycle(compile)]
 fn compile_all<'a>(terms: &'a [TypedTerm], code: &mut Items<Instruction<'a>>) -> Result<(), Memory>
-    ensures { OnOk result (Follows (actions_of code.old) (actions_of code.new) (compiled_all (expressions_of terms.now))) }
+    ensures { OnOk result (FollowsActions (actions_of code.old) (actions_of code.new) (compiled_all (expressions_of terms.now))) }
 {
     for t in terms {
         compile(t, code)?;
@@ -76,7 +76,7 @@ fn compile_all<'a>(terms: &'a [TypedTerm], code: &mut Items<Instruction<'a>>) ->
 
 #[cycle(compile)]
 fn compile_sum<'a>(terms: &'a [TypedTerm], code: &mut Items<Instruction<'a>>) -> Result<(), Memory>
-    ensures { OnOk result (Follows (actions_of code.old) (actions_of code.new) (compiled_sum (expressions_of terms.now))) }
+    ensures { OnOk result (FollowsActions (actions_of code.old) (actions_of code.new) (compiled_sum (expressions_of terms.now))) }
 {
     let Some((first, others)) = terms.split_first() else {
         return put(code, Instruction::Number(0));

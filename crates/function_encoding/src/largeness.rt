@@ -1,5 +1,6 @@
 // Whether an encoding is too large to be built.
 
+ghost use Rattle.limits.specs.Limits.{most_levels, most_nodes};
 ghost use Rattle.std.specs.Prelude.{◌≡◌, ◌||◌, nat_lt, true, false, length, drop};
 ghost use Rattle.std.specs.List.{list_any};
 ghost use Rattle.typed_formula.specs.Formula.{formula};
@@ -11,14 +12,9 @@ ghost use Rattle.function_encoding.specs.Counted.{counted};
 
 use crate::conditions::behind_conditions;
 use crate::counting::{Extent, NOTHING, above, beside, extent_of, restricted};
+use limits::{MOST_LEVELS, MOST_NODES};
 use pri_typing::Problem;
 use typed_formula::Sort;
-
-/// The most nodes of an encoding.
-const MOST_NODES: u64 = 1_000_000;
-
-/// The most levels of an encoding.
-const MOST_LEVELS: u64 = 2_000;
 
 /// Whether the encoded problem has more than 1,000,000 nodes or a depth above 2,000. It is counted in one pass over the
 /// problem's formula and its types, without building it and without memory.
@@ -77,7 +73,7 @@ fn with_conditions(sorts: &[Sort], e: Extent) -> Extent
 
 /// Whether nodes or levels pass their limit.
 pub fn exceeds(e: Extent) -> bool
-    ensures { result ≡ (nat_lt 1000000 e.nodes || nat_lt 2000 e.levels) }
+    ensures { result ≡ (nat_lt most_nodes e.nodes || nat_lt most_levels e.levels) }
 {
     MOST_NODES < e.nodes || MOST_LEVELS < e.levels
 }

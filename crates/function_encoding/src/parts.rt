@@ -22,7 +22,7 @@ ghost use Rattle.function_encoding.specs.Marks.{AreMarks, is_marked};
 ghost use Rattle.function_encoding.specs.Counted.{counted};
 ghost use Rattle.function_encoding.specs.Encoded.{Encodes, all_assumed, all_signed};
 ghost use Rattle.function_encoding.specs.Ranged.{AreRanged};
-ghost use Rattle.function_encoding.specs.Room.{HasRoom};
+ghost use Rattle.function_encoding.specs.Room.{HasNamesLeft};
 
 use crate::answer::EncodeRefusal;
 use crate::building::junction;
@@ -131,7 +131,7 @@ fn members(
     components: &[Component],
 ) -> Result<Items<Core>, TermFault>
     requires ranged { AreRanged (all_assumed components.now) }
-    requires room { HasRoom n (extents.extents (all_assumed components.now)) }
+    requires room { HasNamesLeft n (extents.extents (all_assumed components.now)) }
     ensures { Made (λ gs. forms_of gs) (encoding.all_encoded at.now n true (all_assumed components.now)) result }
 {
     let mut out = Items::new(alloc);

@@ -1,5 +1,6 @@
 // The encoding of a problem, and of what parts of it assume.
 
+ghost use Rattle.limits.specs.Limits.{most_constants};
 ghost use Rattle.std.specs.Prelude.{◌≡◌, ◌↔◌, ◌<◌, ◌≤◌, ◌^◌, ◌+◌, false, ℤ, IfOk, IsTrue, List, length, map, All, Ok};
 ghost use Rattle.std.specs.List.{filter};
 ghost use Rattle.typed_formula.specs.Formula.{every, formula, formulas};
@@ -19,7 +20,7 @@ ghost use Rattle.encoding.specs.Root as root_of_problem;
 ghost use Rattle.function_encoding.specs.Counted.{counted};
 ghost use Rattle.function_encoding.specs.Encoded.{Encodes, all_signed, root_of};
 ghost use Rattle.function_encoding.specs.Ranged.{AreRanged, IsRanged};
-ghost use Rattle.function_encoding.specs.Room.{HasRoom};
+ghost use Rattle.function_encoding.specs.Room.{HasNamesLeft};
 
 use crate::answer::{EncodeRefusal, Encoded};
 use crate::bounds::{bind, restricted};
@@ -88,7 +89,7 @@ fn body(alloc: Global, p: &Problem) -> Result<Core, TermFault>
 
 /// The formula for all values of these types of the names from `first` on, whatever work made it.
 fn for_last(alloc: Global, first: u32, sorts: &[Sort], f: Core) -> Result<Core, TermFault>
-    requires few { first + length sorts.now ≤ 1000 }
+    requires few { first + length sorts.now ≤ most_constants }
     requires ranged { All IsSortRanged sorts.now }
     ensures { (work : Traced Form) → Made form work (Ok f) → Made form (root_of_problem.for_last first sorts.now work) result }
 {

@@ -8,7 +8,7 @@ ghost use Rattle.function_encoding.specs.Actions as stacks;
 ghost use Rattle.function_encoding.specs.Actions.{ran, take_absolute, take_extreme};
 ghost use Rattle.function_encoding.specs.Instructions.{action_of, actions_of};
 ghost use Rattle.function_encoding.specs.Room.{AreActionsRanged};
-ghost use Rattle.function_encoding.specs.Stops.{Halts, Stands};
+ghost use Rattle.function_encoding.specs.Stops.{Halts, IsStopOf};
 
 use crate::actions::{acted, is_simple, negated};
 use crate::instruction::Instruction;
@@ -31,7 +31,7 @@ pub fn turned(alloc: Global, negate: bool, stack: Items<Term>) -> Result<Items<T
 
 /// Cases of whether the last term is at least 0.
 fn absolute<'a>(alloc: Global, stack: Items<Term>) -> Result<Stop<'a>, Memory>
-    ensures { IfOk result (λ s. Stands take_absolute (reverse stack) s) }
+    ensures { IfOk result (λ s. IsStopOf take_absolute (reverse stack) s) }
 {
     let other = copied(alloc, stack.as_slice())?;
     let last = last_of(alloc, stack.as_slice())?;
@@ -41,7 +41,7 @@ fn absolute<'a>(alloc: Global, stack: Items<Term>) -> Result<Stop<'a>, Memory>
 
 /// Cases of whether the last term but one stands in the relation to the last.
 fn extreme<'a>(alloc: Global, relation: Relation, stack: Items<Term>) -> Result<Stop<'a>, Memory>
-    ensures { IfOk result (λ s. Stands (take_extreme relation) (reverse stack) s) }
+    ensures { IfOk result (λ s. IsStopOf (take_extreme relation) (reverse stack) s) }
 {
     let (first, second) = two_ways(alloc, stack)?;
     let left = last_of(alloc, first.as_slice())?;
@@ -56,7 +56,7 @@ fn stop<'a>(
     stack: Items<Term>,
 ) -> Result<Stop<'a>, Memory>
     requires { stacks.is_simple (action_of instruction.now) ≡ false }
-    ensures { IfOk result (λ s. Stands (action_of instruction.now) (reverse stack) s) }
+    ensures { IfOk result (λ s. IsStopOf (action_of instruction.now) (reverse stack) s) }
 {
     match instruction {
         Instruction::Call(f, k) => {

@@ -8,7 +8,7 @@ use Rattle.typed_formula.specs.Lists.{sum_of}
 use Rattle.typed_formula.specs.Truth.{Meaning, Truth, AreAllTrue, AreAllFalse, HasValue, HaveValues, IsRelated}
 use Rattle.pri_typing.specs.Everywhere.{Property, Everywhere, AllEverywhere, TermEverywhere, TermsEverywhere}
 use Rattle.pri_typing.specs.WellFormed.{of_terms}
-use Rattle.interpolant.specs.Sides.{IsOtherName, Lacks}
+use Rattle.interpolant.specs.Sides.{IsOtherName, LacksName}
 
 abbrev other : ℕ → Property
 other x = of_terms (IsOtherName x)
@@ -93,6 +93,6 @@ mutual
       (λ y. alike_values u x w n ts e d a h.1 (λ ys. P (y ∷ ys)) (λ ys. Q (y ∷ ys)) (λ ys. m (y ∷ ys))) k
 
 -- a formula that lacks x stays true whatever x becomes
-pub put_alike : (x : ℕ) (w : Meaning) (f : Formula) (e : List ℤ) (v : ℤ) → x < length e → Lacks x f → Truth w f e → Truth w f (put e x v)
+pub put_alike : (x : ℕ) (w : Meaning) (f : Formula) (e : List ℤ) (v : ℤ) → x < length e → LacksName x f → Truth w f e → Truth w f (put e x v)
 put_alike x w f e v lt h t =
     alike (tt {1}) x w 0 f e (put e x v) (record { long = sym (length-put e x v lt); same = λ y n. sym (entry-put_other e x y v n) }) h t

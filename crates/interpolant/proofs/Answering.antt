@@ -17,8 +17,8 @@ use Rattle.formula.specs.Form.{Form, is_pure}
 use Rattle.formula.specs.Reduced.{HasReducedTerms}
 use Rattle.formula.specs.Sizes.{depth, size}
 use Rattle.formula.specs.Tree.{form}
-use Rattle.elim_rules.specs.Presburger.{IsPresburger}
-use Rattle.elim_rules.proofs.Reduced.{presburger_of}
+use Rattle.elim_laws.specs.Presburger.{IsPresburger}
+use Rattle.elim_laws.proofs.Reduced.{presburger_of}
 use Rattle.encoding.specs.Problems.{constants, is_large, parts_root}
 use Rattle.function_encoding.specs.declared.answer.EncodeRefusal.{EncodeRefusal}
 use Rattle.function_encoding.specs.declared.answer.EncodeRefusal.TheVariants.{Memory as NoMemory}
@@ -29,10 +29,10 @@ use Rattle.interpolant.specs.declared.fault.InterpolantFault.{InterpolantFault}
 use Rattle.interpolant.specs.declared.fault.InterpolantFault.TheVariants.{Elim, Encode}
 use Rattle.encoding.specs.Occurrences.{occurs}
 use Rattle.function_encoding.specs.Marks.{AreMarks, is_marked}
-use Rattle.interpolant.specs.Run.{Eliminates, Interpolates, interpolating, projecting}
+use Rattle.interpolant.specs.Run.{DoesElimination, AnswersInterpolant, interpolating, projecting}
 use Rattle.cut_sides.specs.Between.{IsStrongest}
 use Rattle.cut_sides.specs.Sides.{cut_of}
-use Rattle.interpolant.specs.Sides.{IsBetween}
+use Rattle.interpolant.specs.Sides.{IsInterpolant}
 use Rattle.interpolant.proofs.Applications.{assumed_pure}
 use Rattle.interpolant.proofs.Projected.{projecting-same}
 use Rattle.interpolant.proofs.Standing.{between_is, encodable, strongest_is}
@@ -57,32 +57,32 @@ marks_room p k f formed is small =
 
 -- ---- two sets of parts
 as_run : (p : Problem) (first second : List ℕ) (f : Core) (marks : List Bool) {old new : Funds} {r : Result (List (List Literal)) ElimFault} → Encodes (parts_root p first) (Ok f) → AreMarks (constants p) (assumed_by p second) marks
-    → Eliminates (projecting (is_marked marks) (length marks) (form f)) old r new → Eliminates (interpolating p first second) old r new
+    → DoesElimination (projecting (is_marked marks) (length marks) (form f)) old r new → DoesElimination (interpolating p first second) old r new
 unfolding interpolating
 as_run p first second f marks {old} {new} {r} e m h =
     let stays : ℕ → Bool = λ x. occurs x (assumed_by p second) in
-    subst (λ w. Eliminates w old r new)
+    subst (λ w. DoesElimination w old r new)
     (ap (λ k. projecting (is_marked marks) k (form f)) m.many ∙ projecting-same (is_marked marks) stays (constants p) (form f) m.exact ∙ ap (λ g. projecting stays (constants p) g) (made_value e.1)) h
 
 pub not_encoded : (p : Problem) (first second : List ℕ) (old : Funds) (refusal : EncodeRefusal) (r : Result Interpolant InterpolantFault) → IsErrAnd r (λ x. x ≡ Encode refusal) → Encodes (parts_root p first) (Err refusal)
-    → Interpolates p first second old r old
+    → AnswersInterpolant p first second old r old
 not_encoded p first second old refusal (Ok i) is h = absurd is
-not_encoded p first second old refusal (Err x) is h = subst (λ z. Interpolates p first second old (Err z) old) (sym is) (h, refl)
+not_encoded p first second old refusal (Err x) is h = subst (λ z. AnswersInterpolant p first second old (Err z) old) (sym is) (h, refl)
 
 not_eliminated : (p : Problem) (first second : List ℕ) (f : Core) (old new : Funds) (fault : ElimFault) (r : Result Interpolant InterpolantFault) → IsErrAnd r (λ x. x ≡ Elim fault) → Encodes (parts_root p first) (Ok f)
-    → Eliminates (interpolating p first second) old (Err fault) new → Interpolates p first second old r new
+    → DoesElimination (interpolating p first second) old (Err fault) new → AnswersInterpolant p first second old r new
 not_eliminated p first second f old new fault (Ok i) is e h = absurd is
-not_eliminated p first second f old new fault (Err x) is e h = subst (λ z. Interpolates p first second old (Err z) new) (sym is) (encodable (parts_root p first) f e, h)
+not_eliminated p first second f old new fault (Err x) is e h = subst (λ z. AnswersInterpolant p first second old (Err z) new) (sym is) (encodable (parts_root p first) f e, h)
 
-pub no_memory_left : (p : Problem) (first second : List ℕ) (f : Core) (old : Funds) (r : Result Interpolant InterpolantFault) → IsErrAnd r (λ x. x ≡ Elim Memory) → Encodes (parts_root p first) (Ok f) → Interpolates p first second old r old
+pub no_memory_left : (p : Problem) (first second : List ℕ) (f : Core) (old : Funds) (r : Result Interpolant InterpolantFault) → IsErrAnd r (λ x. x ≡ Elim Memory) → Encodes (parts_root p first) (Ok f) → AnswersInterpolant p first second old r old
 no_memory_left p first second f old r is e = not_eliminated p first second f old old Memory r is e (elim_memory (interpolating p first second) old)
 
 pub cut_short : (p : Problem) (first second : List ℕ) (f : Core) (marks : List Bool) (old new : Funds) (fault : ElimFault) (r : Result Interpolant InterpolantFault) → IsErrAnd r (λ x. x ≡ Elim fault) → Encodes (parts_root p first) (Ok f)
-    → AreMarks (constants p) (assumed_by p second) marks → Eliminates (projecting (is_marked marks) (length marks) (form f)) old (Err fault) new → Interpolates p first second old r new
+    → AreMarks (constants p) (assumed_by p second) marks → DoesElimination (projecting (is_marked marks) (length marks) (form f)) old (Err fault) new → AnswersInterpolant p first second old r new
 cut_short p first second f marks old new fault r is e m h = not_eliminated p first second f old new fault r is e (as_run p first second f marks e m h)
 
 pub run_done : (p : Problem) (first second : List ℕ) (f : Core) (marks : List Bool) (d : List (List Literal)) {old new : Funds} → Encodes (parts_root p first) (Ok f)
-    → AreMarks (constants p) (assumed_by p second) marks → Eliminates (projecting (is_marked marks) (length marks) (form f)) old (Ok d) new → Interpolates p first second old (Ok (record { formula = d })) new
+    → AreMarks (constants p) (assumed_by p second) marks → DoesElimination (projecting (is_marked marks) (length marks) (form f)) old (Ok d) new → AnswersInterpolant p first second old (Ok (record { formula = d })) new
 run_done p first second f marks d e m h = (encodable (parts_root p first) f e, as_run p first second f marks e m h)
 
 presburger : (p : Problem) (first : List ℕ) (f : Core) → IsWithoutApplication (assumed_by p first) → HasReducedTerms (form f) → Encodes (parts_root p first) (Ok f) → IsPresburger (parts_root p first).value
@@ -91,13 +91,13 @@ presburger p first f plain reduced e =
     subst IsPresburger is (presburger_of (form f) (subst (λ z. is_pure z ≡ true) (sym is) (assumed_pure p first plain)) reduced)
 
 pub between_done : (p : Problem) (first second : List ℕ) (f : Core) (marks : List Bool) (d : List (List Literal)) {old new : Funds} → IsWellFormed p → IsWithoutApplication (assumed_by p first) → HasReducedTerms (form f)
-    → Encodes (parts_root p first) (Ok f) → AreMarks (constants p) (assumed_by p second) marks → Eliminates (projecting (is_marked marks) (length marks) (form f)) old (Ok d) new
-    → (w : Meaning) → IsBetween w p (assumed_by p first) (assumed_by p second) d
+    → Encodes (parts_root p first) (Ok f) → AreMarks (constants p) (assumed_by p second) marks → DoesElimination (projecting (is_marked marks) (length marks) (form f)) old (Ok d) new
+    → (w : Meaning) → IsInterpolant w p (assumed_by p first) (assumed_by p second) d
 between_done p first second f marks d formed plain reduced e m h =
     between_is p first second formed (presburger p first f plain reduced e) d (elim_value (as_run p first second f marks e m h))
 
 pub strongest_done : (p : Problem) (first second : List ℕ) (f : Core) (marks : List Bool) (d : List (List Literal)) {old new : Funds} → IsWellFormed p → IsWithoutApplication (assumed_by p first) → HasReducedTerms (form f)
-    → Encodes (parts_root p first) (Ok f) → AreMarks (constants p) (assumed_by p second) marks → Eliminates (projecting (is_marked marks) (length marks) (form f)) old (Ok d) new
+    → Encodes (parts_root p first) (Ok f) → AreMarks (constants p) (assumed_by p second) marks → DoesElimination (projecting (is_marked marks) (length marks) (form f)) old (Ok d) new
     → (w : Meaning) → IsStrongest w p (assumed_by p first) (assumed_by p second) (λ e. dnf_truth d e ≡ true)
 strongest_done p first second f marks d formed plain reduced e m h =
     strongest_is p first second formed (presburger p first f plain reduced e) d (elim_value (as_run p first second f marks e m h))
@@ -107,16 +107,16 @@ pub slice_marks : (n : ℕ) (p : Problem) (set : List ℕ) (items slice : List B
 slice_marks n p set items slice is m = subst (AreMarks n (assumed_by p set)) (sym is) m
 
 -- ---- a cut
-pub not_together : (p : Problem) (first second : List ℕ) (old : Funds) (refusal : EncodeRefusal) (r : Result Interpolant InterpolantFault) → IsErrAnd r (λ x. x ≡ Encode refusal) → refusal ≡ NoMemory → Interpolates p first second old r old
+pub not_together : (p : Problem) (first second : List ℕ) (old : Funds) (refusal : EncodeRefusal) (r : Result Interpolant InterpolantFault) → IsErrAnd r (λ x. x ≡ Encode refusal) → refusal ≡ NoMemory → AnswersInterpolant p first second old r old
 not_together p first second old refusal r is memory = not_encoded p first second old refusal r is (subst (λ z. Encodes (parts_root p first) (Err z)) (sym memory) tt)
 
 -- the calls for the same sets
-pub of_sets : (p : Problem) (first second a b : List ℕ) (old new : Funds) (r : Result Interpolant InterpolantFault) → first ≡ a → second ≡ b → Interpolates p first second old r new → Interpolates p a b old r new
-of_sets p first second a b old new r is same h = subst (λ z. Interpolates p z b old r new) is (subst (λ z. Interpolates p first z old r new) same h)
+pub of_sets : (p : Problem) (first second a b : List ℕ) (old new : Funds) (r : Result Interpolant InterpolantFault) → first ≡ a → second ≡ b → AnswersInterpolant p first second old r new → AnswersInterpolant p a b old r new
+of_sets p first second a b old new r is same h = subst (λ z. AnswersInterpolant p z b old r new) is (subst (λ z. AnswersInterpolant p first z old r new) same h)
 
 -- what is said of the interpolant of two sets
 abbrev pub Stand : Problem → Result Interpolant InterpolantFault → List ℕ → List ℕ → Type 0
-Stand p r first second = IfOk r (λ i. (w : Meaning) → IsBetween w p (assumed_by p first) (assumed_by p second) i.formula)
+Stand p r first second = IfOk r (λ i. (w : Meaning) → IsInterpolant w p (assumed_by p first) (assumed_by p second) i.formula)
 
 abbrev pub AreStrongest : Problem → Result Interpolant InterpolantFault → List ℕ → List ℕ → Type 0
 AreStrongest p r first second = IfOk r (λ i. (w : Meaning) → IsStrongest w p (assumed_by p first) (assumed_by p second) (λ e. dnf_truth i.formula e ≡ true))

@@ -15,10 +15,10 @@ use Rattle.formula.specs.Form as tree
 use Rattle.formula.specs.Form.{Form, Forms}
 use Rattle.formula.specs.Duals.{dual, duals}
 use Rattle.formula.specs.Sizes.{depth}
-use Rattle.elim_rules.specs.Elimination.{exists_name}
-use Rattle.elim_rules.specs.Whole.{Lacks, all_of, any_of, eliminated, eliminating}
-use Rattle.elim_rules.proofs.Names.{clauses-lack, exists_name-lacks, found-lacks, number-lacks}
-use Rattle.elim_rules.proofs.Over.{negation-lacks}
+use Rattle.elim_laws.specs.Elimination.{exists_name}
+use Rattle.elim_laws.specs.Whole.{Lacks, all_of, any_of, eliminated, eliminating}
+use Rattle.elim_laws.proofs.Names.{clauses-lack, exists_name-lacks, found-lacks, number-lacks}
+use Rattle.elim_laws.proofs.Over.{negation-lacks}
 use Rattle.interpolant.proofs.Encoded.{AtomsLack, AllAtomsLack}
 
 -- ---- operations

@@ -13,8 +13,8 @@ use Rattle.pri_typing.specs.Everywhere.{Property, Everywhere, AllEverywhere, Ter
 use Rattle.pri_typing.specs.WellFormed.{is_numeric, of_terms}
 use Rattle.formula.specs.Form as tree
 use Rattle.formula.specs.Form.{Form, Forms, forms}
-use Rattle.elim_rules.proofs.Names.{number-lacks}
-use Rattle.encoding.specs.Encoding.{named, multiple, related, signed_relation, product_of, junction, quantified, Bound, least, greatest, bounds, within, outside, limits, restricted, bound_by, cases, encoded, all_encoded, with_value, with_values, with_sum, with_more}
+use Rattle.elim_laws.proofs.Names.{number-lacks}
+use Rattle.encoding.specs.Encoding.{named, multiple, related, signed_relation, product_of, junction, quantified, SortBound, least, greatest, bounds, within, outside, limits, restricted, bound_by, cases, encoded, all_encoded, with_value, with_values, with_sum, with_more}
 use Rattle.typed_formula.specs.declared.typed.Sort.{Sort}
 use Rattle.encoding.specs.Occurrences.{occurs}
 use Rattle.encoding.specs.Problems.{append, constants, parts_root, types}
@@ -22,7 +22,7 @@ use Rattle.encoding.specs.Root.{conditions, names_from}
 use Rattle.encoding.proofs.Arithmetic.{no_test}
 use Rattle.pri_typing.specs.declared.problem.Problem.{Problem}
 use Rattle.pri_typing.specs.Problems.{assumed_by}
-use Rattle.interpolant.specs.Sides.{IsOtherName, Lacks}
+use Rattle.interpolant.specs.Sides.{IsOtherName, LacksName}
 
 abbrev other : ℕ → Property
 other x = of_terms (IsOtherName x)
@@ -102,19 +102,19 @@ module _ (x : ℕ) where
   quantified_free true g h = h
   quantified_free false g h = h
 
-  limit_free : (all : Bool) (y : ℕ) (b : Bound) → x ≢ y → AtomsLack x (cond all (outside y b) (within y b)).value
+  limit_free : (all : Bool) (y : ℕ) (b : SortBound) → x ≢ y → AtomsLack x (cond all (outside y b) (within y b)).value
   unfolding next just step
   limit_free true y (least n) d = combination-unmentioned _ _ _ _ x (name-lacks x y d) (combination-unmentioned _ _ _ _ x (number-lacks n x) (number-lacks _ x))
   limit_free true y (greatest n) d = combination-unmentioned _ _ _ _ x (name-lacks x y d) (combination-unmentioned _ _ _ _ x (number-lacks n x) (number-lacks _ x))
   limit_free false y (least n) d = combination-unmentioned _ _ _ _ x (name-lacks x y d) (number-lacks n x)
   limit_free false y (greatest n) d = combination-unmentioned _ _ _ _ x (name-lacks x y d) (number-lacks n x)
 
-  limits_free : (all : Bool) (y : ℕ) (bs : List Bound) (gs : List Form) → x ≢ y → AllAtomsLack x (forms gs) → AllAtomsLack x (forms ((limits all y bs).value ++ gs))
+  limits_free : (all : Bool) (y : ℕ) (bs : List SortBound) (gs : List Form) → x ≢ y → AllAtomsLack x (forms gs) → AllAtomsLack x (forms ((limits all y bs).value ++ gs))
   unfolding next just
   limits_free all y [] gs d h = h
   limits_free all y (b ∷ bs) gs d h = (limit_free all y b d, limits_free all y bs gs d h)
 
-  restricted_free : (all : Bool) (y : ℕ) (bs : List Bound) (g : Form) → x ≢ y → AtomsLack x g → AtomsLack x (restricted all (limits all y bs).value g)
+  restricted_free : (all : Bool) (y : ℕ) (bs : List SortBound) (g : Form) → x ≢ y → AtomsLack x g → AtomsLack x (restricted all (limits all y bs).value g)
   unfolding next just
   restricted_free all y [] g d h = h
   restricted_free true y (b ∷ bs) g d h = limits_free true y (b ∷ bs) (g ∷ []) d (h, tt)
@@ -237,11 +237,11 @@ module _ (x : ℕ) where
         (λ m a le fa. more_free k ts at m _ rest (sends_more x at n m le s) h.1 (combination-unmentioned _ _ _ _ x fz fa) (λ i b li fb. r i b (omega (arith, le, li)) fb))
 
 -- of a formula over n names that lacks one of them
-pub encoding_lacks : (x n : ℕ) (f : Formula) → x < n → Lacks x f → AtomsLack x (encoded (names_from 0 n) n true f).value
+pub encoding_lacks : (x n : ℕ) (f : Formula) → x < n → LacksName x f → AtomsLack x (encoded (names_from 0 n) n true f).value
 encoding_lacks x n f lt h = encoded_free x 0 f (names_from 0 n) n true (own_sends x n lt) h
 
 -- what parts assume, with the conditions of the constants that occur in it, lacks each constant that does not
-pub parts_lack : (x : ℕ) (p : Problem) (set : List ℕ) → x < constants p → Lacks x (assumed_by p set) → occurs x (assumed_by p set) ≡ false → AtomsLack x (parts_root p set).value
+pub parts_lack : (x : ℕ) (p : Problem) (set : List ℕ) → x < constants p → LacksName x (assumed_by p set) → occurs x (assumed_by p set) ≡ false → AtomsLack x (parts_root p set).value
 unfolding next just
 parts_lack x p set lt h out =
     let own : List Form = (conditions (λ y. occurs y (assumed_by p set)) 0 (types p)).value in

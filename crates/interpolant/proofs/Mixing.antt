@@ -14,9 +14,9 @@ use Rattle.pri_typing.specs.declared.problem.Problem.{Problem}
 use Rattle.clause_set.specs.declared.literal.Literal.{Literal}
 use Rattle.clause_set.specs.Literals.{clause_truth, dnf_truth}
 use Rattle.clause_set.specs.Names.{has}
-use Rattle.equation_rules.proofs.Lists.{none-any}
-use Rattle.equation_rules.proofs.Solving.{unused-truth}
-use Rattle.elim_rules.specs.Whole as clauses
+use Rattle.equation_laws.proofs.Lists.{none-any}
+use Rattle.equation_laws.proofs.Solving.{unused-truth}
+use Rattle.elim_laws.specs.Whole as clauses
 use Rattle.encoding.specs.Meaning.{AreTypedIn, type_at}
 use Rattle.encoding.specs.Occurrences.{occurs}
 use Rattle.encoding.specs.Problems.{constants, types}

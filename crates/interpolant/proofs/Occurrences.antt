@@ -6,9 +6,9 @@ use Rattle.typed_formula.specs.Formula.{Formula, Formulas, Expression, Expressio
 use Rattle.pri_typing.specs.Everywhere.{Property, Everywhere, AllEverywhere, TermEverywhere, TermsEverywhere}
 use Rattle.pri_typing.specs.WellFormed.{of_terms}
 use Rattle.clause_set.proofs.Divisors.{kept-append}
-use Rattle.equation_rules.proofs.Lists.{any-none, none-any}
+use Rattle.equation_laws.proofs.Lists.{any-none, none-any}
 use Rattle.encoding.specs.Occurrences.{names_in, names_in_all, names_in_term, names_in_terms, occurs}
-use Rattle.interpolant.specs.Sides.{IsOtherName, Lacks}
+use Rattle.interpolant.specs.Sides.{IsOtherName, LacksName}
 
 abbrev Others : ℕ → List ℕ → Type 0
 Others x = AllByRecursion (λ y. nat_eq x y ≡ false)
@@ -102,5 +102,5 @@ mutual
   others_of_terms x n no_expression h = tt
   others_of_terms x n (and_expression t ts) h = let k = split x (names_in_term t) (names_in_terms ts) h in (others_of_term x n t k.0, others_of_terms x n ts k.1)
 
-pub absent_is : (x : ℕ) (f : Formula) → (occurs x f ≡ false) ↔ Lacks x f
+pub absent_is : (x : ℕ) (f : Formula) → (occurs x f ≡ false) ↔ LacksName x f
 absent_is x f = (λ h. others_of x 0 f (any-none (nat_eq x) (names_in f) h), λ h. none-any (nat_eq x) (names_in f) (others_in x 0 f h))

@@ -10,12 +10,12 @@ use Rattle.clause_set.specs.declared.literal.Literal.{Literal}
 use Rattle.clause_set.specs.Kept.{AreFormed}
 use Rattle.clause_set.specs.Literals.{dnf_truth}
 use Rattle.clause_set.specs.Names.{has}
-use Rattle.equation_rules.proofs.Lists.{any-none, kept-weaker}
+use Rattle.equation_laws.proofs.Lists.{any-none, kept-weaker}
 use Rattle.formula.specs.Form.{Form}
-use Rattle.elim_rules.specs.Elimination.{exists_name}
-use Rattle.elim_rules.specs.Whole.{AreOver, Lacks, eliminating}
-use Rattle.elim_rules.proofs.Names.{exists_name-lacks}
-use Rattle.elim_rules.proofs.Taking.{exists_name-out}
+use Rattle.elim_laws.specs.Elimination.{exists_name}
+use Rattle.elim_laws.specs.Whole.{AreOver, Lacks, eliminating}
+use Rattle.elim_laws.proofs.Names.{exists_name-lacks}
+use Rattle.elim_laws.proofs.Taking.{exists_name-out}
 use Rattle.interpolant.specs.Run.{in_new_log, without, others_out, projecting}
 
 -- ---- one name

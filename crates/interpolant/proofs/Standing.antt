@@ -14,10 +14,10 @@ use Rattle.clause_set.specs.Literals.{dnf_truth}
 use Rattle.formula.specs.declared.calculus.Core.{Core}
 use Rattle.formula.specs.Form.{Form}
 use Rattle.formula.specs.Tree.{form}
-use Rattle.elim_rules.specs.Elimination.{Tells}
-use Rattle.elim_rules.specs.Presburger.{IsPresburger}
-use Rattle.elim_rules.specs.Whole.{eliminating, IsExact}
-use Rattle.elim_rules.proofs.Whole.{anywhere, eliminating-exact}
+use Rattle.elim_laws.specs.Elimination.{Reflects}
+use Rattle.elim_laws.specs.Presburger.{IsPresburger}
+use Rattle.elim_laws.specs.Whole.{eliminating, IsExact}
+use Rattle.elim_laws.proofs.Whole.{anywhere, eliminating-exact}
 use Rattle.encoding.specs.Meaning.{AreTypedIn}
 use Rattle.encoding.specs.Problems.{constants, parts_root, types}
 use Rattle.encoding.proofs.Conditions.{pointwise}
@@ -30,14 +30,14 @@ use Rattle.cut_sides.specs.Between.{AgreeOn, AreTyped, IsStrongest}
 use Rattle.cut_sides.specs.Sides.{first_side, other_side}
 use Rattle.cut_sides.proofs.Lines.{sides_apart}
 use Rattle.cut_sides.proofs.Standing.{strongest_contradicts, strongest_follows}
-use Rattle.interpolant.specs.Sides.{IsBetween}
+use Rattle.interpolant.specs.Sides.{IsInterpolant}
 use Rattle.interpolant.proofs.Mixing.{IsSameAt, agree_past, left_same, mixed, length-mixed, mixed_same, mixed_typed, mixed_first, same_put}
 use Rattle.interpolant.proofs.Eliminated.{eliminating-lacks}
 use Rattle.interpolant.proofs.Encoded.{parts_lack}
 use Rattle.interpolant.proofs.Occurrences.{absent_is}
 use Rattle.interpolant.proofs.Projected.{Back, others-back, others-gone, others-kept, others-lack, others-over, projected-is}
 
-told : (b : Bool) (P : Type 0) → Tells b P → P → b ≡ true
+told : (b : Bool) (P : Type 0) → Reflects b P → P → b ≡ true
 told true P t p = refl
 told false P t p = absurd (t.no refl p)
 
@@ -109,7 +109,7 @@ module _ (p : Problem) (first second : List ℕ) (formed : IsWellFormed p) (pres
   pub strongest_is : (d : List (List Literal)) → d ≡ (interpolating p first second).value → (w : Meaning) → IsStrongest w p a b (λ e. dnf_truth d e ≡ true)
   strongest_is d is w = subst (λ z. IsStrongest w p a b (λ e. dnf_truth z e ≡ true)) (sym (is ∙ left_is)) (left_strongest w)
 
-  left : (w : Meaning) → IsBetween w p a b (others_out stays n all).value
+  left : (w : Meaning) → IsInterpolant w p a b (others_out stays n all).value
   left w = record {
     follows = strongest_follows w p a b (λ e. dnf_truth (others_out stays n all).value e ≡ true) (left_strongest w);
     contradicts = λ c e. strongest_contradicts w p a b (λ e. dnf_truth (others_out stays n all).value e ≡ true) (left_strongest w) c e;
@@ -120,8 +120,8 @@ module _ (p : Problem) (first second : List ℕ) (formed : IsWellFormed p) (pres
     over = others-over stays n n all exact.formed (eliminating-over n (parts_root p first).value presburger (parts_over p first formed));
   }
 
-  pub between_is : (d : List (List Literal)) → d ≡ (interpolating p first second).value → (w : Meaning) → IsBetween w p a b d
-  between_is d is w = subst (λ z. IsBetween w p a b z) (sym (is ∙ left_is)) (left w)
+  pub between_is : (d : List (List Literal)) → d ≡ (interpolating p first second).value → (w : Meaning) → IsInterpolant w p a b d
+  between_is d is w = subst (λ z. IsInterpolant w p a b z) (sym (is ∙ left_is)) (left w)
 
 -- what was encoded has an encoding
 pub encodable : (work : Traced Form) (f : Core) → Encodes work (Ok f) → IsEncodable work
@@ -132,5 +132,5 @@ encodable work f h =
 
 -- ---- cuts
 pub between_apart : (w : Meaning) (p : Problem) (cut : Cut) (j : ℕ) (d : List (List Literal)) → IsWellFormed p → p.existentials ≡ [] → Contains p.cuts cut → ¬ (IsPlainlyValid p) → Holds w p []
-    → IsBetween w p (first_side p cut j) (other_side p cut j) d → (e : List ℤ) → AreTyped p e → dnf_truth d e ≡ true → ¬ (Truth w (other_side p cut j) e)
+    → IsInterpolant w p (first_side p cut j) (other_side p cut j) d → (e : List ℤ) → AreTyped p e → dnf_truth d e ≡ true → ¬ (Truth w (other_side p cut j) e)
 between_apart w p cut j d formed alone among plain holds is e l t = is.contradicts (sides_apart w p cut j formed alone among plain holds) e l t

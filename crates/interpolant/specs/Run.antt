@@ -12,8 +12,8 @@ use Rattle.pri_typing.specs.declared.problem.Problem.{Problem}
 use Rattle.pri_typing.specs.Problems.{assumed_by}
 use Rattle.clause_set.specs.declared.literal.Literal.{Literal}
 use Rattle.formula.specs.Form.{Form}
-use Rattle.elim_rules.specs.Elimination.{exists_name}
-use Rattle.elim_rules.specs.Whole.{eliminating}
+use Rattle.elim_laws.specs.Elimination.{exists_name}
+use Rattle.elim_laws.specs.Whole.{eliminating}
 use Rattle.encoding.specs.Problems.{constants, is_large, parts_root}
 use Rattle.function_encoding.specs.Encoded.{Encodes}
 use Rattle.interpolant.specs.declared.fault.Interpolant.{Interpolant}
@@ -63,18 +63,18 @@ without_log (Ok v) = Ok v
 without_log (Err f) = Err (cause_of f)
 
 -- the fault carries this log; want of memory carries none
-abbrev pub IsLogOf : ElimFault → List Entry → Type 0
-IsLogOf (Steps log) es = log.entries ≡ es
-IsLogOf (Overflow log p) es = log.entries ≡ es
-IsLogOf Memory es = Unit {0}
+abbrev pub IsFaultLog : ElimFault → List Entry → Type 0
+IsFaultLog (Steps log) es = log.entries ≡ es
+IsFaultLog (Overflow log p) es = log.entries ≡ es
+IsFaultLog Memory es = Unit {0}
 
 -- the same of an answer that may be a fault
 abbrev pub CarriesLog : {A : Type 0} → Result A ElimFault → List Entry → Type 0
 CarriesLog (Ok v) es = Unit {0}
-CarriesLog (Err f) es = IsLogOf f es
+CarriesLog (Err f) es = IsFaultLog f es
 
 -- The call did the work as far as it answers, whatever log stood before; a fault carries the log in progress.
-pub record Eliminates {A : Type 0} (work : Traced A) (old : Funds) (result : Result A ElimFault) (new : Funds) : Type 0 where
+pub record DoesElimination {A : Type 0} (work : Traced A) (old : Funds) (result : Result A ElimFault) (new : Funds) : Type 0 where
   pub log : List Entry → List Entry
   pub did : (before : List Entry) → Followed in_log work old before (without_log result) new (log before)
   pub carries : (before : List Entry) → CarriesLog result (log before)
@@ -86,7 +86,7 @@ pub record IsEncodable (work : Traced Form) : Type 0 where
 
 -- What a call for two sets of parts answers: Encode where what the first set assumes has no encoding, and the purse is as
 -- it was; else as the run ends.
-abbrev pub Interpolates : Problem → List ℕ → List ℕ → Funds → Result Interpolant InterpolantFault → Funds → Type 0
-Interpolates p first second old (Ok i) new = IsEncodable (parts_root p first) × Eliminates (interpolating p first second) old (Ok i.formula) new
-Interpolates p first second old (Err (Elim f)) new = IsEncodable (parts_root p first) × Eliminates (interpolating p first second) old (Err f) new
-Interpolates p first second old (Err (Encode r)) new = Encodes (parts_root p first) (Err r) × (new ≡ old)
+abbrev pub AnswersInterpolant : Problem → List ℕ → List ℕ → Funds → Result Interpolant InterpolantFault → Funds → Type 0
+AnswersInterpolant p first second old (Ok i) new = IsEncodable (parts_root p first) × DoesElimination (interpolating p first second) old (Ok i.formula) new
+AnswersInterpolant p first second old (Err (Elim f)) new = IsEncodable (parts_root p first) × DoesElimination (interpolating p first second) old (Err f) new
+AnswersInterpolant p first second old (Err (Encode r)) new = Encodes (parts_root p first) (Err r) × (new ≡ old)

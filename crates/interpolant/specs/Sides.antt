@@ -9,8 +9,8 @@ use Rattle.pri_typing.specs.Everywhere.{Everywhere}
 use Rattle.pri_typing.specs.WellFormed.{of_terms}
 use Rattle.clause_set.specs.declared.literal.Literal.{Literal}
 use Rattle.clause_set.specs.Literals.{dnf_truth}
-use Rattle.elim_rules.specs.Whole as clauses
-use Rattle.elim_rules.specs.Whole.{AreOver}
+use Rattle.elim_laws.specs.Whole as clauses
+use Rattle.elim_laws.specs.Whole.{AreOver}
 use Rattle.encoding.specs.Problems.{constants}
 use Rattle.cut_sides.specs.Between.{AreTyped, Contradict}
 
@@ -20,13 +20,13 @@ IsOtherName x n (name y) = x ≢ y
 IsOtherName x n _ = Unit {0}
 
 -- x stands nowhere in the formula
-abbrev pub Lacks : ℕ → Formula → Type 0
-Lacks x = Everywhere (of_terms (IsOtherName x)) 0
+abbrev pub LacksName : ℕ → Formula → Type 0
+LacksName x = Everywhere (of_terms (IsOtherName x)) 0
 
 -- The normal form d stands between the formulas, at values of the constants' types: it follows from the first; it contradicts
 -- the second where the first does; and it speaks of those constants alone that stand in both.
-pub record IsBetween (w : Meaning) (p : Problem) (first second : Formula) (d : List (List Literal)) : Type 0 where
+pub record IsInterpolant (w : Meaning) (p : Problem) (first second : Formula) (d : List (List Literal)) : Type 0 where
   pub follows : (e : List ℤ) → AreTyped p e → Truth w first e → dnf_truth d e ≡ true
   pub contradicts : Contradict w p first second → (e : List ℤ) → AreTyped p e → dnf_truth d e ≡ true → ¬ (Truth w second e)
-  pub shared : (x : ℕ) → x < constants p → Lacks x first ⊎ Lacks x second → AllByRecursion (clauses.Lacks x) d
+  pub shared : (x : ℕ) → x < constants p → LacksName x first ⊎ LacksName x second → AllByRecursion (clauses.Lacks x) d
   pub over : AreOver (constants p) d

@@ -13,13 +13,13 @@ ghost use Rattle.encoding.specs.Problems.{constants, is_large, parts_root, probl
 ghost use Rattle.encoding.specs.Occurrences.{occurs};
 ghost use Rattle.cut_sides.specs.Between.{AreTyped};
 ghost use Rattle.cut_sides.specs.Sides.{first_side, other_side};
-ghost use Rattle.interpolant.specs.Sides.{IsBetween, Lacks};
+ghost use Rattle.interpolant.specs.Sides.{IsInterpolant, LacksName};
 
 /// Where a problem holds and no component is plainly true, what stands between the two sides of a cut and the second side are
 /// never true together at values of the constants' types.
 pub fn apart_law()
     ensures { (w : Meaning) (p : Problem) (cut : Cut) (j : ℕ) (d : List (List Literal)) → IsWellFormed p → p.existentials ≡ [] → Contains p.cuts cut
-        → ¬ (IsPlainlyValid p) → Holds w p [] → IsBetween w p (first_side p cut j) (other_side p cut j) d
+        → ¬ (IsPlainlyValid p) → Holds w p [] → IsInterpolant w p (first_side p cut j) (other_side p cut j) d
         → (e : List ℤ) → AreTyped p e → dnf_truth d e ≡ true → ¬ (Truth w (other_side p cut j) e) }
 {}
 
@@ -36,5 +36,5 @@ pub fn size_law()
 
 /// A name occurs in a formula exactly where it is not so that each name that stands there is another one.
 pub fn occurrence_law()
-    ensures { (x : ℕ) (f : Formula) → (occurs x f ≡ false) ↔ Lacks x f }
+    ensures { (x : ℕ) (f : Formula) → (occurs x f ≡ false) ↔ LacksName x f }
 {}

@@ -9,8 +9,8 @@ ghost use Rattle.clause_set.specs.Literals.{dnf_truth};
 ghost use Rattle.function_encoding.specs.declared.answer.EncodeRefusal.TheVariants.{Memory};
 ghost use Rattle.cut_sides.specs.Between.{IsStrongest};
 ghost use Rattle.cut_sides.specs.Sides.{cut_of, first_sets, first_side, other_sets, other_side};
-ghost use Rattle.interpolant.specs.Run.{Interpolates};
-ghost use Rattle.interpolant.specs.Sides.{IsBetween};
+ghost use Rattle.interpolant.specs.Run.{AnswersInterpolant};
+ghost use Rattle.interpolant.specs.Sides.{IsInterpolant};
 
 use crate::fault::{Interpolant, InterpolantFault};
 use crate::projection::project;
@@ -37,8 +37,8 @@ pub fn between_parts(
     requires formed { IsWellFormed p.now }
     requires plain { IsWithoutApplication (assumed_by p.now first.now) }
     requires budget { purse.old.budget < 2 ^ 32 }
-    ensures work { Interpolates p.now first.now second.now purse.old result purse.new }
-    ensures between { IfOk result (λ i. (w : Meaning) → IsBetween w p.now (assumed_by p.now first.now) (assumed_by p.now second.now) i.formula) }
+    ensures work { AnswersInterpolant p.now first.now second.now purse.old result purse.new }
+    ensures between { IfOk result (λ i. (w : Meaning) → IsInterpolant w p.now (assumed_by p.now first.now) (assumed_by p.now second.now) i.formula) }
     ensures strongest { IfOk result (λ i. (w : Meaning) → IsStrongest w p.now (assumed_by p.now first.now) (assumed_by p.now second.now) (λ e. dnf_truth i.formula e ≡ true)) }
 {
     let assumed = encode_parts(alloc, p, first)?;
@@ -61,8 +61,8 @@ pub fn between_sides(
     requires plain { IsWithoutApplication (first_side p.now cut.now at) }
     requires inside { at ≤ length cut.now.sets }
     requires budget { purse.old.budget < 2 ^ 32 }
-    ensures work { Interpolates p.now (first_sets cut.now at) (other_sets cut.now at) purse.old result purse.new }
-    ensures between { IfOk result (λ i. (w : Meaning) → IsBetween w p.now (first_side p.now cut.now at) (other_side p.now cut.now at) i.formula) }
+    ensures work { AnswersInterpolant p.now (first_sets cut.now at) (other_sets cut.now at) purse.old result purse.new }
+    ensures between { IfOk result (λ i. (w : Meaning) → IsInterpolant w p.now (first_side p.now cut.now at) (other_side p.now cut.now at) i.formula) }
     ensures strongest { IfOk result (λ i. (w : Meaning) → IsStrongest w p.now (first_side p.now cut.now at) (other_side p.now cut.now at) (λ e. dnf_truth i.formula e ≡ true)) }
 {
     let sets = cut.sets.as_slice();
@@ -96,8 +96,8 @@ pub fn between_at(
     requires inside { at ≤ length (cut_of p.now cut).sets }
     requires plain { IsWithoutApplication (first_side p.now (cut_of p.now cut) at) }
     requires budget { purse.old.budget < 2 ^ 32 }
-    ensures work { Interpolates p.now (first_sets (cut_of p.now cut) at) (other_sets (cut_of p.now cut) at) purse.old result purse.new }
-    ensures between { IfOk result (λ i. (w : Meaning) → IsBetween w p.now (first_side p.now (cut_of p.now cut) at) (other_side p.now (cut_of p.now cut) at) i.formula) }
+    ensures work { AnswersInterpolant p.now (first_sets (cut_of p.now cut) at) (other_sets (cut_of p.now cut) at) purse.old result purse.new }
+    ensures between { IfOk result (λ i. (w : Meaning) → IsInterpolant w p.now (first_side p.now (cut_of p.now cut) at) (other_side p.now (cut_of p.now cut) at) i.formula) }
     ensures strongest { IfOk result (λ i. (w : Meaning) → IsStrongest w p.now (first_side p.now (cut_of p.now cut) at) (other_side p.now (cut_of p.now cut) at) (λ e. dnf_truth i.formula e ≡ true)) }
 {
     let cuts = p.cuts.as_slice();
@@ -116,8 +116,8 @@ pub fn between(
     requires inside { 1 ≤ length (cut_of p.now cut).sets }
     requires plain { IsWithoutApplication (first_side p.now (cut_of p.now cut) 1) }
     requires budget { purse.old.budget < 2 ^ 32 }
-    ensures work { Interpolates p.now (first_sets (cut_of p.now cut) 1) (other_sets (cut_of p.now cut) 1) purse.old result purse.new }
-    ensures between { IfOk result (λ i. (w : Meaning) → IsBetween w p.now (first_side p.now (cut_of p.now cut) 1) (other_side p.now (cut_of p.now cut) 1) i.formula) }
+    ensures work { AnswersInterpolant p.now (first_sets (cut_of p.now cut) 1) (other_sets (cut_of p.now cut) 1) purse.old result purse.new }
+    ensures between { IfOk result (λ i. (w : Meaning) → IsInterpolant w p.now (first_side p.now (cut_of p.now cut) 1) (other_side p.now (cut_of p.now cut) 1) i.formula) }
     ensures strongest { IfOk result (λ i. (w : Meaning) → IsStrongest w p.now (first_side p.now (cut_of p.now cut) 1) (other_side p.now (cut_of p.now cut) 1) (λ e. dnf_truth i.formula e ≡ true)) }
 {
     between_at(alloc, p, cut, 1, purse)

@@ -1,11 +1,12 @@
 // A formula without its quantifiers, and without the names that do not stay.
 
+ghost use Rattle.limits.specs.Limits.{most_constants};
 ghost use Rattle.std.specs.Prelude.{◌≡◌, ◌≤◌, ◌<◌, ◌+◌, ◌^◌, length};
 ghost use Rattle.formula.specs.Sizes.{depth};
 ghost use Rattle.formula.specs.Tree.{form};
 ghost use Rattle.function_encoding.specs.Marks.{is_marked};
 ghost use Rattle.interpolant.specs.Run as run;
-ghost use Rattle.interpolant.specs.Run.{Eliminates, others_out, projecting};
+ghost use Rattle.interpolant.specs.Run.{DoesElimination, others_out, projecting};
 
 use clause_set::Dnf;
 use formula::Core;
@@ -16,7 +17,7 @@ use std::alloc::Global;
 /// The name x out of d by "some value", unless it stays.
 fn without(alloc: Global, stays: bool, x: u32, d: Dnf, purse: &mut Purse) -> Result<Dnf, ElimFault>
     requires { purse.old.budget < 2 ^ 32 }
-    ensures { Eliminates (run.without stays x d) purse.old result purse.new }
+    ensures { DoesElimination (run.without stays x d) purse.old result purse.new }
 {
     if stays {
         return Ok(d);
@@ -27,9 +28,9 @@ fn without(alloc: Global, stays: bool, x: u32, d: Dnf, purse: &mut Purse) -> Res
 
 /// The names without a mark out of d, the greatest first.
 fn others_out(alloc: Global, marks: &[bool], d: Dnf, purse: &mut Purse) -> Result<Dnf, ElimFault>
-    requires few { length marks.now ≤ 1000 }
+    requires few { length marks.now ≤ most_constants }
     requires budget { purse.old.budget < 2 ^ 32 }
-    ensures { Eliminates (others_out (is_marked marks.now) (length marks.now) d) purse.old result purse.new }
+    ensures { DoesElimination (others_out (is_marked marks.now) (length marks.now) d) purse.old result purse.new }
 {
     let mut left = d;
     let mut x = marks.len();
@@ -47,10 +48,10 @@ pub(crate) fn project(
     marks: &[bool],
     purse: &mut Purse,
 ) -> Result<Dnf, ElimFault>
-    requires few { length marks.now ≤ 1000 }
+    requires few { length marks.now ≤ most_constants }
     requires room { length marks.now + depth (form f.now) ≤ 2 ^ 32 }
     requires budget { purse.old.budget < 2 ^ 32 }
-    ensures { Eliminates (projecting (is_marked marks.now) (length marks.now) (form f.now)) purse.old result purse.new }
+    ensures { DoesElimination (projecting (is_marked marks.now) (length marks.now) (form f.now)) purse.old result purse.new }
 {
     let (all, _log) = eliminate(alloc, f, marks.len() as u32, purse)?;
     others_out(alloc, marks, all, purse)

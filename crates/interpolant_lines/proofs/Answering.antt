@@ -36,7 +36,7 @@ use Rattle.interpolant_lines.specs.Blocks.{after_line, after_lines, unknown_line
 use Rattle.interpolant_lines.specs.Ends.{Cause, cause_text, plain as plainly, prints, tells, left_by, line_end, formula_by, is_applied, is_plainly_valid, middle_by, normal_end, seam_case}
 use Rattle.interpolant_lines.specs.Proved.{AreObligationsProved, HasProvingTree}
 use Rattle.interpolant_lines.specs.Seams.{Seam, seams, seams_from, seams_of}
-use Rattle.interpolant_lines.specs.Told.{TellsFault, TellsFormula, TellsMiddleFault}
+use Rattle.interpolant_lines.specs.Told.{TellsInterpolantFault, TellsFormula, TellsMiddleFault}
 use Rattle.interpolant_lines.proofs.Running.{Called, IsMade, IsNoWant, cause_of, middle_made, middle_unmade, run_found, run_missed}
 
 -- ---- which work is done
@@ -97,7 +97,7 @@ interpolant_told p b old new i text none h l =
     answered_found p b old new l.x text (pure_end p b old none ∙ f.0)
     (subst (λ c. IsTextBy p b c l.x) (sym (pure_case p b none)) (subst (λ d. IsTextOf p d l.x) (sym f.1) l.printed)) l.line (λ some. absurd (some none))
 
-run_cause : (x : InterpolantFault) (text : List ℕ) → TellsFault x text → IsNoWant (uninterpolated x) × (text ≡ unknown_line (cause_text (cause_of (uninterpolated x))))
+run_cause : (x : InterpolantFault) (text : List ℕ) → TellsInterpolantFault x text → IsNoWant (uninterpolated x) × (text ≡ unknown_line (cause_text (cause_of (uninterpolated x))))
 run_cause (Elim (elimination.Steps log)) text t = (tt, t.2 ∙ ap unknown_line t.1)
 run_cause (Elim (elimination.Overflow log place)) text t = (tt, t.2 ∙ ap unknown_line t.1)
 run_cause (Elim elimination.Memory) text t = absurd t.1
@@ -106,7 +106,7 @@ run_cause (Encode (refusal.Overflow place)) text t = (tt, t.2 ∙ ap unknown_lin
 run_cause (Encode refusal.Memory) text t = absurd t.1
 
 fault_told : (p : Problem) (b : Seam) (old new : Funds) (x : InterpolantFault) (text : List ℕ) → p.first_application ≡ None → is_large (parts_root p (first_sets b.cut b.at)).value ≡ false
-    → Called p b old (Err x) new → TellsFault x text → Answered p b old text new
+    → Called p b old (Err x) new → TellsInterpolantFault x text → Answered p b old text new
 fault_told p b old new x text none small h t =
     let k = run_cause x text t in answered_unknown p b old new _ text (pure_end p b old none ∙ run_missed p b old new x small h k.0) k.1
 
@@ -198,13 +198,13 @@ module _ (p : Problem) (b : Seam) (old new : Funds) where
     pub found_left : (i : Interpolant) → p.first_application ≡ None → Called p b old (Ok i) new → IfOk r (λ t. IsLineOf interpolant_line p i.formula t.items) → OnOk r (new ≡ after_line p b old)
     found_left i none h k = left_told r (found_all i none h k)
 
-    missed_all : (x : InterpolantFault) → p.first_application ≡ None → is_large (parts_root p (first_sets b.cut b.at)).value ≡ false → Called p b old (Err x) new → IfOk r (λ t. TellsFault x t.items) → IfOk r (λ t. Answered p b old t.items new)
-    missed_all x none small h = all_told r (TellsFault x) (λ text. fault_told p b old new x text none small h)
+    missed_all : (x : InterpolantFault) → p.first_application ≡ None → is_large (parts_root p (first_sets b.cut b.at)).value ≡ false → Called p b old (Err x) new → IfOk r (λ t. TellsInterpolantFault x t.items) → IfOk r (λ t. Answered p b old t.items new)
+    missed_all x none small h = all_told r (TellsInterpolantFault x) (λ text. fault_told p b old new x text none small h)
 
-    pub missed_line : (x : InterpolantFault) → p.first_application ≡ None → is_large (parts_root p (first_sets b.cut b.at)).value ≡ false → Called p b old (Err x) new → IfOk r (λ t. TellsFault x t.items) → IfOk r (λ t. IsSeamLine p b old t.items)
+    pub missed_line : (x : InterpolantFault) → p.first_application ≡ None → is_large (parts_root p (first_sets b.cut b.at)).value ≡ false → Called p b old (Err x) new → IfOk r (λ t. TellsInterpolantFault x t.items) → IfOk r (λ t. IsSeamLine p b old t.items)
     missed_line x none small h k = line_told r (missed_all x none small h k)
 
-    pub missed_left : (x : InterpolantFault) → p.first_application ≡ None → is_large (parts_root p (first_sets b.cut b.at)).value ≡ false → Called p b old (Err x) new → IfOk r (λ t. TellsFault x t.items) → OnOk r (new ≡ after_line p b old)
+    pub missed_left : (x : InterpolantFault) → p.first_application ≡ None → is_large (parts_root p (first_sets b.cut b.at)).value ≡ false → Called p b old (Err x) new → IfOk r (λ t. TellsInterpolantFault x t.items) → OnOk r (new ≡ after_line p b old)
     missed_left x none small h k = left_told r (missed_all x none small h k)
 
   plain_all : (r : Result (Vec ℕ) Memory) → p.first_application ≢ None → is_plainly_valid p ≡ true → new ≡ old → IfOk r (λ t. t.items ≡ unknown_line (codes "plain")) → IfOk r (λ t. Answered p b old t.items new)

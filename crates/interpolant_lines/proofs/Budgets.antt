@@ -7,7 +7,8 @@ use Rattle.typed_formula.specs.Formula.{Formula}
 use Rattle.pri_typing.specs.declared.problem.Problem.{Problem}
 use Rattle.encoding.specs.Problems.{is_large}
 use Rattle.search.specs.Run as run
-use Rattle.search.specs.Run.{canonical_run, ended}
+use Rattle.purse.specs.Ending.{ended}
+use Rattle.search.specs.Run.{canonical_run}
 use Rattle.cut_sides.specs.Sides.{Case, arithmetic, first_itself, second_denied, none}
 use Rattle.pred_interpolant.specs.Middle.{obligation_root}
 use Rattle.interpolant_lines.specs.Blocks.{after_line, after_lines}
@@ -50,7 +51,7 @@ ran old (done a) h = h
 ran old (refused a) h = h
 ran old (out_of_range numbers a) h = h
 
-tried : (old : Funds) (v : run.Answer) (end : End) → Keeps old (stand end).funds → Keeps old (left_by (proof_ended (ended v end)))
+tried : (old : Funds) (v : run.RunAnswer) (end : End) → Keeps old (stand end).funds → Keeps old (left_by (proof_ended (ended v end)))
 tried old (run.valid vs x) (done a) h = h
 tried old (run.invalid log x) (done a) h = h
 tried old (run.saturated log x) (done a) h = h

@@ -19,7 +19,8 @@ use Rattle.encoding.specs.Root.{conditions, names_from, root}
 use Rattle.encoding.specs.Occurrences.{occurs}
 use Rattle.proof_tree.specs.declared.run.Verdict.TheVariants as verdict
 use Rattle.proof_tree.specs.Proves.{Proves}
-use Rattle.search.specs.Run.{canonical_run, ending}
+use Rattle.purse.specs.Ending.{ending}
+use Rattle.search.specs.Run.{canonical_run}
 use Rattle.interpolant.specs.Run.{interpolating, projecting}
 use Rattle.cut_sides.specs.Closing.{own_constants, quantified, rebound, renamed, strongest_formula, weakest_formula}
 use Rattle.cut_sides.specs.Sides.{Case, arithmetic, first_itself, second_denied, none, case_between, first_sets, other_sets}
@@ -30,7 +31,7 @@ use Rattle.constraint_text.proofs.Printed.{text_same}
 use Rattle.typed_printer.specs.Plain.{plain as plain_form}
 use Rattle.typed_printer.specs.TypedText.{formula_text}
 use Rattle.interpolant_lines.specs.Blocks.{after_line, after_lines, unknown_line, IsSeamLine, found, unknown, IsTextBy, IsTypedText, AreLines, AreBlockLines}
-use Rattle.interpolant_lines.specs.Causes.{before_line, line_at, seam_at, AreBlocksCaused, IsFound, IsUnknown}
+use Rattle.interpolant_lines.specs.Causes.{before_line, line_at, seam_at, AreBlocksCaused, IsSeamFound, IsUnknown}
 use Rattle.interpolant_lines.specs.Ends.{Cause, steps, overflow, symbols, branch, large, plain, cause_text, LineEnd, prints, tells, unproved, left_by, above_by, below_by, formula_by, found_by, is_applied, is_plainly_valid, line_end, middle_by, normal_end, proof_ended, run_ended, seam_case, seam_run, then_encoded, then_proved}
 use Rattle.interpolant_lines.specs.Proved.{AreObligationsProved, HasProvingTree}
 use Rattle.interpolant_lines.specs.Seams.{Seam, before, behind, seams}
@@ -262,11 +263,11 @@ one_told end a b c d h k = ap told_cause (sym h ∙ k)
 abbrev PrintsFound : Problem → Seam → List ℕ → Type 0
 PrintsFound p b text = (x : List ℕ) × IsTextBy p b (seam_case p b) x × (text ≡ interpolant_line x)
 
-found_is : (p : Problem) (b : Seam) (old : Funds) (text : List ℕ) → IsSeamLine p b old text → PrintsFound p b text → IsFound p b old
+found_is : (p : Problem) (b : Seam) (old : Funds) (text : List ℕ) → IsSeamLine p b old text → PrintsFound p b text → IsSeamFound p b old
 found_is p b old text (found left x is printed e proved) h = (left, is)
 found_is p b old text (unknown c left is e) h = absurd (not_found h.0 text (cause_text c) h.2 e)
 
-is_found : (p : Problem) (b : Seam) (old : Funds) (text : List ℕ) → IsSeamLine p b old text → IsFound p b old → PrintsFound p b text
+is_found : (p : Problem) (b : Seam) (old : Funds) (text : List ℕ) → IsSeamLine p b old text → IsSeamFound p b old → PrintsFound p b text
 is_found p b old text (found left x is printed e proved) h = (x, printed, e)
 is_found p b old text (unknown c left is e) h = absurd (not_both (line_end p b old) h.0 left c h.1 is)
 

@@ -11,9 +11,9 @@ use Rattle.pri_typing.specs.Problems.{Holds, IsPlainlyValid, IsPure, IsWithoutAp
 use Rattle.pri_typing.specs.WellFormed.{IsWellFormed}
 use Rattle.clause_set.specs.declared.literal.Literal.{Literal}
 use Rattle.clause_set.specs.Literals.{dnf_truth}
-use Rattle.elim_rules.specs.Presburger.{IsPresburger}
-use Rattle.elim_rules.specs.Whole.{AreOver}
-use Rattle.elim_rules.proofs.Reduced.{presburger_of}
+use Rattle.elim_laws.specs.Presburger.{IsPresburger}
+use Rattle.elim_laws.specs.Whole.{AreOver}
+use Rattle.elim_laws.proofs.Reduced.{presburger_of}
 use Rattle.encoding.specs.Occurrences.{names_in}
 use Rattle.encoding.specs.Problems.{constants, parts_root}
 use Rattle.pri_printer.specs.Printed.{dnf_formula}
@@ -24,7 +24,7 @@ use Rattle.cut_sides.specs.Symbols.{is_empty, is_symbol, is_within, symbols_in}
 use Rattle.cut_sides.proofs.Lines.{passed, sequence, sides_apart}
 use Rattle.cut_sides.proofs.Quantifying.{strongest, weakest}
 use Rattle.cut_sides.proofs.Standing.{strong_strong, strongest_contradicts, strongest_follows, weakest_contradicts, weakest_follows}
-use Rattle.interpolant.specs.Sides.{IsBetween}
+use Rattle.interpolant.specs.Sides.{IsInterpolant}
 use Rattle.interpolant.proofs.Applications.{assumed_pure, pure_assumed}
 use Rattle.interpolant.proofs.Standing.{between_is, strongest_is}
 use Rattle.pred_interpolant.specs.Middle.{Shares}
@@ -38,7 +38,7 @@ use Rattle.typed_printer.proofs.KeptSymbols.{symbols_kept}
 use Rattle.typed_printer.proofs.Truths.{plain_same}
 use Rattle.interpolant_lines.specs.Blocks.{after_line, IsSeamLine, found, unknown, IsTextBy, AreLines, AreBlockLines}
 use Rattle.interpolant_lines.specs.Ends.{plain as plainly, prints, tells, cause_text, formula_by, is_applied, is_plainly_valid, line_end, middle_by, normal_end, seam_case, seam_run}
-use Rattle.interpolant_lines.specs.Meaning.{AreInterpolantLines, AreTold, Follows, Interpolates, IsSequence, Tells}
+use Rattle.interpolant_lines.specs.Meaning.{AreInterpolantLines, AreTold, Follows, Interpolates, IsSequence, TellsSeam}
 use Rattle.interpolant_lines.specs.Proved.{AreObligationsProved}
 use Rattle.interpolant_lines.specs.Seams.{Seam, before, behind, next_seam, seams, seams_from, seams_of, set_behind}
 use Rattle.interpolant_lines.proofs.Answering.{no_existentials}
@@ -53,7 +53,7 @@ printed_true w p d e over many = constants_true w p d e (all_below p d over) (ma
 parts_presburger : (p : Problem) (set : List ℕ) → IsWithoutApplication (assumed_by p set) → IsPresburger (parts_root p set).value
 parts_presburger p set plain = presburger_of (parts_root p set).value (assumed_pure p set plain) (parts_reduced p set)
 
-seam_between : (w : Meaning) (p : Problem) (s : Seam) → IsWellFormed p → IsWithoutApplication (before p s) → IsBetween w p (before p s) (behind p s) (seam_run p s).value
+seam_between : (w : Meaning) (p : Problem) (s : Seam) → IsWellFormed p → IsWithoutApplication (before p s) → IsInterpolant w p (before p s) (behind p s) (seam_run p s).value
 seam_between w p s formed plain =
     between_is p (first_sets s.cut s.at) (other_sets s.cut s.at) formed (parts_presburger p (first_sets s.cut s.at) plain) (seam_run p s).value refl w
 
@@ -238,7 +238,7 @@ module _ (w : Meaning) (p : Problem) (formed : IsWellFormed p) (purity : (p.firs
         proved = λ some. record { made = formula_by p s c; same = read_true w p s c; proved = proved some };
       }
 
-  line_means : (s : Seam) (old : Funds) (text : List ℕ) (h : IsSeamLine p s old text) → IsInside p s → Tells w p s text (said p s old text h)
+  line_means : (s : Seam) (old : Funds) (text : List ℕ) (h : IsSeamLine p s old text) → IsInside p s → TellsSeam w p s text (said p s old text h)
   unfolding said
   line_means s old text (found left x is printed e proved) i = (x, e, line_interpolates s i (mode s old left is) x printed proved)
   line_means s old text (unknown c left is e) i = (cause_text c, e)

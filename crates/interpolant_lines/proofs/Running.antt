@@ -20,7 +20,7 @@ use Rattle.proof_tree.specs.declared.node.Tree.{Tree}
 use Rattle.interpolant.specs.declared.fault.Interpolant.{Interpolant}
 use Rattle.interpolant.specs.declared.fault.InterpolantFault.{InterpolantFault}
 use Rattle.interpolant.specs.declared.fault.InterpolantFault.TheVariants.{Elim, Encode}
-use Rattle.interpolant.specs.Run.{Interpolates}
+use Rattle.interpolant.specs.Run.{AnswersInterpolant}
 use Rattle.cut_sides.specs.Sides.{Case, arithmetic, first_itself, second_denied, none, case_of, cut_of, first_sets, other_sets}
 use Rattle.pred_interpolant.specs.declared.fault.MiddleFault.{MiddleFault}
 use Rattle.pred_interpolant.specs.declared.fault.MiddleFault.TheVariants as fault
@@ -32,7 +32,7 @@ use Rattle.pred_interpolant.specs.Middle.{above, below, obligation_root, said}
 use Rattle.problem_file.proofs.Encoded.{left_stays}
 use Rattle.middle_runs.specs.declared.proved.Middle.{Middle}
 use Rattle.middle_runs.specs.Runs as runs
-use Rattle.middle_runs.specs.Runs.{Finds as FindsTree, MakesMiddle, Stops}
+use Rattle.middle_runs.specs.Runs.{FindsTree as FindsTree, MakesMiddle, StopsRun}
 use Rattle.interpolant_lines.specs.Ends.{Cause, steps, overflow, symbols, branch, large, LineEnd, prints, tells, above_by, below_by, formula_by, found_by, middle_by, normal_end, proof_ended, run_ended, seam_end, seam_run, stays, then_encoded, then_proved}
 use Rattle.interpolant_lines.specs.Seams.{Seam, before, behind}
 
@@ -61,7 +61,7 @@ made_stays work f m = ((passes_where_runs work.events start start (omega arith))
 -- ---- the run of a normal form
 
 abbrev pub Called : Problem → Seam → Funds → Result Interpolant InterpolantFault → Funds → Type 0
-Called p b = Interpolates p (first_sets b.cut b.at) (other_sets b.cut b.at)
+Called p b = AnswersInterpolant p (first_sets b.cut b.at) (other_sets b.cut b.at)
 
 normal_ended : (p : Problem) (b : Seam) (old : Funds) (end : End) → stays p b ≡ true → seam_end p b old ≡ end → normal_end p b old ≡ run_ended end
 normal_ended p b old end stay is = ap (λ s. if s then run_ended (seam_end p b old) else tells overflow old) stay ∙ ap run_ended is
@@ -112,7 +112,7 @@ encoded_not p f left e h n = unencoded_by p f left h.0 h.1 (subst IsNoWant h.2 n
 pub proved_on : (p : Problem) (f : Formula) (old new : Funds) (t : Tree) → FindsTree p f old t new → then_proved p f (prints old) ≡ prints new
 proved_on p f old new t h = ap proof_ended h.2
 
-pub proved_not : (p : Problem) (f : Formula) (old new : Funds) (e : MiddleFault) → Stops p f old e new → IsNoWant e → then_proved p f (prints old) ≡ tells (cause_of e) new
+pub proved_not : (p : Problem) (f : Formula) (old new : Funds) (e : MiddleFault) → StopsRun p f old e new → IsNoWant e → then_proved p f (prints old) ≡ tells (cause_of e) new
 proved_not p f old new fault.Steps h n = ap proof_ended h.1
 proved_not p f old new (fault.Overflow place) h n = ap proof_ended h.2
 proved_not p f old new fault.Branch h n = ap proof_ended h.1
@@ -165,7 +165,7 @@ module _ (p : Problem) (cut place : ℕ) where
       ∙ ap (λ z. proofs (then_encoded p (above_by p b c) z)) (encoded_on p (below_by p b c) x new (subst (λ g. IsRootOf p g x) (sym (below_is m f.1)) k))
       ∙ ap proofs (encoded_on p (above_by p b c) y new (subst (λ g. IsRootOf p g y) (sym (above_is m f.1)) l))
 
-  unmade : (old new : Funds) (e : MiddleFault) → is_large (parts_root p (first_sets b.cut b.at)).value ≡ false → made.EndsEarly p cut place old e new → IsNoWant e → work (found_by p b c old) ≡ tells (cause_of e) new
+  unmade : (old new : Funds) (e : MiddleFault) → is_large (parts_root p (first_sets b.cut b.at)).value ≡ false → made.ObligationsEndEarly p cut place old e new → IsNoWant e → work (found_by p b c old) ≡ tells (cause_of e) new
   unmade old new e small (made.unfound h) n = ap work (missed old new e small h n)
   unmade old new e small (made.first_obligation m h k) n =
       let f = found_formula c old new m h in
@@ -202,9 +202,9 @@ module _ (p : Problem) (cut place : ℕ) where
   middle_unmade old new e small (runs.first_run o left h k) n =
       let f = found_formula c old left o.formula h.0 in
       both_encoded old left o.formula _ _ h.0 h.1 h.2
-      ∙ ap (then_proved p (above_by p b c)) (proved_not p (below_by p b c) left new e (subst (λ g. Stops p g left e new) (sym (below_is o.formula f.1)) k) n)
+      ∙ ap (then_proved p (above_by p b c)) (proved_not p (below_by p b c) left new e (subst (λ g. StopsRun p g left e new) (sym (below_is o.formula f.1)) k) n)
   middle_unmade old new e small (runs.second_run o t left between h k l) n =
       let f = found_formula c old left o.formula h.0 in
       both_encoded old left o.formula _ _ h.0 h.1 h.2
       ∙ ap (then_proved p (above_by p b c)) (proved_on p (below_by p b c) left between t (subst (λ g. FindsTree p g left t between) (sym (below_is o.formula f.1)) k))
-      ∙ proved_not p (above_by p b c) between new e (subst (λ g. Stops p g between e new) (sym (above_is o.formula f.1)) l) n
+      ∙ proved_not p (above_by p b c) between new e (subst (λ g. StopsRun p g between e new) (sym (above_is o.formula f.1)) l) n

@@ -21,8 +21,8 @@ abbrev pub line_at : List (List ℕ) → ℕ → List ℕ
 line_at lines k = slice_index_or lines k []
 
 -- the work for the line of a seam ends with an interpolant
-abbrev pub IsFound : Problem → Seam → Funds → Type 0
-IsFound p s old = (left : Funds) × (line_end p s old ≡ prints left)
+abbrev pub IsSeamFound : Problem → Seam → Funds → Type 0
+IsSeamFound p s old = (left : Funds) × (line_end p s old ≡ prints left)
 
 -- it ends without one, for this cause
 abbrev pub IsUnknown : Cause → Problem → Seam → Funds → Type 0
@@ -32,5 +32,5 @@ IsUnknown c p s old = (left : Funds) × (line_end p s old ≡ tells c left)
 pub record AreBlocksCaused (p : Problem) (old : Funds) (lines : List (List ℕ)) : Type 0 where
   pub many : length lines ≡ length (seams p.cuts)
   pub found : (k : ℕ) → k < length (seams p.cuts)
-      → ((x : List ℕ) × IsTextBy p (seam_at p k) (seam_case p (seam_at p k)) x × (line_at lines k ≡ interpolant_line x)) ↔ IsFound p (seam_at p k) (before_line p old k)
+      → ((x : List ℕ) × IsTextBy p (seam_at p k) (seam_case p (seam_at p k)) x × (line_at lines k ≡ interpolant_line x)) ↔ IsSeamFound p (seam_at p k) (before_line p old k)
   pub unknown : (c : Cause) (k : ℕ) → k < length (seams p.cuts) → (line_at lines k ≡ unknown_line (cause_text c)) ↔ IsUnknown c p (seam_at p k) (before_line p old k)

@@ -12,7 +12,8 @@ use Rattle.pri_printer.specs.Printed.{dnf_formula}
 use Rattle.clause_set.specs.declared.literal.Literal.{Literal}
 use Rattle.encoding.specs.Problems.{is_large, parts_root}
 use Rattle.search.specs.Run as run
-use Rattle.search.specs.Run.{Ending, ending, ends_with, out_of_steps, overflows, canonical_run}
+use Rattle.purse.specs.Ending.{Ending, ending, ends_with, out_of_steps, overflows}
+use Rattle.search.specs.Run.{canonical_run}
 use Rattle.interpolant.specs.Run.{interpolating}
 use Rattle.cut_sides.specs.Closing.{strongest_formula, weakest_formula}
 use Rattle.cut_sides.specs.Sides.{Case, arithmetic, first_itself, second_denied, none, case_of, first_sets, other_sets}
@@ -118,7 +119,7 @@ then_encoded p f (tells c left) = tells c left
 then_encoded p f (unproved left) = unproved left
 
 -- a run for a proof that ends so
-abbrev pub proof_ended : Ending run.Answer → LineEnd
+abbrev pub proof_ended : Ending run.RunAnswer → LineEnd
 proof_ended (ends_with (run.valid vs x) a) = prints a.funds
 proof_ended (ends_with (run.invalid log x) a) = unproved a.funds
 proof_ended (ends_with (run.saturated log x) a) = unproved a.funds
@@ -127,7 +128,7 @@ proof_ended (out_of_steps a) = tells steps a.funds
 proof_ended (overflows numbers a) = tells overflow a.funds
 
 -- how the canonical run for an obligation ends, on a purse that stands so
-abbrev pub obligation_end : Problem → Formula → Funds → Ending run.Answer
+abbrev pub obligation_end : Problem → Formula → Funds → Ending run.RunAnswer
 obligation_end p f old = ending (canonical_run (obligation_root p f).value (length p.existentials) old.budget) (at old [])
 
 -- then the proof of an obligation

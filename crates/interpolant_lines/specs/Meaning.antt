@@ -35,14 +35,14 @@ pub record Interpolates (w : Meaning) (p : Problem) (s : Seam) (x : List ℕ) (f
   pub proved : p.first_application ≢ None → IsProvedAs w p s formula
 
 -- the line of a seam prints a formula, or says that none is known
-abbrev pub Tells : Meaning → Problem → Seam → List ℕ → Option Formula → Type 0
-Tells w p s text (Some f) = (x : List ℕ) × (text ≡ interpolant_line x) × Interpolates w p s x f
-Tells w p s text None = (cause : List ℕ) × (text ≡ unknown_line cause)
+abbrev pub TellsSeam : Meaning → Problem → Seam → List ℕ → Option Formula → Type 0
+TellsSeam w p s text (Some f) = (x : List ℕ) × (text ≡ interpolant_line x) × Interpolates w p s x f
+TellsSeam w p s text None = (cause : List ℕ) × (text ≡ unknown_line cause)
 
 -- a line for each seam, in their order, with what it prints
 abbrev pub AreTold : Meaning → Problem → List Seam → List (List ℕ) → List (Option Formula) → Type 0
 AreTold w p [] [] [] = Unit {0}
-AreTold w p (s ∷ ss) (text ∷ texts) (f ∷ fs) = Tells w p s text f × AreTold w p ss texts fs
+AreTold w p (s ∷ ss) (text ∷ texts) (f ∷ fs) = TellsSeam w p s text f × AreTold w p ss texts fs
 AreTold w p _ _ _ = ⊥
 
 -- Of the lines of two seams that both print a formula: where the second is the next of the same block, its formula is true wherever

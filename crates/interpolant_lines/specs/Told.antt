@@ -14,17 +14,17 @@ use Rattle.constraint_text.specs.Constraint.{IsLineOf, interpolant_line}
 use Rattle.interpolant_lines.specs.Blocks.{IsTypedText, unknown_line}
 
 -- the text is what the call for a run has met; there is none where memory was wanting
-abbrev pub IsCause : InterpolantFault → List ℕ → Type 0
-IsCause (Elim (elimination.Steps log)) text = text ≡ codes "steps"
-IsCause (Elim (elimination.Overflow log place)) text = text ≡ codes "overflow"
-IsCause (Elim elimination.Memory) text = ⊥
-IsCause (Encode refusal.Large) text = ⊥
-IsCause (Encode (refusal.Overflow place)) text = text ≡ codes "overflow"
-IsCause (Encode refusal.Memory) text = ⊥
+abbrev pub IsFaultText : InterpolantFault → List ℕ → Type 0
+IsFaultText (Elim (elimination.Steps log)) text = text ≡ codes "steps"
+IsFaultText (Elim (elimination.Overflow log place)) text = text ≡ codes "overflow"
+IsFaultText (Elim elimination.Memory) text = ⊥
+IsFaultText (Encode refusal.Large) text = ⊥
+IsFaultText (Encode (refusal.Overflow place)) text = text ≡ codes "overflow"
+IsFaultText (Encode refusal.Memory) text = ⊥
 
 -- the text is the line that tells it
-abbrev pub TellsFault : InterpolantFault → List ℕ → Type 0
-TellsFault fault text = (cause : List ℕ) × IsCause fault cause × (text ≡ unknown_line cause)
+abbrev pub TellsInterpolantFault : InterpolantFault → List ℕ → Type 0
+TellsInterpolantFault fault text = (cause : List ℕ) × IsFaultText fault cause × (text ≡ unknown_line cause)
 
 -- the text is what the call for a formula with two proofs has met; there is none where memory was wanting
 abbrev pub IsMiddleCause : MiddleFault → List ℕ → Type 0

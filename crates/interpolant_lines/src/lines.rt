@@ -5,7 +5,7 @@ ghost use Rattle.encoding.specs.Problems.{is_large, parts_root, problem_root};
 ghost use Rattle.interpolant_lines.specs.Blocks.{IsBlocksText, IsLinesText, IsSeamLine, after_line, after_lines};
 ghost use Rattle.interpolant_lines.specs.Seams.{seams_of};
 ghost use Rattle.interpolant_lines.specs.Told.{TellsFormula};
-ghost use Rattle.pred_interpolant.specs.Middle.{IsOver};
+ghost use Rattle.pred_interpolant.specs.Middle.{IsOverProblem};
 ghost use Rattle.pri_typing.specs.Problems.{Holds, IsPlainlyValid, IsPure};
 ghost use Rattle.pri_typing.specs.WellFormed.{HasDistinctNames, HasIdentifiers, IsWellFormed};
 ghost use Rattle.std.specs.Prelude.{◌≡◌, ◌≢◌, ◌≤◌, ◌<◌, ◌^◌, ◌↔◌, ℕ, [], false, List, length, IfOk, None, OnOk};
@@ -168,7 +168,7 @@ fn middle_found(alloc: Global, p: &Problem, found: &MiddleFormula) -> Result<Vec
     requires well_formed { IsWellFormed p.now }
     requires distinct { HasDistinctNames p.now }
     requires identifiers { HasIdentifiers p.now }
-    requires over { IsOver p.now found.now }
+    requires over { IsOverProblem p.now found.now }
     ensures { IfOk result (λ text. TellsFormula p.now found.now text.items) }
 {
     match found {

@@ -3,7 +3,7 @@
 ghost use Rattle.function_encoding.specs.declared.answer.EncodeRefusal.TheVariants as refusal;
 ghost use Rattle.interpolant.specs.declared.fault.InterpolantFault.TheVariants.{Encode};
 ghost use Rattle.interpolant_lines.specs.Blocks.{unknown_line};
-ghost use Rattle.interpolant_lines.specs.Told.{IsCause, IsMiddleCause, IsTypedLine, TellsFault, TellsMiddleFault};
+ghost use Rattle.interpolant_lines.specs.Told.{IsFaultText, IsMiddleCause, IsTypedLine, TellsInterpolantFault, TellsMiddleFault};
 ghost use Rattle.pri_typing.specs.WellFormed.{HasDistinctNames, HasIdentifiers, IsWellFormed};
 ghost use Rattle.std.specs.Prelude.{◌≡◌, ◌≢◌, IfOk};
 ghost use Rattle.typed_formula.specs.Formula.{formula};
@@ -32,7 +32,7 @@ pub(crate) fn unknown_line(alloc: Global, cause: &[u8]) -> Result<Vec<u8>, Memor
 /// The line of a run that found none.
 pub(crate) fn fault_line(alloc: Global, fault: &InterpolantFault) -> Result<Vec<u8>, Memory>
     requires { fault.now ≢ Encode refusal.Large }
-    ensures { IfOk result (λ text. TellsFault fault.now text.items) }
+    ensures { IfOk result (λ text. TellsInterpolantFault fault.now text.items) }
 {
     let cause = cause(fault)?;
     unknown_line(alloc, cause)
@@ -41,7 +41,7 @@ pub(crate) fn fault_line(alloc: Global, fault: &InterpolantFault) -> Result<Vec<
 /// Why a run found none.
 fn cause(fault: &InterpolantFault) -> Result<&'static [u8], Memory>
     requires { fault.now ≢ Encode refusal.Large }
-    ensures { IfOk result (λ text. IsCause fault.now text.now) }
+    ensures { IfOk result (λ text. IsFaultText fault.now text.now) }
 {
     match fault {
         InterpolantFault::Elim(ElimFault::Steps(_)) => Ok(b"steps"),

@@ -1,6 +1,7 @@
 -- The job that the words after the program's name ask for.
 use Rattle.std.specs.Prelude.{◌≡◌, ◌≤◌, ℕ, Bool, true, false, List, [], ◌∷◌, Option, Some, None, codes, length, string_bytes}
 use Rattle.std.specs.Str.Parse.{digits_value, IsNumeral}
+use Rattle.limits.specs.Limits.{most_budget, most_count}
 use Rattle.answers.specs.declared.form.ProofForm.{ProofForm}
 use Rattle.answers.specs.declared.form.ProofForm.TheVariants.{Whole, Short}
 use Rattle.job_words.specs.declared.jobs.Job.{Job}
@@ -47,7 +48,7 @@ pub record IsNumber (most : ℕ) (text : Text) (n : ℕ) : Type 0 where
 -- a budget, by the values that its option is given: the usual one where there is none, and the number that one value writes
 abbrev pub IsBudget : List Text → ℕ → Type 0
 IsBudget [] n = n ≡ 50000000
-IsBudget (text ∷ []) n = IsNumber 1000000000 text n
+IsBudget (text ∷ []) n = IsNumber most_budget text n
 IsBudget (text ∷ more ∷ rest) n = ⊥
 
 -- the option of a command with a budget
@@ -105,7 +106,7 @@ pub record NamesDrill (line : List Text) (count budget : ℕ) : Type 0 where
   pub spells : Spells budget_option line us
   pub text : Text
   pub text_is : operands us ≡ text ∷ []
-  pub count_is : IsNumber 1000 text count
+  pub count_is : IsNumber most_count text count
   pub budget_is : IsBudget (values_of (codes "budget") us) budget
 
 -- the words name the job

@@ -3,6 +3,7 @@
 ghost use Rattle.clap.specs.Words.{first_value, found_of};
 ghost use Rattle.job_words.specs.Jobs.{IsBudget, IsNumber, NamesJob, Task, asks_short, asks_whole, task_of};
 ghost use Rattle.job_words.specs.Uses.{listed, Text};
+ghost use Rattle.limits.specs.Limits.{most_count};
 ghost use Rattle.std.specs.Prelude.{◌≡◌, ◌∷◌, ◌&&◌, ℕ, List, map, codes, string_bytes, true, false, None, Some, IfOk, IfErr, MatchResult};
 
 use crate::commands::{
@@ -12,13 +13,8 @@ use crate::jobs::{Job, WordsFault};
 use crate::numbers::number;
 use answers::ProofForm;
 use clap::ArgMatches;
+use limits::{MOST_BUDGET, MOST_COUNT};
 use std::alloc::Global;
-
-// The greatest size of a problem that the program makes.
-const MOST_COUNT: u64 = 1_000;
-
-// The greatest budget.
-const MOST: u64 = 1_000_000_000;
 
 // The budget where none is given.
 const USUAL: u64 = 50_000_000;
@@ -147,8 +143,8 @@ fn asked_form(whole: bool, short: bool) -> Result<Option<ProofForm>, WordsFault>
 
 // The number that the operand of `drill` writes.
 fn count_in(matches: &ArgMatches<'_>) -> Result<u32, WordsFault>
-    ensures found { IfOk result (λ n. (text : Text) × (Some text ≡ first_value (found_of matches.now) (codes "COUNT")) × IsNumber 1000 text n) }
-    ensures missing { IfErr result (λ e. (text : Text) → Some text ≡ first_value (found_of matches.now) (codes "COUNT") → (n : ℕ) → IsNumber 1000 text n → ⊥) }
+    ensures found { IfOk result (λ n. (text : Text) × (Some text ≡ first_value (found_of matches.now) (codes "COUNT")) × IsNumber most_count text n) }
+    ensures missing { IfErr result (λ e. (text : Text) → Some text ≡ first_value (found_of matches.now) (codes "COUNT") → (n : ℕ) → IsNumber most_count text n → ⊥) }
 {
     let Some(text) = matches.get_str("COUNT") else {
         return Err(WordsFault::Words);
@@ -165,7 +161,7 @@ fn budget_in(matches: &ArgMatches<'_>) -> Result<u64, WordsFault>
         (λ e. (n : ℕ) → IsBudget (listed (first_value (found_of matches.now) (codes "budget"))) n → ⊥) }
 {
     match matches.get_str("budget") {
-        Some(text) => match number(text, MOST) {
+        Some(text) => match number(text, MOST_BUDGET) {
             Some(n) => Ok(n),
             None => Err(WordsFault::Words),
         },

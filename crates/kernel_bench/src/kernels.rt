@@ -145,7 +145,7 @@ fn bound(alloc: Global, a: i8, own: u32, i: u16) -> Result<Literal, StepFault>
 }
 
 /// This many lower bounds and as many upper bounds of x_0.
-#[tactic(auto, using(performed_rules::proofs::Results::pushing))]
+#[tactic(auto, using(rule_code::proofs::Results::pushing))]
 fn bounds(alloc: Global, size: u16) -> Result<Items<Literal>, StepFault>
     ensures { IfOk result (λ ls. All HasDivisor ls) }
 {
@@ -184,7 +184,7 @@ fn joint(alloc: Global, i: u32) -> Result<Literal, StepFault>
 }
 
 /// This many literals, of every other name from `first` on.
-#[tactic(auto, using(performed_rules::proofs::Results::pushing))]
+#[tactic(auto, using(rule_code::proofs::Results::pushing))]
 fn joints(alloc: Global, first: u32, size: u16) -> Result<Items<Literal>, StepFault>
     ensures { IfOk result (λ ls. All HasDivisor ls) }
 {

@@ -4,7 +4,7 @@ use Rattle.linear_term.specs.Linear.{Linear}
 use Rattle.purse.specs.Trace.{Funds, Traced}
 use Rattle.clause_set.specs.declared.literal.Literal.{Literal}
 use Rattle.typed_formula.specs.Formula.{Expression}
-use Rattle.least_rules.specs.Least.{Minimum, nothing, no_least, least_at, minimising}
+use Rattle.least_laws.specs.Least.{Minimum, nothing, no_least, least_at, minimising}
 use Rattle.pri_reader.specs.declared.tree.ReadRefusal.TheVariants as reading
 use Rattle.pri_typing.specs.declared.problem.Problem.{Problem}
 use Rattle.pri_typing.specs.declared.problem.TypeRefusal.TheVariants as typing
@@ -20,7 +20,7 @@ use Rattle.least_job.specs.Objective.{IsObjective}
 use Rattle.least_job.specs.Leasts.{AnswersConstraint, AnswersLeast, AnswersMinimum, AnswersObjective, AnswersWork, IsLeastAnswer, constraint_of, gives, objective_of, overflow, refused_text, stated, steps}
 use Rattle.least_job.specs.Outcomes.{Outcome, said, out_of_steps, overflows, constraint_outcome, ended_with, least_outcome, minimum_outcome, outcome_answer, outcome_of}
 use Rattle.least_job.specs.Causes as cause
-use Rattle.least_job.specs.Causes.{Causes, Ends, IsMinimised, IsRefused, PosesNoObjective, PosesTerm}
+use Rattle.least_job.specs.Causes.{LeastCauses, LeastEnds, IsMinimised, IsLeastRefused, PosesNoObjective, PosesTerm}
 use Rattle.least_job.proofs.Exactly.{Tells, objective_answered, one_answer}
 use Rattle.least_job.proofs.Objectives.{one_objective}
 
@@ -103,7 +103,7 @@ told_outcome p overflows z = cc
 -- what an answer with this property comes of, where refusals have it not
 from_end : (term : List ℕ) (budget : ℕ) (bytes : List ℕ) (a : Answer) (P : Answer → Type 0) (Q : Outcome → Type 0) → ((name : List ℕ) → ¬ (P (refused_answer name)))
     → ((p : Problem) (o : Outcome) → P (outcome_answer p o) → Q o) → IsLeastAnswer term budget bytes a → P a
-    → (P (unknown_answer (codes "overflow")) × PosesTerm term bytes (λ p x. LeavesRange p)) ⊎ Ends term budget bytes Q
+    → (P (unknown_answer (codes "overflow")) × PosesTerm term bytes (λ p x. LeavesRange p)) ⊎ LeastEnds term budget bytes Q
 from_end term budget bytes a P Q none some (refused r h e) is = absurd (none (refusal_name r) (subst P e is))
 from_end term budget bytes a P Q none some (posed p h (impure at k e)) is = absurd (none (placed (codes "Impure") at) (subst P e is))
 from_end term budget bytes a P Q none some (posed p h (pure k (refused_text n e))) is = absurd (none (codes "Objective") (subst P e is))
@@ -119,7 +119,7 @@ second_of : {A B C : Type 0} → ((A × B) ⊎ C) → B ⊎ C
 second_of (inl x) = inl x.1
 second_of (inr y) = inr y
 
-refused_by : (term : List ℕ) (budget : ℕ) (bytes : List ℕ) (a : Answer) → IsLeastAnswer term budget bytes a → a.status ≡ 3 → IsRefused term bytes
+refused_by : (term : List ℕ) (budget : ℕ) (bytes : List ℕ) (a : Answer) → IsLeastAnswer term budget bytes a → a.status ≡ 3 → IsLeastRefused term bytes
 refused_by term budget bytes a (refused r h e) z = cause.first r h
 refused_by term budget bytes a (posed p h (impure at k e)) z = cause.impure at (p, h, k)
 refused_by term budget bytes a (posed p h (pure k (refused_text n e))) z = cause.no_objective (p, h, (k, n))
@@ -154,7 +154,7 @@ objective_by term budget bytes a (posed p h (pure k (stated x o (runs f r)))) z 
 -- ---- from a cause to its answer
 
 -- where the work comes out so, the answer is that of the outcome
-ended : (term : List ℕ) (budget : ℕ) (bytes : List ℕ) (a : Answer) (o : Outcome) → IsLeastAnswer term budget bytes a → (h : Ends term budget bytes (λ z. z ≡ o)) → a ≡ outcome_answer h.0 o
+ended : (term : List ℕ) (budget : ℕ) (bytes : List ℕ) (a : Answer) (o : Outcome) → IsLeastAnswer term budget bytes a → (h : LeastEnds term budget bytes (λ z. z ≡ o)) → a ≡ outcome_answer h.0 o
 ended term budget bytes a o answered h =
     ends_so term budget bytes a answered h.0 h.2.1.0 h.1 h.2.0 h.2.1.1 h.2.1.2.0 ∙ ap (outcome_answer h.0) h.2.1.2.1
 
@@ -163,30 +163,30 @@ minimised_status p nothing h = absurd (h refl)
 minimised_status p no_least h = refl
 minimised_status p (least_at k vs) h = refl
 
-found_so : (term : List ℕ) (budget : ℕ) (bytes : List ℕ) (a : Answer) → IsLeastAnswer term budget bytes a → Ends term budget bytes IsMinimised → a.status ≡ 0
+found_so : (term : List ℕ) (budget : ℕ) (bytes : List ℕ) (a : Answer) → IsLeastAnswer term budget bytes a → LeastEnds term budget bytes IsMinimised → a.status ≡ 0
 found_so term budget bytes a answered h =
     let is = h.2.1.2.1 in
     ap status_of (ends_so term budget bytes a answered h.0 h.2.1.0 h.1 h.2.0 h.2.1.1 h.2.1.2.0 ∙ ap (outcome_answer h.0) is.1) ∙ minimised_status h.0 is.0 is.2
 
-refused_status : (term : List ℕ) (budget : ℕ) (bytes : List ℕ) (a : Answer) → IsLeastAnswer term budget bytes a → IsRefused term bytes → a.status ≡ 3
+refused_status : (term : List ℕ) (budget : ℕ) (bytes : List ℕ) (a : Answer) → IsLeastAnswer term budget bytes a → IsLeastRefused term bytes → a.status ≡ 3
 refused_status term budget bytes a answered (cause.first r h) = ap status_of (one_answer term budget bytes a _ answered (refused r h refl))
 refused_status term budget bytes a answered (cause.impure at h) = ap status_of (one_answer term budget bytes a _ answered (posed h.0 h.1 (impure at h.2 refl)))
 refused_status term budget bytes a answered (cause.no_objective h) = ap status_of (one_answer term budget bytes a _ answered (posed h.0 h.1 (pure h.2.0 (refused_text h.2.1 refl))))
 refused_status term budget bytes a answered (cause.too_large h) = ap status_of (one_answer term budget bytes a _ answered (posed h.0 h.1 (pure h.2.0 (stated h.2.1.0 h.2.1.1 (large h.2.1.2 refl)))))
 
 -- the text of a refusal comes of that refusal alone
-only_first : (term : List ℕ) (budget : ℕ) (bytes : List ℕ) (a : Answer) → IsLeastAnswer term budget bytes a → (r : Refusal) → a ≡ refused_answer (refusal_name r) → IsRefused term bytes → ComesOf bytes r
+only_first : (term : List ℕ) (budget : ℕ) (bytes : List ℕ) (a : Answer) → IsLeastAnswer term budget bytes a → (r : Refusal) → a ≡ refused_answer (refusal_name r) → IsLeastRefused term bytes → ComesOf bytes r
 only_first term budget bytes a answered r e (cause.first q h) = comes_of bytes a r q e h (one_answer term budget bytes a _ answered (refused q h refl))
 only_first term budget bytes a answered r e (cause.impure at h) = absurd (not_impure a r at e (one_answer term budget bytes a _ answered (posed h.0 h.1 (impure at h.2 refl))))
 only_first term budget bytes a answered r e (cause.no_objective h) = absurd (not_objective r (sym e ∙ one_answer term budget bytes a _ answered (posed h.0 h.1 (pure h.2.0 (refused_text h.2.1 refl)))))
 only_first term budget bytes a answered r e (cause.too_large h) = absurd (not_large a r e (one_answer term budget bytes a _ answered (posed h.0 h.1 (pure h.2.0 (stated h.2.1.0 h.2.1.1 (large h.2.1.2 refl))))))
 
-overflow_so : (term : List ℕ) (budget : ℕ) (bytes : List ℕ) (a : Answer) → IsLeastAnswer term budget bytes a → PosesTerm term bytes (λ p x. LeavesRange p) ⊎ Ends term budget bytes (λ o. o ≡ overflows)
+overflow_so : (term : List ℕ) (budget : ℕ) (bytes : List ℕ) (a : Answer) → IsLeastAnswer term budget bytes a → PosesTerm term bytes (λ p x. LeavesRange p) ⊎ LeastEnds term budget bytes (λ o. o ≡ overflows)
     → a ≡ unknown_answer (codes "overflow")
 overflow_so term budget bytes a answered (inl h) = one_answer term budget bytes a _ answered (posed h.0 h.1 (pure h.2.0 (stated h.2.1.0 h.2.1.1 (leaves h.2.1.2 refl))))
 overflow_so term budget bytes a answered (inr h) = ended term budget bytes a overflows answered h
 
-pub causes : (term : List ℕ) (budget : ℕ) (bytes : List ℕ) (a : Answer) → IsLeastAnswer term budget bytes a → Causes term budget bytes a
+pub causes : (term : List ℕ) (budget : ℕ) (bytes : List ℕ) (a : Answer) → IsLeastAnswer term budget bytes a → LeastCauses term budget bytes a
 causes term budget bytes a answered = record {
   ends = ends_so term budget bytes a answered;
   found = (

@@ -7,12 +7,12 @@ use Rattle.typed_formula.specs.Truth.{Meaning, HasValue}
 use Rattle.pri_typing.specs.declared.problem.Problem.{Problem}
 use Rattle.pri_typing.specs.Problems.{Holds}
 use Rattle.encoding.specs.Plain.{IsPlain}
-use Rattle.least_rules.specs.Least.{Minimum, nothing, no_least, least_at, minimising}
+use Rattle.least_laws.specs.Least.{Minimum, nothing, no_least, least_at, minimising}
 use Rattle.least_meaning.specs.Meaning.{LeastMeans, plain_value}
 use Rattle.least_meaning.proofs.Terms.{plain_has}
 use Rattle.answers.specs.Answer.{Answer}
 use Rattle.problem_file.proofs.Bytes.{reads_formed, reads_pure}
-use Rattle.least_job.specs.Decides.{Decides, IsDecided}
+use Rattle.least_job.specs.Decides.{LeastDecides, IsLeastDecided}
 use Rattle.least_job.specs.Leasts.{IsLeastAnswer, constraint_of, minimum_answer, objective_of}
 use Rattle.least_job.specs.Outcomes.{Outcome, said, out_of_steps, overflows, constraint_outcome, ended_with, least_outcome, minimum_outcome, outcome_answer}
 use Rattle.least_job.proofs.Causing.{ends_so}
@@ -55,7 +55,7 @@ no_less v k h g = omega (arith, ints, h, g)
 has : (w : Meaning) (x : Expression) (e : List ℤ) (P : ℤ → Type 0) → IsPlain x → HasValue w x e P → P (plain_value x e)
 has w x e P plain h = subst (λ (A : Type 0). A) (plain_has w x e P plain) h
 
-minimum_decides : (w : Meaning) (p : Problem) (x : Expression) (m : Minimum) (a : Answer) → IsPlain x → LeastMeans w (Holds w p) (length p.existentials) x m → a ≡ minimum_answer p m → Decides w p x a
+minimum_decides : (w : Meaning) (p : Problem) (x : Expression) (m : Minimum) (a : Answer) → IsPlain x → LeastMeans w (Holds w p) (length p.existentials) x m → a ≡ minimum_answer p m → LeastDecides w p x a
 minimum_decides w p x nothing a plain means e = record {
   decided = inr (ap status_of e);
   unsatisfied = (λ z v h. means v h.many h, λ h. ap status_of e);
@@ -77,10 +77,10 @@ minimum_decides w p x (least_at k vs) a plain means e = record {
   );
 }
 
-pub decides : (w : Meaning) (term : List ℕ) (budget : ℕ) (bytes : List ℕ) (a : Answer) (p : Problem) (x : Expression) → IsLeastAnswer term budget bytes a → IsDecided term budget bytes p x → Decides w p x a
+pub decides : (w : Meaning) (term : List ℕ) (budget : ℕ) (bytes : List ℕ) (a : Answer) (p : Problem) (x : Expression) → IsLeastAnswer term budget bytes a → IsLeastDecided term budget bytes p x → LeastDecides w p x a
 decides w term budget bytes a p x answered h = by (least_outcome budget x p) refl
   where
-    by : (o : Outcome) → least_outcome budget x p ≡ o → Decides w p x a
+    by : (o : Outcome) → least_outcome budget x p ≡ o → LeastDecides w p x a
     by (said m) is =
         let formed = reads_formed bytes p h.poses.reads in
         let without = (reads_pure bytes p h.poses.reads).0 h.pure in

@@ -5,9 +5,9 @@ use Rattle.linear_term.specs.Linear.{Linear}
 use Rattle.purse.specs.Trace.{At, Funds, Traced, done}
 use Rattle.clause_set.specs.declared.literal.Literal.{Literal}
 use Rattle.formula.specs.Form.{Form}
-use Rattle.elim_rules.specs.Whole.{eliminating}
+use Rattle.elim_laws.specs.Whole.{eliminating}
 use Rattle.typed_formula.specs.Formula.{Expression}
-use Rattle.least_rules.specs.Least.{Minimum, nothing, no_least, least_at, minimising}
+use Rattle.least_laws.specs.Least.{Minimum, nothing, no_least, least_at, minimising}
 use Rattle.pri_typing.specs.declared.problem.Problem.{Problem}
 use Rattle.pri_typing.specs.Phrase.{phrase}
 use Rattle.pri_typing.specs.Terms.{IsTermOf}

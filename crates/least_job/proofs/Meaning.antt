@@ -7,15 +7,15 @@ use Rattle.purse.specs.Trace.{Funds, Traced}
 use Rattle.clause_set.specs.Literals.{dnf_truth}
 use Rattle.formula.specs.Form.{Form, IsFormOver}
 use Rattle.formula.specs.Sizes.{depth}
-use Rattle.elim_rules.specs.Elimination.{Tells}
-use Rattle.elim_rules.specs.Presburger.{IsPresburger}
-use Rattle.elim_rules.specs.Whole.{AreOver, Expresses, eliminating}
-use Rattle.elim_rules.proofs.Over.{eliminated-over}
-use Rattle.elim_rules.proofs.Reduced.{presburger_of}
-use Rattle.elim_rules.proofs.Whole.{anywhere, eliminating-exact, tells_map}
-use Rattle.solution_rules.specs.Solutions.{IsGiven}
-use Rattle.least_rules.specs.Least.{IsMinimum, Minimum, nothing, no_least, least_at, minimising}
-use Rattle.least_rules.proofs.Least.{least-exact}
+use Rattle.elim_laws.specs.Elimination.{Reflects}
+use Rattle.elim_laws.specs.Presburger.{IsPresburger}
+use Rattle.elim_laws.specs.Whole.{AreOver, Expresses, eliminating}
+use Rattle.elim_laws.proofs.Over.{eliminated-over}
+use Rattle.elim_laws.proofs.Reduced.{presburger_of}
+use Rattle.elim_laws.proofs.Whole.{anywhere, eliminating-exact, tells_map}
+use Rattle.solution_laws.specs.Solutions.{IsGiven}
+use Rattle.least_laws.specs.Least.{IsMinimum, Minimum, nothing, no_least, least_at, minimising}
+use Rattle.least_laws.proofs.Least.{least-exact}
 use Rattle.typed_formula.specs.Formula.{Expression}
 use Rattle.typed_formula.specs.Truth.{Meaning, HasValue}
 use Rattle.pri_typing.specs.declared.problem.Problem.{Problem}
@@ -99,7 +99,7 @@ found_means w p x m formed without plain linear is =
 has_value : (w : Meaning) (x : Expression) (e : List ℤ) (k : ℤ) → IsPlain x → HasValue w x e (λ v. v ≡ k) → plain_value x e ≡ k
 has_value w x e k plain h = subst (λ (A : Type 0). A) (plain_has w x e (λ v. v ≡ k) plain) h
 
-true_where : (b : Bool) (P : Type 0) → Tells b P → P → b ≡ true
+true_where : (b : Bool) (P : Type 0) → Reflects b P → P → b ≡ true
 true_where true P t h = refl
 true_where false P t h = absurd (t.no refl h)
 

@@ -18,18 +18,18 @@ use Rattle.clause_set.proofs.Kept.{Denies, Each, conjunction-kept, disjunction-k
 use Rattle.clause_set.proofs.Negations.{alone, less, more, less_is, more_is}
 use Rattle.clause_set.proofs.Primitive.{IsNormalLiteral, normal-keeps}
 use Rattle.clause_set.proofs.Shapes.{clauses_of-formed, clauses-shaped, conjunction-formed, disjunction-formed, formed-denies, negation-formed, shaped, tidied-formed}
-use Rattle.equation_rules.proofs.Lists.{kept-weaker}
+use Rattle.equation_laws.proofs.Lists.{kept-weaker}
 use Rattle.formula.specs.Form as tree
 use Rattle.formula.specs.Form.{Form, Forms}
 use Rattle.formula.specs.Duals.{dual}
 use Rattle.formula.specs.Sizes.{depth, depths}
-use Rattle.elim_rules.specs.Elimination.{exists_name}
-use Rattle.elim_rules.specs.Presburger.{IsPresburger, ArePresburger}
-use Rattle.elim_rules.specs.Whole.{all_of, any_of, eliminated, eliminating}
-use Rattle.elim_rules.proofs.Duals.{dual-depth, dual-proper}
-use Rattle.elim_rules.proofs.Forms.{formed-literals, negated_literal-formed, top-formed}
-use Rattle.elim_rules.proofs.Taking.{exists_name-out}
-use Rattle.solution_rules.proofs.Outs.{exists_name-shaped}
+use Rattle.elim_laws.specs.Elimination.{exists_name}
+use Rattle.elim_laws.specs.Presburger.{IsPresburger, ArePresburger}
+use Rattle.elim_laws.specs.Whole.{all_of, any_of, eliminated, eliminating}
+use Rattle.elim_laws.proofs.Duals.{dual-depth, dual-proper}
+use Rattle.elim_laws.proofs.Forms.{formed-literals, negated_literal-formed, top-formed}
+use Rattle.elim_laws.proofs.Taking.{exists_name-out}
+use Rattle.solution_laws.proofs.Outs.{exists_name-shaped}
 use Rattle.typed_formula.specs.Formula.{Expression, Expressions, number, name, call, minus, total, product, choice, absolute, lesser, greater, no_expression, and_expression}
 use Rattle.pri_typing.specs.WellFormed.{is_numeric}
 use Rattle.encoding.specs.Encoding.{named, multiple, product_of}

@@ -13,7 +13,7 @@ use Rattle.purse.specs.declared.log.ElimLog.{ElimLog}
 use Rattle.clause_set.specs.declared.literal.Literal.{Literal}
 use Rattle.formula.specs.Form.{IsFormOver, is_pure}
 use Rattle.formula.specs.Tree.{form}
-use Rattle.elim_rules.specs.Whole.{AreOver, eliminating}
+use Rattle.elim_laws.specs.Whole.{AreOver, eliminating}
 use Rattle.typed_formula.specs.Formula.{Expression}
 use Rattle.pri_typing.specs.declared.problem.Problem.{Problem}
 use Rattle.pri_typing.specs.Problems.{IsPure}
@@ -21,7 +21,7 @@ use Rattle.encoding.specs.Plain.{IsPlain, linear_of}
 use Rattle.encoding.specs.Problems.{problem_root}
 use Rattle.encoding.specs.Root.{names_from}
 use Rattle.function_encoding.specs.declared.answer.Encoded.{Encoded}
-use Rattle.least_rules.specs.Least.{Minimum}
+use Rattle.least_laws.specs.Least.{Minimum}
 use Rattle.least_meaning.proofs.Terms.{over_all}
 use Rattle.optimiser.specs.Answers.{Minimises}
 use Rattle.problem_file.specs.Encoded.{AnswersEncoded, IsEncoded}

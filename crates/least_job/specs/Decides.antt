@@ -13,7 +13,7 @@ use Rattle.least_job.specs.Meaning.{IsUnboundedOver}
 
 -- the bytes pose the problem, which has no application and whose encoding fits, and the text is the term; with this budget the work
 -- for it comes to its end
-pub record IsDecided (term : List ℕ) (budget : ℕ) (bytes : List ℕ) (p : Problem) (x : Expression) : Type 0 where
+pub record IsLeastDecided (term : List ℕ) (budget : ℕ) (bytes : List ℕ) (p : Problem) (x : Expression) : Type 0 where
   pub poses : Poses bytes p
   pub pure : p.first_application ≡ None
   pub stated : IsObjective p term x
@@ -23,7 +23,7 @@ pub record IsDecided (term : List ℕ) (budget : ℕ) (bytes : List ℕ) (p : Pr
 
 -- the answer is that nothing satisfies the problem exactly where it holds nowhere, and that the term is unbounded exactly where it
 -- has values below every integer where the problem holds; else it is a least value
-pub record Decides (w : Meaning) (p : Problem) (x : Expression) (answer : Answer) : Type 0 where
+pub record LeastDecides (w : Meaning) (p : Problem) (x : Expression) (answer : Answer) : Type 0 where
   pub decided : (answer.status ≡ 0) ⊎ (answer.status ≡ 1)
   pub unsatisfied : (answer.status ≡ 1) ↔ ((e : List ℤ) → ¬ (Holds w p e))
   pub unbounded : (answer ≡ says_line 0 (codes "unbounded")) ↔ IsUnboundedOver w p x

@@ -7,7 +7,7 @@ use Rattle.purse.specs.declared.fault.ElimFault.{ElimFault}
 use Rattle.purse.specs.declared.fault.ElimFault.TheVariants as fault
 use Rattle.purse.specs.Trace.{At, Funds, Traced, at, cut, done, out_of_range, refused}
 use Rattle.clause_set.specs.declared.literal.Literal.{Literal}
-use Rattle.elim_rules.specs.Whole.{eliminating}
+use Rattle.elim_laws.specs.Whole.{eliminating}
 use Rattle.typed_formula.specs.Formula.{Expression}
 use Rattle.pri_typing.specs.declared.problem.Problem.{Problem}
 use Rattle.pri_printer.specs.Printed.{solution_text}
@@ -17,7 +17,7 @@ use Rattle.encoding.specs.Root.{names_from}
 use Rattle.answers.specs.Answer.{Answer, line, refused_answer, says_line, unknown_answer}
 use Rattle.problem_file.specs.Answers.{AnswersFile}
 use Rattle.problem_file.specs.Encoded.{AnswersEncoded, AnswersPure}
-use Rattle.least_rules.specs.Least.{Minimum, nothing, no_least, least_at, minimising}
+use Rattle.least_laws.specs.Least.{Minimum, nothing, no_least, least_at, minimising}
 use Rattle.least_job.specs.Objective.{IsObjective, IsNoObjective}
 
 -- the line of the best values; there is none without existential constants
@@ -49,9 +49,9 @@ IsToldCut (fault.Overflow log place) answer = answer ≡ unknown_answer (codes "
 IsToldCut fault.Memory answer = ⊥
 
 -- a value for each existential constant, where there is a least value
-abbrev pub HasValues : Problem → Minimum → Type 0
-HasValues p (least_at k vs) = length vs ≡ length p.existentials
-HasValues p _ = Unit {0}
+abbrev pub HasLeastValues : Problem → Minimum → Type 0
+HasLeastValues p (least_at k vs) = length vs ≡ length p.existentials
+HasLeastValues p _ = Unit {0}
 
 -- the linear term that the term is
 abbrev pub objective_of : Problem → Expression → Traced Linear

@@ -3,7 +3,7 @@ use Rattle.std.specs.Prelude.{◌≡◌, ◌⊎◌, ◌<◌, ◌≤ℤ◌, ◌<�
 use Rattle.integers.specs.Entry.{entry}
 use Rattle.typed_formula.specs.Formula.{Expression}
 use Rattle.typed_formula.specs.Truth.{Meaning, HasValue}
-use Rattle.solution_rules.specs.Best.{IsNearer}
+use Rattle.solution_laws.specs.Best.{IsNearer}
 use Rattle.pri_typing.specs.declared.problem.Problem.{Problem}
 use Rattle.pri_typing.specs.Problems.{Holds}
 use Rattle.answers.specs.Answer.{Answer, line}

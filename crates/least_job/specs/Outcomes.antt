@@ -6,7 +6,7 @@ use Rattle.clause_set.specs.declared.literal.Literal.{Literal}
 use Rattle.typed_formula.specs.Formula.{Expression}
 use Rattle.pri_typing.specs.declared.problem.Problem.{Problem}
 use Rattle.answers.specs.Answer.{Answer, unknown_answer}
-use Rattle.least_rules.specs.Least.{Minimum, minimising}
+use Rattle.least_laws.specs.Least.{Minimum, minimising}
 use Rattle.least_job.specs.Leasts.{constraint_of, minimum_answer, objective_of}
 
 -- what is said of the least value; or the budget ends, or a number leaves the range

@@ -1,8 +1,8 @@
 // What the answers of `least` are and mean, each the contract of a function with nothing to do.
 
 ghost use Rattle.answers.specs.Answer.{Answer};
-ghost use Rattle.least_job.specs.Causes.{Causes};
-ghost use Rattle.least_job.specs.Decides.{Decides, IsDecided};
+ghost use Rattle.least_job.specs.Causes.{LeastCauses};
+ghost use Rattle.least_job.specs.Decides.{LeastDecides, IsLeastDecided};
 ghost use Rattle.least_job.specs.Leasts.{IsLeastAnswer};
 ghost use Rattle.least_job.specs.Meaning.{LeastAnswers};
 ghost use Rattle.pri_typing.specs.declared.problem.Problem.{Problem};
@@ -24,11 +24,11 @@ pub fn meaning_law()
 
 /// Each answer comes exactly where its row of the table of answers says.
 pub fn causes_law()
-    ensures { (term : List ℕ) (budget : ℕ) (bytes : List ℕ) (a : Answer) → IsLeastAnswer term budget bytes a → Causes term budget bytes a }
+    ensures { (term : List ℕ) (budget : ℕ) (bytes : List ℕ) (a : Answer) → IsLeastAnswer term budget bytes a → LeastCauses term budget bytes a }
 {}
 
 /// A problem and a term whose work comes to its end are told to hold nowhere, or to be without a least value, exactly where they are
 /// so, in whatever interpretation; else they get their least value.
 pub fn decided_law()
-    ensures { (w : Meaning) (term : List ℕ) (budget : ℕ) (bytes : List ℕ) (a : Answer) (p : Problem) (x : Expression) → IsLeastAnswer term budget bytes a → IsDecided term budget bytes p x → Decides w p x a }
+    ensures { (w : Meaning) (term : List ℕ) (budget : ℕ) (bytes : List ℕ) (a : Answer) (p : Problem) (x : Expression) → IsLeastAnswer term budget bytes a → IsLeastDecided term budget bytes p x → LeastDecides w p x a }
 {}

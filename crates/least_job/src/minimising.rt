@@ -4,7 +4,7 @@ ghost use Rattle.answers.specs.Answer.{answer_of};
 ghost use Rattle.encoding.specs.Plain.{IsPlain};
 ghost use Rattle.least_job.specs.Leasts.{AnswersConstraint, AnswersLeast, AnswersMinimum, AnswersObjective, IsLeastAnswer, IsToldCut};
 ghost use Rattle.linear_term.specs.Linear.{IsOver};
-ghost use Rattle.elim_rules.specs.Whole.{AreOver};
+ghost use Rattle.elim_laws.specs.Whole.{AreOver};
 ghost use Rattle.plain_terms.specs.Plain.{IsTermRanged};
 ghost use Rattle.pri_typing.specs.Problems.{IsPure};
 ghost use Rattle.pri_typing.specs.WellFormed.{IsWellFormed};

@@ -1,6 +1,7 @@
 // The term whose least value is asked for.
 
 ghost use Rattle.least_job.specs.Objective.{IsNoObjective, IsObjective};
+ghost use Rattle.limits.specs.Limits.{most_constants};
 ghost use Rattle.pri_typing.specs.WellFormed.{IsWellFormed};
 ghost use Rattle.std.specs.Prelude.{◌≤◌, IfOk, MatchOption, length};
 ghost use Rattle.typed_formula.specs.Formula.{expression};
@@ -19,7 +20,7 @@ pub(crate) fn objective(
     problem: &Problem,
     text: &[u8],
 ) -> Result<Option<TypedTerm>, Memory>
-    requires { length problem.now.existentials ≤ 1000 }
+    requires { length problem.now.existentials ≤ most_constants }
     ensures { IfOk result (λ found. MatchOption found (IsNoObjective problem.now text.now) (λ t. IsObjective problem.now text.now (expression t))) }
 {
     let Some(expr) = read_term(alloc, text)? else {

@@ -1,7 +1,7 @@
 // How what is found of the least value is told.
 
 ghost use Rattle.answers.specs.Answer.{answer_of};
-ghost use Rattle.least_job.specs.Leasts.{HasValues, least_text, minimum_answer, values_line};
+ghost use Rattle.least_job.specs.Leasts.{HasLeastValues, least_text, minimum_answer, values_line};
 ghost use Rattle.optimiser.specs.Answers.{minimum_of};
 ghost use Rattle.std.specs.Prelude.{◌≡◌, codes, IfOk, length};
 
@@ -15,7 +15,7 @@ use std::alloc::Global;
 
 /// The answer with what is found of the least value.
 pub(crate) fn told(alloc: Global, problem: &Problem, found: &Least) -> Result<Output, Memory>
-    requires { HasValues problem.now (minimum_of found.now) }
+    requires { HasLeastValues problem.now (minimum_of found.now) }
     ensures { IfOk result (λ output. answer_of output ≡ minimum_answer problem.now (minimum_of found.now)) }
 {
     match found {

@@ -3,11 +3,11 @@ use Rattle.std.proofs.Common.{◌≡◌, ℕ, ℤ, ◌≤ℤ◌, ◌<ℤ◌, Boo
 use Rattle.linear_term.specs.Linear.{value_of}
 use Rattle.clause_set.specs.declared.literal.Literal.{Literal}
 use Rattle.clause_set.specs.Literals.{dnf_truth}
-use Rattle.elim_rules.specs.Elimination.{Tells}
-use Rattle.elim_rules.specs.Whole.{Expresses}
+use Rattle.elim_laws.specs.Elimination.{Reflects}
+use Rattle.elim_laws.specs.Whole.{Expresses}
 use Rattle.typed_formula.specs.Formula.{Expression}
 use Rattle.typed_formula.specs.Truth.{Meaning, HasValue}
-use Rattle.least_rules.specs.Least.{Minimum, nothing, no_least, least_at, IsMinimum}
+use Rattle.least_laws.specs.Least.{Minimum, nothing, no_least, least_at, IsMinimum}
 use Rattle.encoding.specs.Root.{names_from}
 use Rattle.encoding.specs.Plain.{IsPlain, linear_of}
 use Rattle.encoding.proofs.Products.{IsTermLinear}
@@ -17,7 +17,7 @@ use Rattle.least_meaning.proofs.Terms.{plain_has, value_is, reads_all}
 has : (w : Meaning) (x : Expression) (e : List ℤ) (P : ℤ → Type 0) → IsPlain x → P (plain_value x e) → HasValue w x e P
 has w x e P p h = subst (λ (A : Type 0). A) (sym (plain_has w x e P p)) h
 
-true_at : (b : Bool) (P : Type 0) → Tells b P → P → b ≡ true
+true_at : (b : Bool) (P : Type 0) → Reflects b P → P → b ≡ true
 true_at true P t h = refl
 true_at false P t h = absurd (t.no refl h)
 

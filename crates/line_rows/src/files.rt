@@ -1,11 +1,11 @@
 // Files that hold a proof, and where others are refused.
 
-use proof_lines::{Lines, ProofRefusal, body};
+use proof_file::{Lines, ProofRefusal, body};
+use proof_reader::read_tree;
 use proof_tree::Conclusion;
 use row_texts::PROOF;
 use sequent::Pick;
 use std::alloc::{AllocError, Global};
-use tree_reading::read_tree;
 
 /// What a file is: a proof for so many charges, or refused at a place.
 #[derive(Clone, Copy, Debug, PartialEq, Eq)]

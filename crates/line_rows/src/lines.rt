@@ -1,7 +1,7 @@
 // The lines that a proof's text gives, one by one.
 
-use proof_lines::{Lines, holds_one_law, refused_law};
-use proof_stream::{Line, ProofLines};
+use line_source::{Line, ProofLines};
+use proof_file::{Lines, holds_one_law, refused_law};
 use sequent::Pick;
 use std::alloc::{AllocError, Global};
 

@@ -2,12 +2,12 @@
 
 use crate::files::{Answer, by_lines, by_tree};
 use crate::lines::{Step, next_step};
-use proof_lines::Lines;
-use proof_stream::ProofLines;
+use line_source::ProofLines;
+use proof_file::Lines;
+use proof_reader::read_tree;
 use proof_tree::Conclusion;
 use sequent::Pick;
 use std::alloc::AllocError;
-use tree_reading::read_tree;
 
 // Two logs and the conclusion use the second part; the first one goes unused.
 const USED: &str =

@@ -1,11 +1,12 @@
 // Calls for the tests of proofs: what a check answers, of a tree and line by line.
 
 use crate::asked::Asked;
-use proof_lines::ProofRefusal;
+use limits::MOST_BUDGET;
+use proof_file::ProofRefusal;
+use proof_reader::read_tree;
 use proof_tree::{Tree, Verdict};
 use std::alloc::Global;
 use tree_checker::{CheckFault, Checked, TextFault, check, check_text};
-use tree_reading::read_tree;
 
 /// What a check answers.
 #[derive(Clone, Copy, Debug, PartialEq, Eq)]
@@ -32,7 +33,7 @@ fn accepted(checked: &Checked) -> Told {
 /// The answer to a tree.
 #[tactic(auto, using(crate::proofs::Limits::limits))]
 pub(crate) fn told_of_tree(alloc: Global, asked: Asked, tree: &Tree) -> Told {
-    if tree.charges > 1_000_000_000 {
+    if tree.charges > MOST_BUDGET {
         return Told::Unasked;
     }
     let Ok(root) = asked.root(alloc) else {

@@ -2,12 +2,12 @@
 
 use crate::asked::Asked;
 use crate::telling::{Told, told_by_lines, told_by_tree, told_of_tree};
+use proof_reader::read_tree;
 use purse::Entry;
 use row_texts::{PROOF, changed, deep, proof};
 use std::alloc::{AllocError, Global};
 use std::process::Abort;
 use std::test::Fail;
-use tree_reading::read_tree;
 
 // Asks for this answer to a proof's text, as a tree and line by line.
 fn asks(rt: &impl Abort, alloc: Global, asked: Asked, text: &str, is: Told) -> Result<(), Fail> {

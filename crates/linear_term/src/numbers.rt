@@ -17,8 +17,8 @@ pub fn gcd(a: i128, b: i128) -> i128
     greatest_divisor(a.unsigned_abs(), b.unsigned_abs()) as i128
 }
 
-/// Euclid's algorithm by remainders.
-fn greatest_divisor(a: u128, b: u128) -> u128
+/// Euclid's algorithm by remainders of 64 bits.
+fn small_divisor(a: u64, b: u64) -> u64
     ensures { IsGcd a b result }
 {
     let (mut x, mut y) = (a, b);
@@ -26,6 +26,31 @@ fn greatest_divisor(a: u128, b: u128) -> u128
         (x, y) = (y, x % y);
     }
     x
+}
+
+/// Euclid's algorithm by remainders: numbers of 64 bits are divided as such.
+fn greatest_divisor(a: u128, b: u128) -> u128
+    ensures { IsGcd a b result }
+{
+    if a < 18446744073709551616 && b < 18446744073709551616 {
+        return small_divisor(a as u64, b as u64) as u128;
+    }
+    let (mut x, mut y) = (a, b);
+    while y != 0 {
+        (x, y) = (y, x % y);
+    }
+    x
+}
+
+/// a divided by a positive b, rounded down: numbers of 64 bits are divided as such.
+fn rounded_down(a: i128, b: i128) -> i128
+    requires { pos 0 <ℤ b }
+    ensures { result ≡ int_div_euclid a b }
+{
+    if -9223372036854775808 < a && a < 9223372036854775808 && b < 9223372036854775808 {
+        return (a as i64).div_euclid(b as i64) as i128;
+    }
+    a.div_euclid(b)
 }
 
 /// The greatest integer q with q·b ≤ a, for a in the range and a positive b.
@@ -36,7 +61,7 @@ pub fn floor_div(a: i128, b: i128) -> i128
     ensures floor { IsFloor a b result }
     ensures range { InRange result }
 {
-    a.div_euclid(b)
+    rounded_down(a, b)
 }
 
 /// (g, p, q) for positive a and b: g is their greatest common divisor, g = p·a + q·b, and 0 ≤ p < b/g.

@@ -3,7 +3,7 @@
 ghost use Rattle.std.specs.Prelude.{◌≤◌, ◌<◌, ◌^◌, IfSome, length};
 ghost use Rattle.cut_sides.specs.Sides.{cut_of};
 ghost use Rattle.pri_typing.specs.WellFormed.{HasDistinctNames, HasIdentifiers, IsWellFormed};
-ghost use Rattle.pred_interpolant.specs.Middle.{IsOver};
+ghost use Rattle.pred_interpolant.specs.Middle.{IsOverProblem};
 
 use linear_term::Memory;
 use pred_interpolant::{MiddleFault, MiddleFormula, fault_law, obligations};
@@ -39,7 +39,7 @@ fn text_of(alloc: Global, p: &Problem, m: &MiddleFormula) -> Result<Vec<u8>, Mem
     requires formed { IsWellFormed p.now }
     requires distinct { HasDistinctNames p.now }
     requires identifiers { HasIdentifiers p.now }
-    requires over { IsOver p.now m.now }
+    requires over { IsOverProblem p.now m.now }
 {
     match m {
         MiddleFormula::Arithmetic(d) => print_dnf(alloc, p, d),

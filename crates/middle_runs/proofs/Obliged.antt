@@ -21,20 +21,21 @@ use Rattle.pred_interpolant.specs.declared.fault.MiddleFault.{MiddleFault}
 use Rattle.pred_interpolant.specs.declared.fault.Obligations.{Obligations}
 use Rattle.pred_interpolant.specs.Made.{FindsBy, MakesObligations}
 use Rattle.pred_interpolant.specs.Middle.{IsFound, IsObligation, above, below, contradicts, first, follows, said, second}
-use Rattle.middle_runs.specs.Meaning.{Between}
+use Rattle.middle_runs.specs.Meaning.{Separates}
 use Rattle.pred_interpolant.specs.Middle.{obligation_root}
 use Rattle.pred_interpolant.specs.declared.fault.MiddleFault.TheVariants as fault
 use Rattle.search.specs.Outcomes.{IsTree}
-use Rattle.search.specs.Run.{canonical_run, ending}
+use Rattle.purse.specs.Ending.{ending}
+use Rattle.search.specs.Run.{canonical_run}
 use Rattle.proof_tree.specs.declared.node.Conclusion.TheVariants.{Solution}
 use Rattle.std.proofs.lemmas.List.Elements.{Contains-get_or}
 use Rattle.middle_runs.specs.declared.proved.Middle.{Middle}
 use Rattle.middle_runs.specs.declared.proved.Proved.{Proved}
-use Rattle.middle_runs.specs.Runs.{EndsEarly, Finds, IsSound, MakesMiddle, Runs, Stops, first_run, obligations, root_end, run_end, second_run}
+use Rattle.middle_runs.specs.Runs.{MiddleEndsEarly, FindsTree, IsSound, MakesMiddle, Runs, StopsRun, first_run, obligations, root_end, run_end, second_run}
 
 -- what stands between the sides of a cut of a problem that holds
 pub stands_between : (w : Meaning) (p : Problem) (cut at : ℕ) (m : MiddleFormula) → IsWellFormed p → p.existentials ≡ [] → ¬ (IsPlainlyValid p) → Holds w p [] → Contains p.cuts (cut_of p cut) → IsFound p cut at m
-    → Between w p (first p cut at) (said p m) (second p cut at)
+    → Separates w p (first p cut at) (said p m) (second p cut at)
 stands_between w p cut at m good alone plain holds in_it found =
     let apart = sides_apart w p (cut_of p cut) at good alone in_it plain holds in
     record {
@@ -69,10 +70,10 @@ sound p f e good alone holds h o = record {
 }
 
 -- the two obligations
-pub below_true : (w : Meaning) (p : Problem) (f i g : Formula) → Between w p f i g → (v : List ℤ) → AreTyped p v → Truth w (follows f i) v
+pub below_true : (w : Meaning) (p : Problem) (f i g : Formula) → Separates w p f i g → (v : List ℤ) → AreTyped p v → Truth w (follows f i) v
 below_true w p f i g b v t h = b.follows v t h
 
-pub above_true : (w : Meaning) (p : Problem) (f i g : Formula) → Between w p f i g → (v : List ℤ) → AreTyped p v → Truth w (contradicts i g) v
+pub above_true : (w : Meaning) (p : Problem) (f i g : Formula) → Separates w p f i g → (v : List ℤ) → AreTyped p v → Truth w (contradicts i g) v
 above_true w p f i g b v t h = absurd (b.contradicts v t h.0 h.1.0)
 
 -- ---- the budget behind the obligations
@@ -110,7 +111,7 @@ end_is p f e old o =
     let root : (obligation_root p f).value ≡ form e.root = ap (λ g. (obligation_root p g).value) (sym o.is) ∙ sym o.encoded.root in
     λ i. ending (canonical_run (root i) (sym o.encoded.constants i) old.budget) (at old [])
 
-pub finds_of : (p : Problem) (f : Formula) (e : Encoded) (old new : Funds) (m : Proved) → IsObligation p f e → Runs e old (Ok m) new → Finds p f old m.tree new
+pub finds_of : (p : Problem) (f : Formula) (e : Encoded) (old new : Funds) (m : Proved) → IsObligation p f e → Runs e old (Ok m) new → FindsTree p f old m.tree new
 finds_of p f e old new m o k =
     let root : form e.root ≡ (obligation_root p f).value = o.encoded.root ∙ ap (λ g. (obligation_root p g).value) o.is in (
       (k.1).0,
@@ -119,7 +120,7 @@ finds_of p f e old new m o k =
       subst (λ n. IsTree (obligation_root p f).value n (k.1).1 (Solution []) m.tree) o.encoded.constants (subst (λ g. IsTree g e.constants (k.1).1 (Solution []) m.tree) root (k.1).3),
     )
 
-stops_of : (p : Problem) (f : Formula) (e : Encoded) (old new : Funds) (y : MiddleFault) → IsObligation p f e → Runs e old (Err y) new → Stops p f old y new
+stops_of : (p : Problem) (f : Formula) (e : Encoded) (old new : Funds) (y : MiddleFault) → IsObligation p f e → Runs e old (Err y) new → StopsRun p f old y new
 stops_of p f e old new fault.Steps o k = (k.0, end_is p f e old o ∙ k.1)
 stops_of p f e old new (fault.Overflow q) o k = (k.0, k.1, end_is p f e old o ∙ k.2, k.3, k.4)
 stops_of p f e old new fault.Branch o k = (k.0, end_is p f e old o ∙ k.1)
@@ -127,9 +128,9 @@ stops_of p f e old new fault.Memory o k = tt
 stops_of p f e old new fault.Symbols o k = k
 stops_of p f e old new fault.Large o k = k
 
-early : (p : Problem) (cut at : ℕ) (old new : Funds) (y : MiddleFault) (r : Result Middle MiddleFault) → IsErrAnd r (λ x. x ≡ y) → EndsEarly p cut at old y new → MakesMiddle p cut at old r new
+early : (p : Problem) (cut at : ℕ) (old new : Funds) (y : MiddleFault) (r : Result Middle MiddleFault) → IsErrAnd r (λ x. x ≡ y) → MiddleEndsEarly p cut at old y new → MakesMiddle p cut at old r new
 early p cut at old new y (Ok m) h k = absurd h
-early p cut at old new y (Err x) h k = subst (λ z. EndsEarly p cut at old z new) (sym h) k
+early p cut at old new y (Err x) h k = subst (λ z. MiddleEndsEarly p cut at old z new) (sym h) k
 
 pub not_made : (p : Problem) (cut at : ℕ) (old new : Funds) (y : MiddleFault) (r : Result Middle MiddleFault) → IsErrAnd r (λ x. x ≡ y) → MakesObligations p cut at old (Err y) new → MakesMiddle p cut at old r new
 not_made p cut at old new y r h k = early p cut at old new y r h (obligations k)

@@ -1,15 +1,13 @@
 -- How a run ends on the encoding of a problem that holds everywhere, and that it leaves the budget as it is.
-use Rattle.std.proofs.Common.{◌≡◌, ◌<◌, ◌≤◌, ◌+◌, ℕ, ℤ, Bool, true, false, ◌||◌, cond, nat_le, nat_lt, List, [], ◌∷◌, length, Ok, Err, Result, IsErrAnd, refl, sym, ◌∙◌, ap, subst, arith}
-use Rattle.std.proofs.lemmas.Bool.Decides.{nat_tests}
+use Rattle.std.proofs.Common.{◌≡◌, ◌<◌, ◌+◌, ℕ, ℤ, Bool, true, false, cond, nat_le, List, [], ◌∷◌, length, Ok, Err, Result, IsErrAnd, refl, sym, ◌∙◌, ap, subst, arith}
 use Rattle.linear_term.specs.Range.{all_stay}
 use Rattle.purse.specs.Trace.{At, End, Event, Funds, after_charge, after_mark, at, capped, charge, cut, done, mark, out_of_range, raw, refused, stand}
 use Rattle.typed_formula.specs.Truth.{Meaning}
 use Rattle.formula.specs.Form.{Form, FormTruth, IsFormOver}
 use Rattle.formula.specs.Reduced.{HasReducedTerms}
-use Rattle.formula.specs.Sizes.{depth, size}
 use Rattle.formula.specs.Tree.{form}
 use Rattle.pri_typing.specs.Problems.{meaning_of}
-use Rattle.open_trees.specs.Open.{IsSaturated}
+use Rattle.open_trees.specs.Open.{IsSaturatedTree}
 use Rattle.encoding.specs.Problems.{problem_root}
 use Rattle.function_encoding.specs.declared.answer.Encoded.{Encoded}
 use Rattle.problem_file.proofs.Reduced.{problem_reduced}
@@ -28,7 +26,8 @@ use Rattle.search.specs.declared.judge.Outcome.TheVariants.{Valid, Invalid, Satu
 use Rattle.search.specs.Outcomes.{EndsAs, IsTree}
 use Rattle.proof_tree.specs.declared.node.Conclusion.TheVariants.{Solution}
 use Rattle.search.specs.Run as run
-use Rattle.search.specs.Run.{Ending, ended, ending, ends_with, out_of_steps, overflows, canonical_run}
+use Rattle.purse.specs.Ending.{Ending, ended, ends_with, out_of_steps, overflows}
+use Rattle.search.specs.Run.{canonical_run}
 use Rattle.search.proofs.Telling.{answer_tells}
 use Rattle.refuted_runs.proofs.Ended.{saturated_says}
 use Rattle.refuted_runs.proofs.Problems.{refuted}
@@ -47,22 +46,6 @@ none_left e s = s.encoded.constants ∙ ap length s.alone
 
 pub over : (e : Encoded) → IsSound e → IsFormOver e.constants (form e.root)
 over e s = subst (λ n. IsFormOver n (form e.root)) (sym s.encoded.constants) s.encoded.over
-
-not_above : (n k : ℕ) → nat_lt n k ≡ false → k ≤ n
-not_above n k h = grind (arith, nat_tests)
-
-neither : (a b : Bool) → (a || b) ≡ false → (a ≡ false) × (b ≡ false)
-neither true b h = absurd cc
-neither false b h = (refl, h)
-
-pub small_size : (e : Encoded) → IsSound e → size (form e.root) ≤ 1000000
-small_size e s = not_above 1000000 (size (form e.root)) (neither (nat_lt 1000000 (size (form e.root))) (nat_lt 2000 (depth (form e.root))) s.encoded.small).0
-
-pub small_depth : (e : Encoded) → IsSound e → depth (form e.root) ≤ 2000
-small_depth e s = not_above 2000 (depth (form e.root)) (neither (nat_lt 1000000 (size (form e.root))) (nat_lt 2000 (depth (form e.root))) s.encoded.small).1
-
-pub few : (e : Encoded) → IsSound e → e.constants ≤ 1000
-few e s = let z = none_left e s in omega (arith, z)
 
 true_there : (e : Encoded) → (s : IsSound e) → (w : Meaning) → FormTruth w (form e.root) []
 true_there e s w = (s.encoded.truth w [] (sym (ap length s.alone))).1 (s.holds w)
@@ -83,8 +66,8 @@ pub not_saturated : (e : Encoded) (old new : Funds) (d : List (List Literal)) (t
 not_saturated e old new d t s k =
     let p = s.problem in
     let says = saturated_says (form e.root) e.constants old (k.1).entries k.2 (at new k.0) (over e s) (reduced e s) k.3 in
-    let open_there : IsSaturated (problem_root p).value (length p.existentials) k.2 =
-    subst (λ n. IsSaturated (problem_root p).value n k.2) s.encoded.constants (subst (λ f. IsSaturated f e.constants k.2) s.encoded.root says.0) in
+    let open_there : IsSaturatedTree (problem_root p).value (length p.existentials) k.2 =
+    subst (λ n. IsSaturatedTree (problem_root p).value n k.2) s.encoded.constants (subst (λ f. IsSaturatedTree f e.constants k.2) s.encoded.root says.0) in
     let bad = refuted p k.2 s.formed (problem_reduced p) open_there [] (sym (ap length s.alone)) (s.holds some_meaning).typed in
     bad.fails ((s.holds (meaning_of bad.table)).is bad.universals bad.fit bad.typed)
 
@@ -140,12 +123,12 @@ cut_budget (raw ps ∷ es) a = by (all_stay ps) (cut_budget es a)
     by false h = refl
 cut_budget (mark m ∷ es) a = cut_budget es (after_mark m a)
 
-abbrev last : Ending run.Answer → At
+abbrev last : Ending run.RunAnswer → At
 last (ends_with a s) = s
 last (out_of_steps s) = s
 last (overflows numbers s) = s
 
-last_is : (a : run.Answer) (e : End) → last (ended a e) ≡ stand e
+last_is : (a : run.RunAnswer) (e : End) → last (ended a e) ≡ stand e
 last_is a (done s) = refl
 last_is a (refused s) = refl
 last_is a (out_of_range numbers s) = refl

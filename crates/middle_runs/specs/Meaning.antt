@@ -13,7 +13,7 @@ use Rattle.middle_runs.specs.declared.proved.Proved.{Proved}
 
 -- The formula stands between the others: at values of the constants' types where the first is true it is; it and the second are never
 -- true together; and it speaks of those constants, predicates and functions alone that both speak of.
-pub record Between (w : Meaning) (p : Problem) (first between second : Formula) : Type 0 where
+pub record Separates (w : Meaning) (p : Problem) (first between second : Formula) : Type 0 where
   pub follows : (e : List ℤ) → AreTyped p e → Truth w first e → Truth w between e
   pub contradicts : Contradict w p between second
   pub shares : Shares p first between second

@@ -17,7 +17,8 @@ use Rattle.proof_tree.specs.Proof.{Proof}
 use Rattle.proof_tree.specs.declared.run.Why.{Why}
 use Rattle.proof_tree.specs.declared.run.Why.TheVariants as why
 use Rattle.search.specs.Outcomes.{IsTree}
-use Rattle.search.specs.Run.{Answer, Ending, canonical_run, ending, ends_with, out_of_steps, overflows, too_long, valid}
+use Rattle.purse.specs.Ending.{Ending, ending, ends_with, out_of_steps, overflows}
+use Rattle.search.specs.Run.{RunAnswer, canonical_run, too_long, valid}
 use Rattle.pred_interpolant.specs.declared.fault.MiddleFault.{MiddleFault}
 use Rattle.pred_interpolant.specs.declared.fault.MiddleFault.TheVariants as fault
 use Rattle.pred_interpolant.specs.declared.fault.Obligations.{Obligations}
@@ -27,39 +28,39 @@ use Rattle.middle_runs.specs.declared.proved.Middle.{Middle}
 use Rattle.middle_runs.specs.declared.proved.Proved.{Proved}
 
 -- how the canonical run on the encoding of a formula ends that has what is left of the funds
-abbrev pub run_end : Problem → Formula → Funds → Ending Answer
+abbrev pub run_end : Problem → Formula → Funds → Ending RunAnswer
 run_end p f old = ending (canonical_run (obligation_root p f).value (length p.existentials) old.budget) (at old [])
 
 -- the run finds this tree, and leaves the funds so
-abbrev pub Finds : Problem → Formula → Funds → Tree → Funds → Type 0
-Finds p f old t new =
+abbrev pub FindsTree : Problem → Formula → Funds → Tree → Funds → Type 0
+FindsTree p f old t new =
     (ms : List Mark) × (x : Proof) × (run_end p f old ≡ ends_with (valid [] x) (at new ms)) × IsTree (obligation_root p f).value (length p.existentials) x (Solution []) t
 
 -- the run ends early with this fault: the budget ends, a number leaves the range, or a branch is too long; want of memory alone may
 -- come anywhere
-abbrev pub Stops : Problem → Formula → Funds → MiddleFault → Funds → Type 0
-Stops p f old fault.Steps new = (ms : List Mark) × (run_end p f old ≡ out_of_steps (at new ms))
-Stops p f old (fault.Overflow q) new = (ms : List Mark) × (qs : List Place) × (run_end p f old ≡ overflows qs (at new ms)) × Contains qs q × (stays q ≡ false)
-Stops p f old fault.Branch new = (ms : List Mark) × (run_end p f old ≡ ends_with too_long (at new ms))
-Stops p f old fault.Memory new = Unit {0}
-Stops p f old fault.Symbols new = ⊥
-Stops p f old fault.Large new = ⊥
+abbrev pub StopsRun : Problem → Formula → Funds → MiddleFault → Funds → Type 0
+StopsRun p f old fault.Steps new = (ms : List Mark) × (run_end p f old ≡ out_of_steps (at new ms))
+StopsRun p f old (fault.Overflow q) new = (ms : List Mark) × (qs : List Place) × (run_end p f old ≡ overflows qs (at new ms)) × Contains qs q × (stays q ≡ false)
+StopsRun p f old fault.Branch new = (ms : List Mark) × (run_end p f old ≡ ends_with too_long (at new ms))
+StopsRun p f old fault.Memory new = Unit {0}
+StopsRun p f old fault.Symbols new = ⊥
+StopsRun p f old fault.Large new = ⊥
 
 -- what ends early with this fault: the obligations; the run of the first of them, on the purse that they left; or that of the second,
 -- on the purse that the first run left
-pub data EndsEarly (p : Problem) (cut at : ℕ) (old : Funds) (e : MiddleFault) (new : Funds) : Type 0 where
-  obligations : MakesObligations p cut at old (Err e) new → EndsEarly p cut at old e new
-  first_run : (o : Obligations) (made : Funds) → MakesObligations p cut at old (Ok o) made → Stops p (below p cut at o.formula) made e new → EndsEarly p cut at old e new
-  second_run : (o : Obligations) (t : Tree) (made between : Funds) → MakesObligations p cut at old (Ok o) made → Finds p (below p cut at o.formula) made t between
-      → Stops p (above p cut at o.formula) between e new → EndsEarly p cut at old e new
+pub data MiddleEndsEarly (p : Problem) (cut at : ℕ) (old : Funds) (e : MiddleFault) (new : Funds) : Type 0 where
+  obligations : MakesObligations p cut at old (Err e) new → MiddleEndsEarly p cut at old e new
+  first_run : (o : Obligations) (made : Funds) → MakesObligations p cut at old (Ok o) made → StopsRun p (below p cut at o.formula) made e new → MiddleEndsEarly p cut at old e new
+  second_run : (o : Obligations) (t : Tree) (made between : Funds) → MakesObligations p cut at old (Ok o) made → FindsTree p (below p cut at o.formula) made t between
+      → StopsRun p (above p cut at o.formula) between e new → MiddleEndsEarly p cut at old e new
 
 -- the obligations, and the tree of each run on the purse that went before left; or else the first step that ends early
 abbrev pub MakesMiddle : Problem → ℕ → ℕ → Funds → Result Middle MiddleFault → Funds → Type 0
 MakesMiddle p cut at old (Ok m) new =
     (made : Funds) × (between : Funds)
     × MakesObligations p cut at old (Ok (record { formula = m.formula; below = m.below.encoded; above = m.above.encoded })) made
-    × Finds p (below p cut at m.formula) made m.below.tree between × Finds p (above p cut at m.formula) between m.above.tree new
-MakesMiddle p cut at old (Err e) new = EndsEarly p cut at old e new
+    × FindsTree p (below p cut at m.formula) made m.below.tree between × FindsTree p (above p cut at m.formula) between m.above.tree new
+MakesMiddle p cut at old (Err e) new = MiddleEndsEarly p cut at old e new
 
 -- the encoding is that of a problem that holds in every interpretation, without existential constants
 pub record IsSound (e : Encoded) : Type 0 where
@@ -70,7 +71,7 @@ pub record IsSound (e : Encoded) : Type 0 where
   pub holds : (w : Meaning) → Holds w problem []
 
 -- how the canonical run on an encoding ends
-abbrev pub root_end : Encoded → Funds → Ending Answer
+abbrev pub root_end : Encoded → Funds → Ending RunAnswer
 root_end e old = ending (canonical_run (form e.root) e.constants old.budget) (at old [])
 
 -- the run on the encoding finds the tree; or it ends early with this fault

@@ -7,7 +7,7 @@ ghost use Rattle.pri_typing.specs.WellFormed.{IsWellFormed};
 ghost use Rattle.cut_sides.specs.Sides.{cut_of};
 ghost use Rattle.pred_interpolant.specs.Middle as sides;
 ghost use Rattle.pred_interpolant.specs.Middle.{IsFound, IsObligation, first, said, second};
-ghost use Rattle.middle_runs.specs.Meaning.{Between, IsProved};
+ghost use Rattle.middle_runs.specs.Meaning.{Separates, IsProved};
 ghost use Rattle.middle_runs.specs.Runs.{IsSound, MakesMiddle, Runs, fault_of};
 
 use crate::proved::{Middle, Proved};
@@ -72,7 +72,7 @@ pub fn middle(
     ensures above { IfOk result (λ m. IsObligation p.now (sides.above p.now cut at m.formula) m.above.encoded) }
     ensures proved_below { IfOk result (λ m. IsProved m.below) }
     ensures proved_above { IfOk result (λ m. IsProved m.above) }
-    ensures between { IfOk result (λ m. (w : Meaning) → Between w p.now (first p.now cut at) (said p.now m.formula) (second p.now cut at)) }
+    ensures between { IfOk result (λ m. (w : Meaning) → Separates w p.now (first p.now cut at) (said p.now m.formula) (second p.now cut at)) }
 {
     let made = obligations(alloc, p, cut, at, purse)?;
     let Obligations {

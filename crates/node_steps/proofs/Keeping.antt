@@ -8,14 +8,15 @@ use Rattle.sequent.specs.declared.member.Pick.{Pick}
 use Rattle.sequent.specs.declared.member.Sequent as coded
 use Rattle.sequent.specs.Limits.{IsLimited}
 use Rattle.sequent.specs.Rules.{brought, new_members, one_each, place, premises_at, premises_by, premises_of}
-use Rattle.sequent.specs.Sequent.{Member, Sequent, member, sequent, IsWellFormed}
+use Rattle.sequent.specs.Sequent.{Member, Sequent, member, sequent, IsFormedSequent}
 use Rattle.sequent.specs.Views.{HasRoom, sequent_of}
 use Rattle.sequent.proofs.Forming.{premises_formed, start_formed}
 use Rattle.sequent.proofs.Limiting.{has_room, premises_limited}
 use Rattle.sequent.proofs.Members.{all_append, all_at, all_remove}
 use Rattle.pred_unify.specs.Pairs.{closing_of}
 use Rattle.proof_tree.specs.Proves.{start}
-use Rattle.node_steps.specs.Within.{IsWithin, branch_limit, most_nodes, most_levels, most_constants}
+use Rattle.limits.specs.Limits.{branch_limit, most_nodes, most_levels, most_constants}
+use Rattle.node_steps.specs.Within.{IsWithin}
 use Rattle.node_steps.proofs.Shallow.{closing_shallow}
 
 abbrev IsSmall : Member → Type 0
@@ -91,7 +92,7 @@ premises_next s i over used (fails p ts) h k = tt
 premises_next s i over used (differs p ts v) h k = tt
 
 -- a premise that keeps all bounds
-next_within : (left : ℕ) (s t : Sequent) → IsWithin (left + 1) s → IsNext s t → IsWellFormed t → IsLimited (branch_limit - (left + 1) + 1) most_levels t → IsWithin left t
+next_within : (left : ℕ) (s t : Sequent) → IsWithin (left + 1) s → IsNext s t → IsFormedSequent t → IsLimited (branch_limit - (left + 1) + 1) most_levels t → IsWithin left t
 next_within left s t h n formed limited =
     let nodes : left + 1 ≤ branch_limit = h.nodes in
     let used : branch_limit - (left + 1) + 1 ≡ branch_limit - left = omega (arith, nodes) in
@@ -104,7 +105,7 @@ next_within left s t h n formed limited =
       members = (let a = h.members in let b = n.members in omega (arith, a, b));
     }
 
-all_within : (left : ℕ) (s : Sequent) (ts : List Sequent) → IsWithin (left + 1) s → AllByRecursion (IsNext s) ts → AllByRecursion IsWellFormed ts → AllByRecursion (IsLimited (branch_limit - (left + 1) + 1) most_levels) ts
+all_within : (left : ℕ) (s : Sequent) (ts : List Sequent) → IsWithin (left + 1) s → AllByRecursion (IsNext s) ts → AllByRecursion IsFormedSequent ts → AllByRecursion (IsLimited (branch_limit - (left + 1) + 1) most_levels) ts
     → AllByRecursion (IsWithin left) ts
 all_within left s [] h n f l = tt
 all_within left s (t ∷ ts) h n f l = (next_within left s t h n.0 f.0 l.0, all_within left s ts h n.1 f.1 l.1)

@@ -22,7 +22,7 @@ fn alike(p: u32, ss: &[Term], q: u32, ts: &[Term]) -> bool
 }
 
 /// The size of the pair of a negated predicate and g: 0 where g is not that predicate.
-fn predicate_pair_size(p: u32, ss: &[Term], g: &Core) -> u64
+pub(crate) fn predicate_pair_size(p: u32, ss: &[Term], g: &Core) -> u64
     ensures { result ≡ capped (pairing.predicate_pair_size p ss.now (form g.now)) }
 {
     match g {
@@ -57,7 +57,7 @@ fn predicate_sizes(p: u32, ss: &[Term], members: &[Member]) -> u64
 }
 
 /// The size of the pair of a function's value and g: 0 where g is not another value of it.
-fn function_pair_size(f: u32, ss: &[Term], g: &Core) -> u64
+pub(crate) fn function_pair_size(f: u32, ss: &[Term], g: &Core) -> u64
     ensures { result ≡ capped (pairing.function_pair_size f ss.now (form g.now)) }
 {
     match g {
@@ -150,7 +150,7 @@ fn later_values_size(members: &[Member]) -> u64
 }
 
 /// The size of a member, if it is pure.
-fn pure_size(m: &Member) -> u64
+pub(crate) fn pure_size(m: &Member) -> u64
     ensures { result ≡ capped (pairing.pure_size (member_of m.now)) }
 {
     if is_pure(&m.formula) {

@@ -4,7 +4,9 @@
 mod fee;
 mod premises;
 mod principal;
+mod reading;
 
 pub use fee::closing_fee;
 pub use premises::{conjoined, first};
 pub use principal::principal_fee;
+pub use reading::leaf_fee;

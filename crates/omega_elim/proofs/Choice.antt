@@ -20,7 +20,7 @@ use Rattle.clause_set.specs.Met.{IsMet}
 use Rattle.clause_set.specs.Names.{has, coefficient, is_equation, is_bound, is_divisibility, is_indivisibility, is_lower, is_upper}
 use Rattle.clause_set.specs.Rules.{applies, rule, first_rule, first_of, when, has_unit, is_bounded, is_two_sided, is_exact, is_one_sided, is_least_equation, measure}
 use Rattle.clause_set.specs.Shadows.{lowers, uppers, one_sided, exact, dark}
-use Rattle.shadow_rules.proofs.Forms.{one_sided-kept, exact-kept, dark-kept, one_sided-nearer, exact-nearer, dark-nearer}
+use Rattle.shadow_laws.proofs.Forms.{one_sided-kept, exact-kept, dark-kept, one_sided-nearer, exact-nearer, dark-nearer}
 use Rattle.omega_elim.specs.Projection.{bounds_entry, with_entry, projection}
 
 -- ---- which rule

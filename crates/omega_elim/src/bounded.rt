@@ -1,19 +1,18 @@
 // A name out of a clause that only bounds it. Bounds on one side are met by some value; where the coefficients of one
 // side are 1 or −1 the real shadow is exact; else the dark shadow and its splinters are.
 
+ghost use Rattle.clause_set.specs.declared.literal.Literal.{Literal};
 ghost use Rattle.clause_set.specs.Met.{IsMet};
 ghost use Rattle.clause_set.specs.Rules.{first_rule, has_unit, is_bounded, measure};
 ghost use Rattle.clause_set.specs.Shadows.{lowers, uppers};
 ghost use Rattle.omega_elim.specs.Projection.{bounds_entry, projection};
 ghost use Rattle.purse.specs.Work.{Charged};
 ghost use Rattle.std.specs.List.{list_all};
-ghost use Rattle.std.specs.Prelude.{◌≡◌, ◌<◌, ◌↔◌, ◌&&◌, ◌||◌, [], ◌∷◌, All, IfOk, length, List, nat_lt, Some, true, ℤ};
+ghost use Rattle.std.specs.Prelude.{◌≡◌, ◌<◌, ◌↔◌, ◌&&◌, ◌||◌, [], ◌∷◌, All, IfOk, length, List, nat_lt, Some, true, ℕ, ℤ};
 
 use clause_set::{Clause, Literal};
-use performed_rules::{
-    Side, all_units, bounds_alone, dark, exact, has_name, literals_on, one_sided,
-};
 use purse::{Entry, Purse, StepFault};
+use rule_code::{Side, all_units, bounds_alone, dark, exact, has_name, literals_on, one_sided};
 use sqlite_items::Items;
 use std::alloc::Global;
 
@@ -30,7 +29,7 @@ pub fn is_bounded(c: &Clause, x: u32) -> bool
 ///
 /// Refused with Steps where the rule's charge passes the budget, and then nothing is spent; else with Overflow where a
 /// number that the rule computes leaves the range, which it names.
-#[tactic(auto, using(purse::proofs::Charging::charging, crate::proofs::Choice::first_bounds))]
+#[tactic(auto, using(purse::proofs::Charging::charging))]
 pub fn project(
     alloc: Global,
     c: &Clause,
@@ -38,7 +37,6 @@ pub fn project(
     purse: &mut Purse,
 ) -> Result<(Entry, Items<Clause>), StepFault>
     requires { is_bounded x c.now ≡ true }
-    ensures first { first_rule x c.now ≡ Some (bounds_entry x c.now) }
     ensures work { Charged (projection x c.now) purse.old result purse.new }
     ensures exact { IfOk result (λ r. (e : List ℤ) → IsMet (c.now ∷ []) x e ↔ IsMet r.1 x e) }
     ensures nearer { IfOk result (λ r. All (λ d. measure x d < measure x c.now) r.1) }
@@ -48,6 +46,11 @@ pub fn project(
     let ups = literals_on(alloc, c.literals(), x, Side::Upper)?;
     by_bounds(alloc, c, x, lows.as_slice(), ups.as_slice(), purse)
 }
+
+/// The rule by which `project` takes out a name that inequalities alone bound is the one that comes first in an elimination.
+pub fn first_bounds_law()
+    ensures { (x : ℕ) (c : List Literal) → is_bounded x c ≡ true → first_rule x c ≡ Some (bounds_entry x c) }
+{}
 
 /// Whether there are bounds on both sides.
 fn is_two_sided(lows: &[Literal], ups: &[Literal]) -> bool

@@ -4,7 +4,7 @@
 
 mod bounded;
 
-pub use bounded::{is_bounded, project};
+pub use bounded::{first_bounds_law, is_bounded, project};
 
 #[cfg(test)]
 mod tests;

@@ -4,8 +4,8 @@
 use super::bounded::{is_bounded, project};
 use clause_set::{Clause, Literal, Ordered};
 use linear_term::{Place, Term, in_range};
-use performed_rules::splinter_count;
 use purse::{Entry, Purse, StepFault};
+use rule_code::splinter_count;
 use sqlite_items::Items;
 use std::alloc::Global;
 use std::process::Abort;
@@ -32,7 +32,7 @@ fn term(rt: &impl Abort, alloc: Global, row: Row) -> Result<Term, StepFault> {
 }
 
 /// The clause with these bounds and this equation.
-#[tactic(auto, using(performed_rules::proofs::Results::pushing))]
+#[tactic(auto, using(rule_code::proofs::Results::pushing))]
 fn clause(rt: &impl Abort, alloc: Global, written: Written) -> Result<Option<Clause>, StepFault> {
     let mut literals = Items::new(alloc);
     for row in written.0 {

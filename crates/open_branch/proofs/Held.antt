@@ -11,7 +11,7 @@ use Rattle.sequent.specs.declared.member.Shape.TheVariants.{Trivial, Alpha, Delt
 use Rattle.sequent.specs.Rules.{place, premises_by}
 use Rattle.sequent.specs.Views.{members_of}
 use Rattle.open_branch.specs.Choosing.{better, principal, rank}
-use Rattle.open_branch.specs.Standing.{IsHeld, LeadsBack, members_in, premises_from, rule_at, standing, undone}
+use Rattle.open_branch.specs.Standing.{IsPrincipalItem, LeadsBack, members_in, premises_from, rule_at, standing, undone}
 use Rattle.open_branch.specs.declared.branch.Branch.{Branch}
 use Rattle.open_branch.specs.declared.entering.Entered.{Entered}
 use Rattle.open_branch.specs.declared.principal.Principal.{Principal}
@@ -25,7 +25,7 @@ length-members [] = refl
 length-members (x ∷ xs) = ap suc (length-members xs)
 
 -- ---- a principal
-pub is_in : (p : Principal) (is : List (Pos × Member)) → IsHeld p is → IsIn p.at is
+pub is_in : (p : Principal) (is : List (Pos × Member)) → IsPrincipalItem p is → IsIn p.at is
 is_in p is h = (h.before, h.member, h.behind, h.whole)
 
 item_at : (xs : List (Pos × Member)) (p : Pos) (v : Member) (ys : List (Pos × Member)) (n : ℕ) → length xs ≡ n → slice_get (members_in (xs ++ (p, v) ∷ ys)) n ≡ Some v
@@ -34,11 +34,11 @@ item_at [] p v ys (suc n) e = absurd (omega (arith, e))
 item_at (x ∷ xs) p v ys zero e = absurd (omega (arith, e))
 item_at (x ∷ xs) p v ys (suc n) e = item_at xs p v ys n (omega (arith, e))
 
-pub member_is : (p : Principal) (is : List (Pos × Member)) (h : IsHeld p is) → slice_get (members_in is) p.index ≡ Some h.member
+pub member_is : (p : Principal) (is : List (Pos × Member)) (h : IsPrincipalItem p is) → slice_get (members_in is) p.index ≡ Some h.member
 member_is p is h = ap (λ l. slice_get (members_in l) p.index) h.whole ∙ item_at h.before p.at h.member h.behind p.index h.number
 
 -- what was read at the principal's place is the member of its number
-pub member_got : (p : Principal) (is : List (Pos × Member)) (m : Member) → IsHeld p is → AtItem p.at is (λ xs v ys. m ≡ v) → slice_get (members_in is) p.index ≡ Some m
+pub member_got : (p : Principal) (is : List (Pos × Member)) (m : Member) → IsPrincipalItem p is → AtItem p.at is (λ xs v ys. m ≡ v) → slice_get (members_in is) p.index ≡ Some m
 member_got p is m h got = member_is p is h ∙ ap Some (sym (got h.before h.member h.behind h.whole))
 
 others_at : (xs : List (Pos × Member)) (p : Pos) (v : Member) (ys : List (Pos × Member)) (n : ℕ) → length xs ≡ n → members_in (xs ++ ys) ≡ remove (members_in (xs ++ (p, v) ∷ ys)) n
@@ -47,7 +47,7 @@ others_at [] p v ys (suc n) e = absurd (omega (arith, e))
 others_at (x ∷ xs) p v ys zero e = absurd (omega (arith, e))
 others_at (x ∷ xs) p v ys (suc n) e = ap (λ l. x.1 ∷ l) (others_at xs p v ys n (omega (arith, e)))
 
-pub others_are : (p : Principal) (is : List (Pos × Member)) (h : IsHeld p is) → members_in (h.before ++ h.behind) ≡ remove (members_in is) p.index
+pub others_are : (p : Principal) (is : List (Pos × Member)) (h : IsPrincipalItem p is) → members_in (h.before ++ h.behind) ≡ remove (members_in is) p.index
 others_are p is h = others_at h.before p.at h.member h.behind p.index h.number ∙ ap (λ l. remove (members_in l) p.index) (sym h.whole)
 
 pub place_is : (k : Shape) (i : ℕ) → place (rule_at k i) ≡ Some i
@@ -61,12 +61,12 @@ pub premises_are : (b : Branch) (p : Principal) → premises_from b p ≡ premis
 premises_are b p = ap (λ o. premises_by (standing b) o) (place_is p.shape p.index)
 
 -- ---- the principal so far
-pub held_better : (is : List (Pos × Member)) (best : Option Principal) (o : Option Shape) (i : ℕ) (p : Pos) → IfSome best (λ x. IsHeld x is) → ((k : Shape) → IsHeld (principal k i p) is) → IfSome (better best o i p) (λ x. IsHeld x is)
+pub held_better : (is : List (Pos × Member)) (best : Option Principal) (o : Option Shape) (i : ℕ) (p : Pos) → IfSome best (λ x. IsPrincipalItem x is) → ((k : Shape) → IsPrincipalItem (principal k i p) is) → IfSome (better best o i p) (λ x. IsPrincipalItem x is)
 held_better is best None i p h new = h
 held_better is None (Some k) i p h new = new k
 held_better is (Some b) (Some k) i p h new = by (nat_lt (rank k) (rank b.shape))
   where
-    by : (t : Bool) → IfSome (cond t (Some (principal k i p)) (Some b)) (λ x. IsHeld x is)
+    by : (t : Bool) → IfSome (cond t (Some (principal k i p)) (Some b)) (λ x. IsPrincipalItem x is)
     by true = new k
     by false = h
 

@@ -17,7 +17,7 @@ use Rattle.sequent.specs.Sequent.{Member}
 use Rattle.sequent.specs.Views.{member_of, members_of}
 use Rattle.open_branch.specs.Choosing.{better, principal, rank}
 use Rattle.open_branch.specs.Passed.{AreIdle, IsPassed, nothing}
-use Rattle.open_branch.specs.Standing.{IsHeld, members_in}
+use Rattle.open_branch.specs.Standing.{IsPrincipalItem, members_in}
 use Rattle.open_branch.specs.declared.branch.Branch.{Branch}
 use Rattle.open_branch.specs.declared.choosing.Passed.{Passed}
 use Rattle.open_branch.specs.declared.principal.Principal.{Principal}
@@ -132,7 +132,7 @@ passed_more limit b p w q m to e got idle next =
     )
 
 -- a rule takes a member from behind them, and adds its new ones at the end
-pub passed_entered : (b d : Branch) (p : Principal) (h : IsHeld p b.list.present) (new : List (Pos × code.Member)) → d.list.present ≡ (h.before ++ h.behind) ++ new
+pub passed_entered : (b d : Branch) (p : Principal) (h : IsPrincipalItem p b.list.present) (new : List (Pos × code.Member)) → d.list.present ≡ (h.before ++ h.behind) ++ new
     → (limit : ℕ) (q : Passed) → IsPassed limit b q → q.count ≤ p.index → IsPassed limit d q
 passed_entered b d p h new is limit q w le =
     let few = w.number in

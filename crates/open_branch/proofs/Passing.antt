@@ -16,14 +16,14 @@ use Rattle.sequent.specs.Rules.{fits, picked}
 use Rattle.sequent.specs.Sequent.{Member}
 use Rattle.sequent.specs.Views.{member_of, members_of}
 use Rattle.open_branch.specs.Choosing.{better, principal}
-use Rattle.open_branch.specs.Standing.{IsHeld, members_in, rule_of}
+use Rattle.open_branch.specs.Standing.{IsPrincipalItem, members_in, rule_of}
 use Rattle.open_branch.specs.declared.principal.Principal.{Principal}
 use Rattle.open_branch.proofs.Held.{held_better, length-members, members-append}
 use Rattle.open_branch.proofs.Picks.{picks_better}
 
 module _ (is : List (Pos × code.Member)) (n : ℕ) (at : Option Pos) (w : IsWalk is n at) where
   -- the principal that the next item would be
-  pub next_held : (p : Pos) → at ≡ Some p → (k : Shape) → IsHeld (principal k n p) is
+  pub next_held : (p : Pos) → at ≡ Some p → (k : Shape) → IsPrincipalItem (principal k n p) is
   next_held p e k = record {
     before = w.passed;
     member = (next_in w.rest p (sym w.next ∙ e)).0;
@@ -54,5 +54,5 @@ module _ (is : List (Pos × code.Member)) (n : ℕ) (at : Option Pos) (w : IsWal
         → rule_of (better best (fits limit (member_of m)) n p) ≡ picked limit (members_of (members_in (walk_next is n at w p e to next).passed))
     pick_more limit best h = picks_better limit (members_of (members_in w.passed)) (member_of m) best n p h (length-members w.passed ∙ w.count) ∙ ap (picked limit) (sym formulas_more)
 
-    pub principal_more : (o : Option Shape) (best : Option Principal) → IfSome best (λ x. IsHeld x is) → IfSome (better best o n p) (λ x. IsHeld x is)
+    pub principal_more : (o : Option Shape) (best : Option Principal) → IfSome best (λ x. IsPrincipalItem x is) → IfSome (better best o n p) (λ x. IsPrincipalItem x is)
     principal_more o best h = held_better is best o n p h (next_held p e)

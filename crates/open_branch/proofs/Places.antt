@@ -14,13 +14,13 @@ use Rattle.sequent.specs.Rules.{has_shape, is_shape, shape, shape_of}
 use Rattle.sequent.specs.Views.{member_of}
 use Rattle.sequent.proofs.Premising.{get-map}
 use Rattle.open_branch.specs.Choosing.{principal}
-use Rattle.open_branch.specs.Standing.{IsHeld, members_in, standing}
+use Rattle.open_branch.specs.Standing.{IsPrincipalItem, members_in, standing}
 use Rattle.open_branch.specs.declared.branch.Branch.{Branch}
 use Rattle.open_branch.proofs.Passing.{next_held}
 
 -- ---- where the walk stands after n items
 module _ (is : List (Pos × Member)) (n : ℕ) where
-  pub place_held : (at : Option Pos) → IsWalk is n at → (k : Shape) → IfSome at (λ p. IsHeld (principal k n p) is)
+  pub place_held : (at : Option Pos) → IsWalk is n at → (k : Shape) → IfSome at (λ p. IsPrincipalItem (principal k n p) is)
   place_held None w k = tt
   place_held (Some p) w k = next_held is n (Some p) w p refl k
 

@@ -45,7 +45,7 @@ abbrev pub premises_from : Branch → Principal → List Sequent
 premises_from b p = premises_of (standing b) (rule_at p.shape p.index)
 
 -- the principal is the item of its number, at its place
-pub record IsHeld (p : Principal) (is : List (Pos × Member)) : Type 0 where
+pub record IsPrincipalItem (p : Principal) (is : List (Pos × Member)) : Type 0 where
   pub before : List (Pos × Member)
   pub member : Member
   pub behind : List (Pos × Member)
@@ -54,7 +54,7 @@ pub record IsHeld (p : Principal) (is : List (Pos × Member)) : Type 0 where
 
 -- the branch has this principal
 abbrev pub IsPrincipal : Branch → Principal → Type 0
-IsPrincipal b p = IsHeld p b.list.present
+IsPrincipal b p = IsPrincipalItem p b.list.present
 
 -- the history after n undos
 abbrev pub undone : {T : Type 0} → ℕ → History T → History T

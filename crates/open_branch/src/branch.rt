@@ -4,7 +4,7 @@ ghost use Rattle.formula.specs.Tree.{form};
 ghost use Rattle.open_branch.specs.Standing.{IsPrincipal, held, premises_from, standing};
 ghost use Rattle.sequent.specs.Leaf as leaf;
 ghost use Rattle.std.specs.List.{list_any, slice_get};
-ghost use Rattle.std.specs.Prelude.{◌≡◌, ◌<◌, ◌^◌, IfOk, Some, length};
+ghost use Rattle.std.specs.Prelude.{◌≡◌, ◌<◌, ◌^◌, IfOk, Some, length, map};
 
 use crate::principal::Principal;
 use backlist::BackList;
@@ -62,6 +62,21 @@ impl Branch {
             members,
             count: self.count,
         })
+    }
+
+    /// The members, read where they lie.
+    pub fn members(&self, alloc: Global) -> Result<Vec<&Member>, Memory>
+        ensures { IfOk result (λ ms. map (λ m. m.now) ms.items ≡ (held self.entry.now).members) }
+    {
+        let mut members = Vec::with_capacity(alloc, self.list.len())?;
+        let mut at = self.list.first();
+        for i in 0..self.list.len() {
+            if let Some(p) = at {
+                members.push(self.list.get(p))?;
+                at = self.list.next(p);
+            }
+        }
+        Ok(members)
     }
 
     /// Whether gamma could be used on some member once more.

@@ -27,10 +27,27 @@ pub struct Entered {
     pub(crate) count: u32,
 }
 
-/// The members, the last one first.
+/// Two members, the last one first.
+fn swapped(members: Items<Member>) -> Result<Items<Member>, Memory>
+    requires { length members ≡ 2 }
+    ensures { IfOk result (λ ms. ms ≡ reverse members) }
+{
+    let mut turned = members;
+    let first = turned.remove(0);
+    turned.push(first)?;
+    Ok(turned)
+}
+
+/// The members, the last one first. Up to two of them, as most rules add, take no further memory.
 fn turned_round(alloc: Global, members: Items<Member>) -> Result<Items<Member>, Memory>
     ensures { IfOk result (λ ms. ms ≡ reverse members) }
 {
+    if members.len() < 2 {
+        return Ok(members);
+    }
+    if members.len() == 2 {
+        return swapped(members);
+    }
     let mut left = members;
     let mut out = Items::new(alloc);
     while let Some(m) = left.pop() {

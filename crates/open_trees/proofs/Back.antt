@@ -3,7 +3,7 @@ use Rattle.std.proofs.Common.{◌≡◌, ℕ, zero, suc, ◌≤◌, ℤ, List, [
 use Rattle.std.specs.List.{AllByRecursion, remove, slice_get}
 use Rattle.typed_formula.specs.Truth.{Meaning}
 use Rattle.formula.specs.Form.{Form, FormTruth, Forms, equal, unequal, at_least, holds, fails, differs, conjunction, disjunction, universal, existential, no_form, and_form}
-use Rattle.sequent.specs.Sequent.{Member, Sequent, member, sequent, IsMemberTrue, AreFalse, IsMember, IsWellFormed}
+use Rattle.sequent.specs.Sequent.{Member, Sequent, member, sequent, IsMemberTrue, AreFalse, IsMember, IsFormedSequent}
 use Rattle.sequent.specs.Rules.{branches, brought, count_after, new_members, one_each, premises_at}
 use Rattle.sequent.proofs.Members.{go, all_left, all_right, all_remove, all_at, all_back, new_is, body_is, older_is, was_false, forms_false}
 
@@ -102,7 +102,7 @@ rule_back w s i over used (fails p ts) j t e r len le formed is more h = absurd 
 rule_back w s i over used (differs p ts u) j t e r len le formed is more h = absurd (nothing_there j t is)
 
 -- a premise that is false at e and values r of its further constants makes the sequent false at e
-pub premise_back : (w : Meaning) (s : Sequent) (i : ℕ) (m : Member) (j : ℕ) (t : Sequent) (e r : List ℤ) → IsWellFormed s → slice_get s.members i ≡ Some m
+pub premise_back : (w : Meaning) (s : Sequent) (i : ℕ) (m : Member) (j : ℕ) (t : Sequent) (e r : List ℤ) → IsFormedSequent s → slice_get s.members i ≡ Some m
     → slice_get (premises_at s i (Some m)) j ≡ Some t → length e ≡ s.count → length (e ++ r) ≡ t.count → AreFalse w (e ++ r) t.members → AreFalse w e s.members
 premise_back w s i m j t e r formed at is len more h =
     let count : t.count ≡ count_after s.count m.formula = all_at (λ (q : Sequent). q.count ≡ count_after s.count m.formula) (premises_at s i (Some m)) j t is (premises_count s i m) in

@@ -10,9 +10,9 @@ use Rattle.clause_set.proofs.Covers.{tidied-truth}
 use Rattle.clause_set.proofs.Kept.{Each, clauses-kept, tidied-kept}
 use Rattle.clause_set.proofs.Operations.{and-truth, clauses_of-truth}
 use Rattle.clause_set.proofs.Reduced.{negation-truth}
-use Rattle.elim_rules.proofs.Forms.{formed-literals}
-use Rattle.solution_rules.specs.Solutions.{IsGiven}
-use Rattle.tree_names.proofs.Clauses.{IsKept, IsRaw, given_raw, kept_given, raw-keeps}
+use Rattle.elim_laws.proofs.Forms.{formed-literals}
+use Rattle.solution_laws.specs.Solutions.{IsGiven}
+use Rattle.proof_tree.proofs.Clauses.{IsKept, IsRaw, given_raw, kept_given, raw-keeps}
 use Rattle.open_trees.specs.Walk.{read}
 
 -- clauses that are put into form

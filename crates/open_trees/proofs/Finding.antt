@@ -4,11 +4,11 @@ use Rattle.purse.specs.Trace.{next}
 use Rattle.clause_set.specs.declared.literal.Literal.{Literal}
 use Rattle.clause_set.specs.Dnfs.{conjunction, negation}
 use Rattle.clause_set.specs.Literals.{dnf_truth}
-use Rattle.solution_rules.specs.Solutions.{IsGiven, solving}
-use Rattle.solution_rules.proofs.Solving.{solving-best, solving-none}
+use Rattle.solution_laws.specs.Solutions.{IsGiven, solving}
+use Rattle.solution_laws.proofs.Solving.{solving-best, solving-none}
 use Rattle.open_trees.specs.Walk.{affirmed, denied, point, read}
 use Rattle.open_trees.proofs.Back.{no_longer, one_only}
-use Rattle.tree_names.proofs.Clauses.{given_and, given_not}
+use Rattle.proof_tree.proofs.Clauses.{given_and, given_not}
 use Rattle.open_trees.proofs.Clauses.{both_truth, given_literals, given_read, not_truth, read_truth}
 use Rattle.open_trees.proofs.Points.{point_given, point_true, true_point}
 

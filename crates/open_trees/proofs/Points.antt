@@ -9,9 +9,9 @@ use Rattle.integers.proofs.Entries.{entry-append_right}
 use Rattle.linear_term.specs.Linear.{IsOver, IsReduced, value_of}
 use Rattle.clause_set.specs.declared.literal.Literal.TheVariants.{Eq}
 use Rattle.clause_set.specs.Literals.{clause_truth, dnf_truth, literal_truth}
-use Rattle.solution_rules.specs.Solutions.{IsGiven}
+use Rattle.solution_laws.specs.Solutions.{IsGiven}
 use Rattle.open_trees.specs.Walk.{apart, equations_from, point}
-use Rattle.tree_names.proofs.Clauses.{IsRaw}
+use Rattle.proof_tree.proofs.Clauses.{IsRaw}
 use Rattle.open_trees.proofs.Clauses.{raw_are_literals, raw_read, read_truth}
 
 -- ---- the equations are literals over the names below n

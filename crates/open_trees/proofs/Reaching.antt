@@ -11,12 +11,12 @@ use Rattle.sequent.specs.declared.member.Shape.TheVariants.{Trivial, Alpha, Delt
 use Rattle.sequent.specs.Covers.{IsOneFalse}
 use Rattle.sequent.specs.Leaf.{is_leaf}
 use Rattle.sequent.specs.Rules.{count_after, is_shape, place, premises_at, premises_of, shape_of}
-use Rattle.sequent.specs.Sequent.{Member, Sequent, member, AreFalse, IsMember, IsWellFormed}
+use Rattle.sequent.specs.Sequent.{Member, Sequent, member, AreFalse, IsMember, IsFormedSequent}
 use Rattle.sequent.proofs.Members.{all_at}
 use Rattle.pred_unify.specs.Leaf.{table_of}
 use Rattle.pred_unify.specs.Pairs.{closing_of}
 use Rattle.pred_unify.proofs.Leaves.{leaf_tight}
-use Rattle.solution_rules.specs.Solutions.{IsGiven}
+use Rattle.solution_laws.specs.Solutions.{IsGiven}
 use Rattle.proof_tree.specs.Gives.{AreGiven, Gives, truths}
 use Rattle.proof_tree.specs.Proof.{Proof, Proofs, node, no_proof, and_proof, given, all_given}
 use Rattle.proof_tree.specs.Reduced.{IsReducedSequent}
@@ -25,7 +25,7 @@ use Rattle.proof_tree.specs.Says.{FalsityAt}
 use Rattle.proof_tree.specs.Walk.{on_some}
 use Rattle.proof_tree.proofs.Giving.{constraint_is, formed_by}
 use Rattle.proof_tree.proofs.Premises.{reduced_by}
-use Rattle.tree_names.proofs.Given.{node_given}
+use Rattle.proof_tree.proofs.Given.{node_given}
 use Rattle.open_trees.specs.Open.{AreOpen, IsOpen}
 use Rattle.open_trees.specs.Walk.{Stop, denied, walk, walk_false, walk_first, where_none}
 use Rattle.open_trees.proofs.Back.{premise_back, premises_count}
@@ -67,7 +67,7 @@ same_end : (s : Sequent) (v : List ℤ) (work whole : Traced (Option Stop)) → 
 same_end s v work whole same e = record { stop = e.stop; is = same ∙ e.is; more = e.more; values = e.values; formed = e.formed; fails = e.fails; back = e.back }
 
 -- from a premise, at v and r, to the sequent, at v
-up : (s : Sequent) (i : ℕ) (m : Member) (v r : List ℤ) (work whole : Traced (Option Stop)) → IsWellFormed s → slice_get s.members i ≡ Some m → length v ≡ s.count → length (v ++ r) ≡ count_after s.count m.formula
+up : (s : Sequent) (i : ℕ) (m : Member) (v r : List ℤ) (work whole : Traced (Option Stop)) → IsFormedSequent s → slice_get s.members i ≡ Some m → length v ≡ s.count → length (v ++ r) ≡ count_after s.count m.formula
     → whole.value ≡ work.value → EndsBelow (premises_at s i (Some m)) (v ++ r) work → Ends s v whole
 up s i m v r work whole formed at len more same b =
     let e = b.ends in
@@ -83,13 +83,13 @@ up s i m v r work whole formed at len more same b =
     }
 
 -- the same where the premise has no further constant
-up_same : (s : Sequent) (i : ℕ) (m : Member) (v : List ℤ) (work : Traced (Option Stop)) → IsWellFormed s → slice_get s.members i ≡ Some m → length v ≡ s.count → s.count ≡ count_after s.count m.formula
+up_same : (s : Sequent) (i : ℕ) (m : Member) (v : List ℤ) (work : Traced (Option Stop)) → IsFormedSequent s → slice_get s.members i ≡ Some m → length v ≡ s.count → s.count ≡ count_after s.count m.formula
     → EndsBelow (premises_at s i (Some m)) v work → Ends s v work
 up_same s i m v work formed at len more b =
     up s i m v [] work work formed at len (ap length (append-nil v) ∙ len ∙ more) refl (subst (λ u. EndsBelow (premises_at s i (Some m)) u work) (sym (append-nil v)) b)
 
 -- ---- the rules
-close_ends : (s : Sequent) (v : List ℤ) → IsWellFormed s → length v ≡ s.count → AllByRecursion (λ m. is_leaf m.formula ≡ true) s.members → ((w : Meaning) → ¬ (FormTruth w (closing_of s).value v))
+close_ends : (s : Sequent) (v : List ℤ) → IsFormedSequent s → length v ≡ s.count → AllByRecursion (λ m. is_leaf m.formula ≡ true) s.members → ((w : Meaning) → ¬ (FormTruth w (closing_of s).value v))
     → Ends s v (just (Some (record { values = v; members = s.members })))
 unfolding just
 close_ends s v formed len leaf bad = record {
@@ -121,7 +121,7 @@ trivial_ends s i (Some m) ns v {A} k g f = by m.over m.used m.formula k g f
     by over used (conjunction (and_form h hs)) k g f = absurd (cc)
     by over used h k g f = absurd (cc)
 
-alpha_ends : (s : Sequent) (i : ℕ) (o : Option Member) (ns : Proofs) (v : List ℤ) → is_shape Alpha (shape_of o) ≡ true → IsWellFormed s → slice_get s.members i ≡ o → length v ≡ s.count
+alpha_ends : (s : Sequent) (i : ℕ) (o : Option Member) (ns : Proofs) (v : List ℤ) → is_shape Alpha (shape_of o) ≡ true → IsFormedSequent s → slice_get s.members i ≡ o → length v ≡ s.count
     → First (premises_at s i o) ns → AreGiven (premises_at s i o) ns → FalsityAt o (truths (all_given ns)) v → Ends s v (walk_first (premises_at s i o) ns v)
 alpha_ends s i None ns v k formed at len first g f = absurd f
 alpha_ends s i (Some m) ns v k formed at len first g f = by m.over m.used m.formula k at first g f
@@ -134,19 +134,19 @@ alpha_ends s i (Some m) ns v k formed at len first g f = by m.over m.used m.form
     by over used (conjunction (and_form h hs)) k at first g f = absurd (cc)
     by over used h k at first g f = absurd (cc)
 
-delta_ends : (s : Sequent) (i : ℕ) (o : Option Member) (ns : Proofs) (v : List ℤ) → is_shape Delta (shape_of o) ≡ true → IsWellFormed s → slice_get s.members i ≡ o → length v ≡ s.count
-    → First (premises_at s i o) ns → AllByRecursion IsWellFormed (premises_at s i o) → AllByRecursion IsReducedSequent (premises_at s i o) → AreGiven (premises_at s i o) ns → FalsityAt o (truths (all_given ns)) v
+delta_ends : (s : Sequent) (i : ℕ) (o : Option Member) (ns : Proofs) (v : List ℤ) → is_shape Delta (shape_of o) ≡ true → IsFormedSequent s → slice_get s.members i ≡ o → length v ≡ s.count
+    → First (premises_at s i o) ns → AllByRecursion IsFormedSequent (premises_at s i o) → AllByRecursion IsReducedSequent (premises_at s i o) → AreGiven (premises_at s i o) ns → FalsityAt o (truths (all_given ns)) v
     → Ends s v (next (denied (suc s.count) (first_given (all_given ns)) v) (on_some (λ u. walk_first (premises_at s i o) ns u)))
 unfolding next
 delta_ends s i None ns v k formed at len first w r g f = absurd f
 delta_ends s i (Some m) ns v k formed at len first w r g f = by m.over m.used m.formula k at first w r g f
   where
-    constraint : (t : Sequent) (ns : Proofs) → IsWellFormed t → IsReducedSequent t → AreGiven (t ∷ []) ns → IsGiven t.count (first_given (all_given ns))
+    constraint : (t : Sequent) (ns : Proofs) → IsFormedSequent t → IsReducedSequent t → AreGiven (t ∷ []) ns → IsGiven t.count (first_given (all_given ns))
     constraint t no_proof w r g = absurd g
     constraint t (and_proof x xs) w r g = node_given t x w r g.0
 
     by : (over used : ℕ) (f : Form) → is_shape Delta (shape_of (Some (member f over used))) ≡ true → slice_get s.members i ≡ Some (member f over used) → First (premises_at s i (Some (member f over used))) ns
-        → AllByRecursion IsWellFormed (premises_at s i (Some (member f over used))) → AllByRecursion IsReducedSequent (premises_at s i (Some (member f over used)))
+        → AllByRecursion IsFormedSequent (premises_at s i (Some (member f over used))) → AllByRecursion IsReducedSequent (premises_at s i (Some (member f over used)))
         → AreGiven (premises_at s i (Some (member f over used))) ns → FalsityAt (Some (member f over used)) (truths (all_given ns)) v
         → Ends s v (next (denied (suc s.count) (first_given (all_given ns)) v) (on_some (λ u. walk_first (premises_at s i (Some (member f over used))) ns u)))
     by over used (universal f) k at first w r g wrong =
@@ -166,7 +166,7 @@ delta_ends s i (Some m) ns v k formed at len first w r g f = by m.over m.used m.
     by over used (conjunction (and_form h hs)) k at first w r g wrong = absurd (cc)
     by over used h k at first w r g wrong = absurd (cc)
 
-beta_ends : (s : Sequent) (i : ℕ) (o : Option Member) (ns : Proofs) (v : List ℤ) → is_shape Beta (shape_of o) ≡ true → IsWellFormed s → slice_get s.members i ≡ o → length v ≡ s.count
+beta_ends : (s : Sequent) (i : ℕ) (o : Option Member) (ns : Proofs) (v : List ℤ) → is_shape Beta (shape_of o) ≡ true → IsFormedSequent s → slice_get s.members i ≡ o → length v ≡ s.count
     → OneOf (premises_at s i o) ns → FalsityAt o (truths (all_given ns)) v → Ends s v (walk_false s.count (premises_at s i o) ns v)
 beta_ends s i None ns v k formed at len one f = absurd f
 beta_ends s i (Some m) ns v k formed at len one f = by m.over m.used m.formula k at one f
@@ -197,7 +197,7 @@ beta_step n s ss x xs u true is c len here later (inr one) =
 
 mutual
   -- the walk ends at a false leaf
-  pub reached : (s : Sequent) (x : Proof) (v : List ℤ) → IsWellFormed s → IsReducedSequent s → Gives s x → IsOpen s x → length v ≡ s.count → dnf_truth (given x) v ≡ false → Ends s v (walk s x v)
+  pub reached : (s : Sequent) (x : Proof) (v : List ℤ) → IsFormedSequent s → IsReducedSequent s → Gives s x → IsOpen s x → length v ≡ s.count → dnf_truth (given x) v ≡ false → Ends s v (walk s x v)
   reached s (node (pick.Trivial i) ns log d) v w r g o len bad =
       trivial_ends s i (slice_get s.members i) ns v g.0 g.1 ((constraint_is s (pick.Trivial i) ns log d r g).no v len bad)
   reached s (node (pick.Alpha i) ns log d) v w r g o len bad =
@@ -213,12 +213,12 @@ mutual
   reached s (node (pick.Gamma i) ns log d) v w r g o len bad = absurd o.0
   reached s (node pick.Close ns log d) v w r g o len bad = close_ends s v w len o.0 ((constraint_is s pick.Close ns log d r g).no v len bad)
 
-  firsts : (ss : List Sequent) (ns : Proofs) → AllByRecursion IsWellFormed ss → AllByRecursion IsReducedSequent ss → AreGiven ss ns → AreOpen ss ns → First ss ns
+  firsts : (ss : List Sequent) (ns : Proofs) → AllByRecursion IsFormedSequent ss → AllByRecursion IsReducedSequent ss → AreGiven ss ns → AreOpen ss ns → First ss ns
   firsts [] ns w r g o = λ u n c len some bad. absurd some
   firsts (s ∷ ss) no_proof w r g o = λ u n c len some bad. absurd g
   firsts (s ∷ ss) (and_proof x xs) w r g o = λ u n c len some bad. record { at = 0; premise = s; is = refl; ends = reached s x u w.0 r.0 g.0 o.0 (len ∙ sym c.0) bad }
 
-  ones : (ss : List Sequent) (ns : Proofs) → AllByRecursion IsWellFormed ss → AllByRecursion IsReducedSequent ss → AreGiven ss ns → AreOpen ss ns → OneOf ss ns
+  ones : (ss : List Sequent) (ns : Proofs) → AllByRecursion IsFormedSequent ss → AllByRecursion IsReducedSequent ss → AreGiven ss ns → AreOpen ss ns → OneOf ss ns
   ones [] no_proof w r g o = λ u n c len one. absurd one
   ones [] (and_proof x xs) w r g o = λ u n c len one. absurd g
   ones (s ∷ ss) no_proof w r g o = λ u n c len one. absurd g

@@ -29,7 +29,7 @@ use Rattle.formula.proofs.Extending.{value_extends, values_extend}
 use Rattle.sequent.specs.Sequent.{Member, AreFalse, IsMember}
 use Rattle.pred_unify.specs.Leaf.{asks_truth, truth_in, value_at_first, value_in, table_of}
 use Rattle.pred_unify.proofs.Clashes.{first_ones}
-use Rattle.solution_rules.specs.Candidates.{computed}
+use Rattle.solution_laws.specs.Candidates.{computed}
 use Rattle.open_trees.specs.Walk.{Stop}
 use Rattle.open_trees.specs.Rows.{all_evaluated, evaluated, meaning_of, one_value, summed, table_at, truth_cmp, truth_row, value_cmp, value_row}
 

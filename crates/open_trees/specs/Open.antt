@@ -37,7 +37,7 @@ pub record IsOpenTree (f : Form) (n : ℕ) (x : Proof) : Type 0 where
   pub is : IsOpen (start f n) x
 
 -- The tree of the formula f over n names is open, and its constraint is false everywhere; f has an application.
-pub record IsSaturated (f : Form) (n : ℕ) (x : Proof) : Type 0 where
+pub record IsSaturatedTree (f : Form) (n : ℕ) (x : Proof) : Type 0 where
   pub tree : IsOpenTree f n x
   pub application : is_pure f ≡ false
   pub nowhere : (e : List ℤ) → length e ≡ n → dnf_truth (given x) e ≡ false

@@ -13,7 +13,7 @@ use Rattle.typed_formula.specs.declared.world.Table.{Table}
 use Rattle.typed_formula.specs.declared.world.TruthRow.{TruthRow}
 use Rattle.typed_formula.specs.declared.world.ValueRow.{ValueRow}
 use Rattle.formula.specs.Form.{Form, fails, differs}
-use Rattle.solution_rules.specs.Candidates.{computed}
+use Rattle.solution_laws.specs.Candidates.{computed}
 use Rattle.open_trees.specs.Walk.{Stop}
 
 -- the interpretation that a finite table gives

@@ -9,19 +9,19 @@ use Rattle.sequent.specs.declared.member.Pick.{Pick}
 use Rattle.sequent.specs.declared.member.Pick.TheVariants as pick
 use Rattle.sequent.specs.declared.member.Shape.TheVariants.{Alpha, Beta, Delta}
 use Rattle.sequent.specs.Rules.{applies, is_shape, place, premises_at, premises_of, shape_of}
-use Rattle.sequent.specs.Sequent.{Member, Sequent, member, IsWellFormed}
-use Rattle.solution_rules.specs.Solutions.{IsGiven}
+use Rattle.sequent.specs.Sequent.{Member, Sequent, member, IsFormedSequent}
+use Rattle.solution_laws.specs.Solutions.{IsGiven}
 use Rattle.proof_tree.specs.Gives.{AreGiven}
 use Rattle.proof_tree.specs.Proof.{Proof, Proofs, node, no_proof, and_proof, given, proofs}
 use Rattle.proof_tree.specs.Reduced.{IsReducedSequent}
 use Rattle.proof_tree.proofs.Giving.{formed_by}
 use Rattle.proof_tree.proofs.Premises.{reduced_by}
-use Rattle.tree_names.proofs.Given.{node_given}
+use Rattle.proof_tree.proofs.Given.{node_given}
 use Rattle.open_trees.specs.Levels.{HasLevels, HaveLevels}
 use Rattle.node_steps.specs.Within.{IsWithin}
 use Rattle.node_steps.proofs.Keeping.{premises_few, premises_within}
 use Rattle.open_trees.proofs.Back.{premises_count}
-use Rattle.open_walk.specs.Ready.{AreReady, IsReady}
+use Rattle.open_walk.specs.Ready.{AreWalkReady, IsWalkReady}
 
 abbrev pub HasCount : ℕ → Sequent → Type 0
 HasCount n t = t.count ≡ n
@@ -79,21 +79,21 @@ delta_one s i k = by (slice_get s.members i) k
 
 -- ---- readiness
 all_ready : (k : ℕ) (ss : List Sequent) (ns : Proofs) (u : List ℤ) → AllByRecursion (IsWithin k) ss → AllByRecursion IsReducedSequent ss → HaveLevels k ns → AreGiven ss ns → AllByRecursion InRange u → AllByRecursion (HasCount (length u)) ss
-    → AreReady k ss ns u
+    → AreWalkReady k ss ns u
 all_ready k [] no_proof u w r l g i c = tt
 all_ready k [] (and_proof x xs) u w r l g i c = absurd g
 all_ready k (s ∷ ss) no_proof u w r l g i c = absurd g
 all_ready k (s ∷ ss) (and_proof x xs) u w r l g i c = (record { within = w.0; reduced = r.0; levels = l.0; gives = g.0; values = i; many = sym c.0 }, all_ready k ss xs u w.1 r.1 l.1 g.1 i c.1)
 
-pub below : (left k : ℕ) (s : Sequent) (p : Pick) (ns : Proofs) (log : List Entry) (d : List (List Literal)) (v : List ℤ) → left ≡ suc k → IsReady left s (node p ns log d) v
-    → (u : List ℤ) → AllByRecursion InRange u → AllByRecursion (HasCount (length u)) (premises_of s p) → AreReady k (premises_of s p) ns u
+pub below : (left k : ℕ) (s : Sequent) (p : Pick) (ns : Proofs) (log : List Entry) (d : List (List Literal)) (v : List ℤ) → left ≡ suc k → IsWalkReady left s (node p ns log d) v
+    → (u : List ℤ) → AllByRecursion InRange u → AllByRecursion (HasCount (length u)) (premises_of s p) → AreWalkReady k (premises_of s p) ns u
 below left k s p ns log d v is h u inside counts =
     let w : IsWithin (k + 1) s = subst (λ j. IsWithin j s) (omega (arith, is)) h.within in
     let l : HasLevels (suc k) (node p ns log d) = subst (λ j. HasLevels j (node p ns log d)) is h.levels in
     all_ready k (premises_of s p) ns u (premises_within k s p w) (reduced_by s (place p) h.reduced) l h.gives.1 inside counts
 
 -- ---- the constraints of the children
-children_given : (n : ℕ) (ss : List Sequent) (ys : List Proof) → AllByRecursion IsWellFormed ss → AllByRecursion IsReducedSequent ss → AreGiven ss (proofs ys) → AllByRecursion (HasCount n) ss → AllByRecursion (λ y. IsGiven n (given y)) ys
+children_given : (n : ℕ) (ss : List Sequent) (ys : List Proof) → AllByRecursion IsFormedSequent ss → AllByRecursion IsReducedSequent ss → AreGiven ss (proofs ys) → AllByRecursion (HasCount n) ss → AllByRecursion (λ y. IsGiven n (given y)) ys
 children_given n [] [] w r g c = tt
 children_given n [] (y ∷ ys) w r g c = absurd g
 children_given n (s ∷ ss) [] w r g c = absurd g
@@ -105,15 +105,15 @@ children_length [] (y ∷ ys) g = absurd g
 children_length (s ∷ ss) [] g = absurd g
 children_length (s ∷ ss) (y ∷ ys) g = ap suc (children_length ss ys g.1)
 
-pub given_below : (left n : ℕ) (s : Sequent) (p : Pick) (ys : List Proof) (log : List Entry) (d : List (List Literal)) (v : List ℤ) → IsReady left s (node p (proofs ys) log d) v → AllByRecursion (HasCount n) (premises_of s p)
+pub given_below : (left n : ℕ) (s : Sequent) (p : Pick) (ys : List Proof) (log : List Entry) (d : List (List Literal)) (v : List ℤ) → IsWalkReady left s (node p (proofs ys) log d) v → AllByRecursion (HasCount n) (premises_of s p)
     → AllByRecursion (λ y. IsGiven n (given y)) ys
 given_below left n s p ys log d v h c = children_given n (premises_of s p) ys (formed_by s (place p) h.within.formed) (reduced_by s (place p) h.reduced) h.gives.1 c
 
-pub few_below : (left : ℕ) (s : Sequent) (p : Pick) (ys : List Proof) (log : List Entry) (d : List (List Literal)) (v : List ℤ) → IsReady left s (node p (proofs ys) log d) v → length ys < 2 ^ 32
+pub few_below : (left : ℕ) (s : Sequent) (p : Pick) (ys : List Proof) (log : List Entry) (d : List (List Literal)) (v : List ℤ) → IsWalkReady left s (node p (proofs ys) log d) v → length ys < 2 ^ 32
 few_below left s p ys log d v h = let n = children_length (premises_of s p) ys h.gives.1 in let few = premises_few left s p h.within in omega (arith, n, few)
 
-pub one_below : (left : ℕ) (s : Sequent) (i : ℕ) (ys : List Proof) (log : List Entry) (d : List (List Literal)) (v : List ℤ) → IsReady left s (node (pick.Delta i) (proofs ys) log d) v → 1 ≤ length ys
+pub one_below : (left : ℕ) (s : Sequent) (i : ℕ) (ys : List Proof) (log : List Entry) (d : List (List Literal)) (v : List ℤ) → IsWalkReady left s (node (pick.Delta i) (proofs ys) log d) v → 1 ≤ length ys
 one_below left s i ys log d v h = let n = children_length (premises_of s (pick.Delta i)) ys h.gives.1 in let one = delta_one s i h.gives.0 in omega (arith, n, one)
 
-pub few_constants : (left : ℕ) (s : Sequent) (x : Proof) (v : List ℤ) → IsReady left s x v → s.count + 1 < 2 ^ 32
+pub few_constants : (left : ℕ) (s : Sequent) (x : Proof) (v : List ℤ) → IsWalkReady left s x v → s.count + 1 < 2 ^ 32
 few_constants left s x v h = let c = h.within.constants in omega (arith, c)

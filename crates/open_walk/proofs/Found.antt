@@ -7,14 +7,14 @@ use Rattle.purse.specs.Trace.{Event, Funds, at, charge, raw, mark, At, after_cha
 use Rattle.purse.specs.Work.{ChargedAt}
 use Rattle.clause_set.specs.declared.literal.Literal.{Literal}
 use Rattle.clause_set.specs.Dnfs.{conjunction, negation}
-use Rattle.solution_rules.specs.Solutions.{IsGiven, solving}
-use Rattle.solution_rules.proofs.Solving.{solving-best}
+use Rattle.solution_laws.specs.Solutions.{IsGiven, solving}
+use Rattle.solution_laws.proofs.Solving.{solving-best}
 use Rattle.solution_range.proofs.Parts.{stay_parts}
 use Rattle.solution_range.proofs.Values.{solution_in}
 use Rattle.purse.specs.Runs.{raw_stay}
-use Rattle.open_walk.specs.Doing.{Does}
+use Rattle.open_walk.specs.Doing.{DoesWork}
 use Rattle.open_trees.specs.Walk.{denied, point, read}
-use Rattle.tree_names.proofs.Clauses.{given_and, given_not}
+use Rattle.proof_tree.proofs.Clauses.{given_and, given_not}
 use Rattle.open_trees.proofs.Clauses.{given_read}
 use Rattle.open_trees.proofs.Points.{point_given}
 
@@ -57,11 +57,11 @@ denied_fits n d v u {a} {b} given few did =
     let tail = (stay_parts (conjunction wrong (point v)).events (solving n both).events ((stay_parts (negation (read d)).events ((conjunction wrong (point v)).events ++ (solving n both).events) stay).1)).1 in
     record { range = solution_in n both u formed is tail; many = (solving-best n both u formed is).names }
 
-fits : (n : ℕ) (d : List (List Literal)) (v u : List ℤ) {a b : Funds} (r : Result (Option (List ℤ)) StepFault) → IsGiven n d → length v ≤ n → r ≡ Ok (Some u) → Does (denied n d v) a r b → Fits n u
+fits : (n : ℕ) (d : List (List Literal)) (v u : List ℤ) {a b : Funds} (r : Result (Option (List ℤ)) StepFault) → IsGiven n d → length v ≤ n → r ≡ Ok (Some u) → DoesWork (denied n d v) a r b → Fits n u
 fits n d v u {a} {b} r given few is did = denied_fits n d v u given few (subst (λ (z : Result (Option (List ℤ)) StepFault). ChargedAt (denied n d v) (at a []) z (at b did.notes)) is did.charged)
 
-pub denied_range : (n : ℕ) (d : List (List Literal)) (v u : List ℤ) {a b : Funds} (r : Result (Option (List ℤ)) StepFault) → IsGiven n d → length v ≤ n → r ≡ Ok (Some u) → Does (denied n d v) a r b → AllByRecursion InRange u
+pub denied_range : (n : ℕ) (d : List (List Literal)) (v u : List ℤ) {a b : Funds} (r : Result (Option (List ℤ)) StepFault) → IsGiven n d → length v ≤ n → r ≡ Ok (Some u) → DoesWork (denied n d v) a r b → AllByRecursion InRange u
 denied_range n d v u r given few is did = (fits n d v u r given few is did).range
 
-pub denied_many : (n : ℕ) (d : List (List Literal)) (v u : List ℤ) {a b : Funds} (r : Result (Option (List ℤ)) StepFault) → IsGiven n d → length v ≤ n → r ≡ Ok (Some u) → Does (denied n d v) a r b → length u ≡ n
+pub denied_many : (n : ℕ) (d : List (List Literal)) (v u : List ℤ) {a b : Funds} (r : Result (Option (List ℤ)) StepFault) → IsGiven n d → length v ≤ n → r ≡ Ok (Some u) → DoesWork (denied n d v) a r b → length u ≡ n
 denied_many n d v u r given few is did = (fits n d v u r given few is did).many

@@ -6,7 +6,7 @@ use Rattle.purse.specs.declared.fault.StepFault.{StepFault}
 use Rattle.purse.specs.Work.{Worked}
 use Rattle.purse.proofs.Charging.{Left, left_ends, left_next, work_err, work_just}
 use Rattle.open_trees.specs.Rows.{evaluated, summed}
-use Rattle.solution_rules.specs.Candidates.{computed}
+use Rattle.solution_laws.specs.Candidates.{computed}
 
 pub sum_cut : {x : StepFault} (e : List ℤ) (p : ℕ × ℤ) (more rest : List (ℕ × ℤ)) (s a : ℤ) (t : Linear) (r : Result ℤ StepFault) → rest ≡ p ∷ more → a ≡ entry e p.0 → Left (summed e rest s) (evaluated e t)
     → Worked (computed (record { m = p.1; a = a; n = pos 1; b = s })) (Err x) → IsErrAnd r (λ y. y ≡ x) → Worked (evaluated e t) r

@@ -10,7 +10,7 @@ use Rattle.node_steps.specs.Within.{IsWithin}
 use Rattle.open_trees.specs.Levels.{HasLevels}
 
 -- the walk can be at this node with these values: its tree gives its constraint, has at most so many levels, and the limits of a branch are kept
-pub record IsReady (left : ℕ) (s : Sequent) (x : Proof) (v : List ℤ) : Type 0 where
+pub record IsWalkReady (left : ℕ) (s : Sequent) (x : Proof) (v : List ℤ) : Type 0 where
   pub within : IsWithin left s
   pub reduced : IsReducedSequent s
   pub levels : HasLevels left x
@@ -19,8 +19,8 @@ pub record IsReady (left : ℕ) (s : Sequent) (x : Proof) (v : List ℤ) : Type 
   pub many : length v ≡ s.count
 
 -- the same of each premise and its tree
-abbrev pub AreReady : ℕ → List Sequent → Proofs → List ℤ → Type 0
-AreReady left [] no_proof v = Unit {0}
-AreReady left [] (and_proof x xs) v = ⊥
-AreReady left (s ∷ ss) no_proof v = ⊥
-AreReady left (s ∷ ss) (and_proof x xs) v = IsReady left s x v × AreReady left ss xs v
+abbrev pub AreWalkReady : ℕ → List Sequent → Proofs → List ℤ → Type 0
+AreWalkReady left [] no_proof v = Unit {0}
+AreWalkReady left [] (and_proof x xs) v = ⊥
+AreWalkReady left (s ∷ ss) no_proof v = ⊥
+AreWalkReady left (s ∷ ss) (and_proof x xs) v = IsWalkReady left s x v × AreWalkReady left ss xs v

@@ -4,8 +4,8 @@ ghost use Rattle.clause_set.specs.Formed.{IsFormed};
 ghost use Rattle.linear_term.specs.Range.{InRange};
 ghost use Rattle.std.specs.List.{AllByRecursion};
 ghost use Rattle.std.specs.Prelude.{◌≡◌, ◌≤◌, ◌<◌, ◌^◌, All, length, List, Ok, Some, ℤ};
-ghost use Rattle.open_walk.specs.Doing.{Does, found_in};
-ghost use Rattle.solution_rules.specs.Solutions.{IsGiven};
+ghost use Rattle.open_walk.specs.Doing.{DoesWork, found_in};
+ghost use Rattle.solution_laws.specs.Solutions.{IsGiven};
 ghost use Rattle.open_trees.specs.Walk as w;
 
 use super::clauses::{point, read};
@@ -41,7 +41,7 @@ fn searched(
     requires values { AllByRecursion InRange v.now }
     requires few { length v.now ≤ names }
     requires budget { purse.old.budget < 2 ^ 32 }
-    ensures { Does (w.denied names gives.now v.now) purse.old result purse.new }
+    ensures { DoesWork (w.denied names gives.now v.now) purse.old result purse.new }
 {
     let d = read(alloc, gives)?;
     let wrong = not(alloc, &d, purse)?;
@@ -62,7 +62,7 @@ pub fn denied(
     requires values { AllByRecursion InRange v.now }
     requires few { length v.now ≤ names }
     requires budget { purse.old.budget < 2 ^ 32 }
-    ensures work { Does (w.denied names gives.now v.now) purse.old result purse.new }
+    ensures work { DoesWork (w.denied names gives.now v.now) purse.old result purse.new }
     ensures values { (u : List ℤ) → result ≡ Ok (Some u) → AllByRecursion InRange u }
     ensures many { (u : List ℤ) → result ≡ Ok (Some u) → length u ≡ names }
 {
@@ -82,7 +82,7 @@ pub fn affirmed(
     requires values { AllByRecursion InRange v.now }
     requires few { length v.now ≤ names }
     requires budget { purse.old.budget < 2 ^ 32 }
-    ensures { Does (w.affirmed names gives.now v.now) purse.old result purse.new }
+    ensures { DoesWork (w.affirmed names gives.now v.now) purse.old result purse.new }
 {
     let d = read(alloc, gives)?;
     let here = point(alloc, v)?;

@@ -7,15 +7,15 @@ ghost use Rattle.std.specs.List.{AllByRecursion};
 ghost use Rattle.purse.specs.Trace.{next};
 ghost use Rattle.std.specs.List.{slice_get};
 ghost use Rattle.std.specs.Prelude.{◌≡◌, ◌+◌, ◌<◌, ◌≤◌, ◌^◌, drop, length, List, map, Ok, Some, suc, ℤ};
-ghost use Rattle.open_walk.specs.Doing.{Does};
-ghost use Rattle.open_walk.specs.Ready.{AreReady, IsReady};
+ghost use Rattle.open_walk.specs.Doing.{DoesWork};
+ghost use Rattle.open_walk.specs.Ready.{AreWalkReady, IsWalkReady};
 ghost use Rattle.open_walk.specs.Stopped.{stopped};
 ghost use Rattle.open_walk.specs.declared.walking.Stop.{Stop};
 ghost use Rattle.proof_tree.specs.Proof.{Proof, all_given, given, proofs};
 ghost use Rattle.proof_tree.specs.Rules.{first_given};
 ghost use Rattle.proof_tree.specs.Views.{proof_of};
 ghost use Rattle.proof_tree.specs.Walk.{on_some};
-ghost use Rattle.solution_rules.specs.Solutions.{IsGiven};
+ghost use Rattle.solution_laws.specs.Solutions.{IsGiven};
 ghost use Rattle.open_trees.specs.Walk as w;
 
 use super::finding::{affirmed, denied};
@@ -43,9 +43,9 @@ pub fn walk(
     values: Items<i128>,
     purse: &mut Purse,
 ) -> Result<Option<Stop>, StepFault>
-    requires ready { IsReady left (sequent_of s) (proof_of x.now) values }
+    requires ready { IsWalkReady left (sequent_of s) (proof_of x.now) values }
     requires budget { purse.old.budget < 2 ^ 32 }
-    ensures work { Does (w.walk (sequent_of s) (proof_of x.now) values) purse.old (stopped result) purse.new }
+    ensures work { DoesWork (w.walk (sequent_of s) (proof_of x.now) values) purse.old (stopped result) purse.new }
     ensures values { (stop : Stop) → result ≡ Ok (Some stop) → AllByRecursion InRange stop.values }
 {
     if left == 0 {
@@ -102,9 +102,9 @@ fn step(
     purse: &mut Purse,
 ) -> Result<Option<Stop>, StepFault>
     requires room { HasRoom s.now }
-    requires ready { AreReady left (drop i (calculus.premises_of (sequent_of s.now) rule)) (proofs (map proof_of (drop i children.now))) values }
+    requires ready { AreWalkReady left (drop i (calculus.premises_of (sequent_of s.now) rule)) (proofs (map proof_of (drop i children.now))) values }
     requires budget { purse.old.budget < 2 ^ 32 }
-    ensures work { Does (w.walk_first (drop i (calculus.premises_of (sequent_of s.now) rule)) (proofs (map proof_of (drop i children.now))) values) purse.old (stopped result) purse.new }
+    ensures work { DoesWork (w.walk_first (drop i (calculus.premises_of (sequent_of s.now) rule)) (proofs (map proof_of (drop i children.now))) values) purse.old (stopped result) purse.new }
     ensures values { (stop : Stop) → result ≡ Ok (Some stop) → AllByRecursion InRange stop.values }
 {
     match at(children, i as usize) {
@@ -131,11 +131,11 @@ fn turn(
     requires few { s.now.count + 1 < 2 ^ 32 }
     requires child { 1 ≤ length children.now }
     requires given { (child : Proof) → slice_get (map proof_of children.now) 0 ≡ Some child → IsGiven (s.now.count + 1) (given child) }
-    requires ready { (u : List ℤ) → AllByRecursion InRange u → length u ≡ s.now.count + 1 → AreReady left (calculus.premises_of (sequent_of s.now) rule) (proofs (map proof_of children.now)) u }
+    requires ready { (u : List ℤ) → AllByRecursion InRange u → length u ≡ s.now.count + 1 → AreWalkReady left (calculus.premises_of (sequent_of s.now) rule) (proofs (map proof_of children.now)) u }
     requires values { AllByRecursion InRange values }
     requires many { length values ≡ s.now.count }
     requires budget { purse.old.budget < 2 ^ 32 }
-    ensures work { Does (next (w.denied (suc s.now.count) (first_given (all_given (proofs (map proof_of children.now)))) values) (on_some (λ u. w.walk_first (calculus.premises_of (sequent_of s.now) rule) (proofs (map proof_of children.now)) u))) purse.old (stopped result) purse.new }
+    ensures work { DoesWork (next (w.denied (suc s.now.count) (first_given (all_given (proofs (map proof_of children.now)))) values) (on_some (λ u. w.walk_first (calculus.premises_of (sequent_of s.now) rule) (proofs (map proof_of children.now)) u))) purse.old (stopped result) purse.new }
     ensures values { (stop : Stop) → result ≡ Ok (Some stop) → AllByRecursion InRange stop.values }
 {
     match at(children, 0) {
@@ -169,11 +169,11 @@ fn fork(
     requires room { HasRoom s.now }
     requires few { length children.now < 2 ^ 32 }
     requires given { AllByRecursion (λ x. IsGiven s.now.count (given x)) (map proof_of children.now) }
-    requires ready { AreReady left (calculus.premises_of (sequent_of s.now) rule) (proofs (map proof_of children.now)) values }
+    requires ready { AreWalkReady left (calculus.premises_of (sequent_of s.now) rule) (proofs (map proof_of children.now)) values }
     requires values { AllByRecursion InRange values }
     requires many { length values ≡ s.now.count }
     requires budget { purse.old.budget < 2 ^ 32 }
-    ensures work { Does (w.walk_false s.now.count (calculus.premises_of (sequent_of s.now) rule) (proofs (map proof_of children.now)) values) purse.old (stopped result) purse.new }
+    ensures work { DoesWork (w.walk_false s.now.count (calculus.premises_of (sequent_of s.now) rule) (proofs (map proof_of children.now)) values) purse.old (stopped result) purse.new }
     ensures values { (stop : Stop) → result ≡ Ok (Some stop) → AllByRecursion InRange stop.values }
 {
     for i in 0..children.len() {

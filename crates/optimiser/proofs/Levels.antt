@@ -17,19 +17,19 @@ use Rattle.linear_term.proofs.Names.{reduced-normal}
 use Rattle.clause_set.specs.declared.literal.Literal.{Literal}
 use Rattle.clause_set.specs.Clause.{IsClause}
 use Rattle.clause_set.specs.Literals.{dnf_truth}
-use Rattle.elim_rules.specs.Logs.{entries_of}
-use Rattle.elim_rules.specs.Whole.{AreOver, names_out}
-use Rattle.solution_rules.specs.Solutions.{solving}
+use Rattle.elim_laws.specs.Logs.{entries_of}
+use Rattle.elim_laws.specs.Whole.{AreOver, names_out}
+use Rattle.solution_laws.specs.Solutions.{solving}
 use Rattle.parameter_solver.specs.Logs.{Solves, in_log}
 use Rattle.parameter_solver.specs.Names.{IsOfName}
 use Rattle.parameter_solver.specs.declared.solving.Solved.TheVariants as solved
 use Rattle.parameter_solver.proofs.Parting.{to_names}
 use Rattle.parameter_solver.proofs.Spanning.{given, given_names}
-use Rattle.least_rules.specs.declared.floor.Floor.{Floor}
-use Rattle.least_rules.specs.declared.floor.Floor.TheVariants.{Nowhere, At, Unbounded}
-use Rattle.least_rules.specs.OneName.{dnf_floor}
-use Rattle.least_rules.specs.Least.{IsAttained, IsMinimum, IsTask, Minimum, nothing, no_least, least_at, at_values, by_floor, minimising, values_floor, with_level, with_objective}
-use Rattle.least_rules.proofs.Least.{least-exact, level-over, level-satisfied, objective-alone, task, values-attained}
+use Rattle.least_laws.specs.declared.floor.Floor.{Floor}
+use Rattle.least_laws.specs.declared.floor.Floor.TheVariants.{Nowhere, At, Unbounded}
+use Rattle.least_laws.specs.OneName.{dnf_floor}
+use Rattle.least_laws.specs.Least.{IsAttained, IsMinimum, IsTask, Minimum, nothing, no_least, least_at, at_values, by_floor, minimising, values_floor, with_level, with_objective}
+use Rattle.least_laws.proofs.Least.{least-exact, level-over, level-satisfied, objective-alone, task, values-attained}
 use Rattle.optimiser.specs.Answers.{Minimises, MinimisesFrom, minimum_of, with_log}
 use Rattle.optimiser.specs.declared.found.Least.{Least}
 use Rattle.optimiser.specs.declared.found.Least.TheVariants as least

@@ -11,15 +11,15 @@ use Rattle.purse.proofs.Tracing.{next-same, next-just, next-assoc}
 use Rattle.clause_set.specs.declared.literal.Literal.{Literal}
 use Rattle.clause_set.specs.Names.{is_equation}
 use Rattle.clause_set.specs.Rules.{rule}
-use Rattle.solution_rules.specs.Candidates.{first_split, lower, root_at}
+use Rattle.solution_laws.specs.Candidates.{first_split, lower, root_at}
 use Rattle.parameter_solver.specs.Names.{IsOfName}
 use Rattle.parameter_solver.specs.Splits.{split_at, splitting}
 use Rattle.parameter_solver.proofs.Parting.{any_place, no_place, of_name}
-use Rattle.least_rules.specs.declared.floor.Floor.{Floor}
-use Rattle.least_rules.specs.declared.floor.Floor.TheVariants.{Nowhere}
-use Rattle.least_rules.specs.Floors.{first_floor}
-use Rattle.least_rules.specs.OneName.{clause_floor, floor_by, floor_from, floors}
-use Rattle.least_rules.proofs.OneName.{clause_floor-unfold}
+use Rattle.least_laws.specs.declared.floor.Floor.{Floor}
+use Rattle.least_laws.specs.declared.floor.Floor.TheVariants.{Nowhere}
+use Rattle.least_laws.specs.Floors.{first_floor}
+use Rattle.least_laws.specs.OneName.{clause_floor, floor_by, floor_from, floors}
+use Rattle.least_laws.proofs.OneName.{clause_floor-unfold}
 
 -- ---- with an equation
 pub root_done : (j i : ℕ) (c : List Literal) (vs us : List ℤ) (f : Floor) → Worked (root_at j c (Some i)) (Ok vs) → us ≡ vs → f ≡ first_floor us

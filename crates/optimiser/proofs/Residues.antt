@@ -15,14 +15,14 @@ use Rattle.clause_set.specs.declared.literal.Literal.{Literal}
 use Rattle.clause_set.specs.Literals.{term_of}
 use Rattle.clause_set.specs.Names.{is_divisibility}
 use Rattle.clause_set.specs.Order.{divisor_of}
-use Rattle.solution_rules.specs.Nearest.{is_at_most}
-use Rattle.solution_rules.specs.Candidates.{Class, class_of, computed, solutions, upper}
+use Rattle.solution_laws.specs.Nearest.{is_at_most}
+use Rattle.solution_laws.specs.Candidates.{Class, class_of, computed, solutions, upper}
 use Rattle.parameter_solver.proofs.Nearness.{rem-range}
 use Rattle.parameter_solver.proofs.OneName.{class_then, at_literal, class_here, class_none}
 use Rattle.parameter_solver.proofs.Rests.{residue_work}
-use Rattle.least_rules.specs.declared.floor.Floor.{Floor}
-use Rattle.least_rules.specs.Floors.{floor_when}
-use Rattle.least_rules.specs.OneName.{floor_from, up_to_class}
+use Rattle.least_laws.specs.declared.floor.Floor.{Floor}
+use Rattle.least_laws.specs.Floors.{floor_when}
+use Rattle.least_laws.specs.OneName.{floor_from, up_to_class}
 
 -- the remainder of a difference is that of the difference from a remainder
 pub rem-back : (r k m : ℤ) → pos 0 <ℤ m → int_rem_euclid (r -ℤ int_rem_euclid k m) m ≡ int_rem_euclid (r -ℤ k) m

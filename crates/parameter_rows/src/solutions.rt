@@ -55,7 +55,7 @@ fn literal(rt: &impl Abort, alloc: Global, row: Row) -> Result<Literal, StepFaul
 }
 
 /// The clause with this number.
-#[tactic(auto, using(performed_rules::proofs::Results::pushing))]
+#[tactic(auto, using(rule_code::proofs::Results::pushing))]
 fn clause(
     rt: &impl Abort,
     alloc: Global,

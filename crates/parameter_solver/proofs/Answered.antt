@@ -10,9 +10,9 @@ use Rattle.purse.specs.Followed.{Followed}
 use Rattle.purse.proofs.Following.{follow_ok, follow_just, follow_err, followed_value}
 use Rattle.clause_set.specs.declared.literal.Literal.{Literal}
 use Rattle.clause_set.specs.Literals.{dnf_truth}
-use Rattle.solution_rules.specs.Best.{IsBest}
-use Rattle.solution_rules.specs.Solutions.{IsGiven, answered, values_at, solving}
-use Rattle.solution_rules.proofs.Solving.{solving-best, solving-none}
+use Rattle.solution_laws.specs.Best.{IsBest}
+use Rattle.solution_laws.specs.Solutions.{IsGiven, answered, values_at, solving}
+use Rattle.solution_laws.proofs.Solving.{solving-best, solving-none}
 use Rattle.parameter_solver.specs.Logs.{Solves, answer_with, in_log}
 use Rattle.parameter_solver.specs.declared.solving.Solved.{Solved}
 use Rattle.parameter_solver.specs.declared.solving.Solved.TheVariants as solved

@@ -3,7 +3,7 @@ use Rattle.std.proofs.Common.{◌≡◌, ◌+◌, Bool, true, false, cond, nat_l
 use Rattle.std.proofs.lemmas.List.{append-nil}
 use Rattle.linear_term.specs.declared.range.Place.{Place}
 use Rattle.linear_term.specs.Range.{all_stay}
-use Rattle.elim_rules.specs.Logs.{entries_of}
+use Rattle.elim_laws.specs.Logs.{entries_of}
 use Rattle.purse.specs.declared.fault.StepFault.{StepFault}
 use Rattle.purse.specs.declared.fault.StepFault.TheVariants.{Steps, Overflow, Memory}
 use Rattle.purse.specs.declared.log.Entry.{Entry}

@@ -9,9 +9,9 @@ use Rattle.integers.proofs.Ring.{add-mul}
 use Rattle.linear_term.specs.Range.{InRange}
 use Rattle.clause_set.specs.Literals.{IsDivisor}
 use Rattle.clause_set.proofs.Quotients.{rem_in_range}
-use Rattle.solution_rules.specs.Best.{rank}
-use Rattle.solution_rules.specs.Nearest.{nearer, nearest_of, nearest}
-use Rattle.solution_rules.proofs.Ranks.{rank-up}
+use Rattle.solution_laws.specs.Best.{rank}
+use Rattle.solution_laws.specs.Nearest.{nearer, nearest_of, nearest}
+use Rattle.solution_laws.proofs.Ranks.{rank-up}
 
 -- the remainder of a difference is that of the difference of a remainder
 pub rem-rem : (a r m : ℤ) → pos 0 <ℤ m → int_rem_euclid (int_rem_euclid a m -ℤ r) m ≡ int_rem_euclid (a -ℤ r) m

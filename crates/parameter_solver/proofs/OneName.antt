@@ -27,10 +27,10 @@ use Rattle.clause_set.specs.Literals.{HasDivisor, IsDivisor, term_of, literal_tr
 use Rattle.clause_set.specs.Names.{coefficient, is_divisibility, is_equation}
 use Rattle.clause_set.specs.Order.{divisor_of}
 use Rattle.clause_set.specs.Rules.{passes}
-use Rattle.equation_rules.proofs.Lists.{kept-removed}
-use Rattle.solution_rules.specs.Nearest.{when, is_at_most, is_at_least}
-use Rattle.solution_rules.specs.Candidates.{IsAlone, IsSingle, solutions, class_of, value_number, root, root_of, root_at, computed, up_from, down_from, two_between, lower, upper, bounded}
-use Rattle.solution_rules.proofs.Alone.{single-value, single-coefficient, single-mentions}
+use Rattle.equation_laws.proofs.Lists.{kept-removed}
+use Rattle.solution_laws.specs.Nearest.{when, is_at_most, is_at_least}
+use Rattle.solution_laws.specs.Candidates.{IsAlone, IsSingle, solutions, class_of, value_number, root, root_of, root_at, computed, up_from, down_from, two_between, lower, upper, bounded}
+use Rattle.solution_laws.proofs.Alone.{single-value, single-coefficient, single-mentions}
 use Rattle.parameter_solver.specs.Values.{is_true_of}
 use Rattle.parameter_solver.proofs.Rests.{residue_work}
 

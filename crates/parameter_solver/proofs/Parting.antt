@@ -24,14 +24,14 @@ use Rattle.clause_set.specs.Primitive.{IsShaped}
 use Rattle.clause_set.specs.Names.{is_equation, is_divisibility, is_indivisibility}
 use Rattle.clause_set.specs.Rules.{applies, passes, rule, measure, first_of, first_merge}
 use Rattle.std.specs.Option.{option_map}
-use Rattle.equation_rules.proofs.Lists.{any-got, none-any, kept-weaker}
-use Rattle.solution_rules.specs.Nearest.{nearer, nearest_of, nearest}
-use Rattle.solution_rules.specs.Best.{rank}
-use Rattle.solution_rules.specs.Candidates.{IsAlone, root_at, bounded, first_split, split_by, candidates}
-use Rattle.solution_rules.proofs.Spans.{IsIn, IsName, in-formed, in-shaped, all_lack}
-use Rattle.solution_rules.proofs.Candidates.{position-none, position-got, get-drop}
-use Rattle.solution_rules.proofs.Ranks.{both}
-use Rattle.solution_rules.proofs.Splits.{IsCase, case_of, alone_in, in-alone, clause-splits}
+use Rattle.equation_laws.proofs.Lists.{any-got, none-any, kept-weaker}
+use Rattle.solution_laws.specs.Nearest.{nearer, nearest_of, nearest}
+use Rattle.solution_laws.specs.Best.{rank}
+use Rattle.solution_laws.specs.Candidates.{IsAlone, root_at, bounded, first_split, split_by, candidates}
+use Rattle.solution_laws.proofs.Spans.{IsIn, IsName, in-formed, in-shaped, all_lack}
+use Rattle.solution_laws.proofs.Candidates.{position-none, position-got, get-drop}
+use Rattle.solution_laws.proofs.Ranks.{both}
+use Rattle.solution_laws.proofs.Splits.{IsCase, case_of, alone_in, in-alone, clause-splits}
 use Rattle.parameter_solver.specs.Names.{IsOfName}
 use Rattle.parameter_solver.specs.Splits.{split_at, splitting}
 

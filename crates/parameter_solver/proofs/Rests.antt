@@ -16,7 +16,7 @@ use Rattle.purse.proofs.Charging.{work_ok, work_err, work_just, raw_ok, raw_leav
 use Rattle.clause_set.specs.Bezout.{Bezout, bezout}
 use Rattle.clause_set.specs.Literals.{IsDivisor}
 use Rattle.clause_set.specs.Names.{product}
-use Rattle.performed_rules.proofs.Named.{bezout_found}
+use Rattle.rule_code.proofs.Named.{bezout_found}
 use Rattle.parameter_solver.specs.Classes.{IsClass}
 use Rattle.parameter_solver.proofs.Computed.{one_stays}
 

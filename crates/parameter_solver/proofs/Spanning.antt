@@ -10,7 +10,7 @@ use Rattle.purse.specs.declared.log.Entry.{Entry}
 use Rattle.purse.specs.Trace.{Funds, Traced, just, step, next, note, new_log, at, entry}
 use Rattle.purse.specs.Work.{ChargedAt}
 use Rattle.purse.specs.Followed.{Followed}
-use Rattle.elim_rules.specs.Logs.{entries_of}
+use Rattle.elim_laws.specs.Logs.{entries_of}
 use Rattle.parameter_solver.proofs.Logging.{follow_entries, entries_added}
 use Rattle.purse.proofs.Following.{followed_value}
 use Rattle.purse.proofs.Tracing.{next-same, next-just, next-assoc}
@@ -21,13 +21,13 @@ use Rattle.clause_set.specs.Primitive.{IsShaped}
 use Rattle.clause_set.specs.Literals.{term_of}
 use Rattle.clause_set.proofs.Formed.{clause-is_formed}
 use Rattle.clause_set.proofs.Shapes.{clause-shaped}
-use Rattle.equation_rules.proofs.Lists.{kept-weaker}
-use Rattle.elim_rules.specs.Elimination.{exists_name}
-use Rattle.elim_rules.specs.Whole.{AreOver, Lacks, names_out}
-use Rattle.solution_rules.specs.Solutions.{IsGiven, names_from, values_at, chosen, with_value}
-use Rattle.solution_rules.proofs.Spans.{IsIn, IsName, IsFrom, Spans, all_lack, all_from_lacks, spans-formed, spans-shaped}
-use Rattle.solution_rules.proofs.Outs.{exists_name-spans}
-use Rattle.solution_rules.proofs.Solving.{with_value-spans}
+use Rattle.equation_laws.proofs.Lists.{kept-weaker}
+use Rattle.elim_laws.specs.Elimination.{exists_name}
+use Rattle.elim_laws.specs.Whole.{AreOver, Lacks, names_out}
+use Rattle.solution_laws.specs.Solutions.{IsGiven, names_from, values_at, chosen, with_value}
+use Rattle.solution_laws.proofs.Spans.{IsIn, IsName, IsFrom, Spans, all_lack, all_from_lacks, spans-formed, spans-shaped}
+use Rattle.solution_laws.proofs.Outs.{exists_name-spans}
+use Rattle.solution_laws.proofs.Solving.{with_value-spans}
 use Rattle.parameter_solver.specs.Names.{IsOfName, IsOfNames}
 use Rattle.parameter_solver.specs.Logs.{in_log, value_step}
 use Rattle.parameter_solver.proofs.Parting.{to_names}

@@ -9,7 +9,7 @@ use Rattle.purse.specs.declared.log.ElimLog.{ElimLog}
 use Rattle.purse.specs.Trace.{Funds, Mark, entry, new_log, round, enter, back, Traced, just, next, note}
 use Rattle.purse.specs.Followed.{Followed}
 use Rattle.clause_set.specs.declared.literal.Literal.{Literal}
-use Rattle.solution_rules.specs.Solutions.{names_from, chosen, with_value}
+use Rattle.solution_laws.specs.Solutions.{names_from, chosen, with_value}
 use Rattle.parameter_solver.specs.declared.solving.Solved.{Solved}
 use Rattle.parameter_solver.specs.declared.solving.Solved.TheVariants as solved
 

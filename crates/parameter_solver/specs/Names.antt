@@ -5,7 +5,7 @@ use Rattle.clause_set.specs.declared.literal.Literal.{Literal}
 use Rattle.clause_set.specs.Formed.{IsFormed}
 use Rattle.clause_set.specs.Kept.{AreFormed}
 use Rattle.clause_set.specs.Primitive.{IsShaped}
-use Rattle.elim_rules.specs.Whole.{AreOver, Lacks}
+use Rattle.elim_laws.specs.Whole.{AreOver, Lacks}
 
 -- the literals of c are in form, and speak of j alone
 pub record IsOfName (j : ℕ) (c : List Literal) : Type 0 where

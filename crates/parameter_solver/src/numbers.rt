@@ -3,9 +3,9 @@
 ghost use Rattle.linear_term.specs.Range.{InRange};
 ghost use Rattle.parameter_solver.specs.Classes.{IsClass};
 ghost use Rattle.purse.specs.Work.{Worked};
-ghost use Rattle.solution_rules.specs.Best.{rank};
-ghost use Rattle.solution_rules.specs.Candidates.{computed, down_from, two_between, up_from};
-ghost use Rattle.solution_rules.specs.Nearest.{below_zero, is_at_least, is_at_most, nearest, not_below_zero, when};
+ghost use Rattle.solution_laws.specs.Best.{rank};
+ghost use Rattle.solution_laws.specs.Candidates.{computed, down_from, two_between, up_from};
+ghost use Rattle.solution_laws.specs.Nearest.{below_zero, is_at_least, is_at_most, nearest, not_below_zero, when};
 ghost use Rattle.std.specs.Int.{int_rem_euclid};
 ghost use Rattle.std.specs.Prelude.{◌≡◌, ◌≤ℤ◌, ◌<ℤ◌, ◌-ℤ◌, ◌++◌, nat_lt, neg_ℤ, pos, IfSome, OnOk};
 

@@ -1,6 +1,6 @@
 // Whether a disjunction speaks of the first names alone, as `solve` asks.
 
-ghost use Rattle.elim_rules.specs.Whole.{AreOver};
+ghost use Rattle.elim_laws.specs.Whole.{AreOver};
 ghost use Rattle.parameter_solver.specs.Over.{clause_is_over, term_is_over};
 ghost use Rattle.std.specs.List.{list_all};
 ghost use Rattle.std.specs.Prelude.{◌≡◌, ◌↔◌, IsTrue};

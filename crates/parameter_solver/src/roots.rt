@@ -7,7 +7,7 @@ ghost use Rattle.linear_term.specs.Range.{InRange};
 ghost use Rattle.parameter_solver.specs.Values.{is_true_of};
 ghost use Rattle.purse.specs.Trace.{compute, just, next};
 ghost use Rattle.purse.specs.Work.{Worked};
-ghost use Rattle.solution_rules.specs.Candidates.{IsAlone, root, value_number};
+ghost use Rattle.solution_laws.specs.Candidates.{IsAlone, root, value_number};
 ghost use Rattle.std.specs.Prelude.{◌≡◌, ◌&&◌, [], All, IfOk, map, unsigned_abs};
 
 use super::numbers::push_when;

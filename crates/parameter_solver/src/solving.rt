@@ -1,15 +1,15 @@
 // Values for all names, one after the other.
 
 ghost use Rattle.clause_set.specs.Literals.{dnf_truth};
-ghost use Rattle.elim_rules.specs.Logs.{entries_of};
-ghost use Rattle.elim_rules.specs.Whole.{AreOver, names_out};
+ghost use Rattle.elim_laws.specs.Logs.{entries_of};
+ghost use Rattle.elim_laws.specs.Whole.{AreOver, names_out};
 ghost use Rattle.parameter_solver.specs.Logs.{Solves, answer_with, in_log, value_step};
 ghost use Rattle.parameter_solver.specs.Names.{IsOfNames};
 ghost use Rattle.purse.specs.Followed.{Followed};
 ghost use Rattle.purse.specs.Trace.{at};
 ghost use Rattle.purse.specs.Work.{ChargedAt, marks_of};
-ghost use Rattle.solution_rules.specs.Best.{IsBest};
-ghost use Rattle.solution_rules.specs.Solutions.{names_from, solving, values_at};
+ghost use Rattle.solution_laws.specs.Best.{IsBest};
+ghost use Rattle.solution_laws.specs.Solutions.{names_from, solving, values_at};
 ghost use Rattle.std.specs.Prelude.{◌≡◌, ◌<◌, ◌+◌, ◌++◌, ◌^◌, [], ℤ, List, None, Ok, false, length};
 
 use super::knowing::know_clauses;

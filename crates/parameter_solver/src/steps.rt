@@ -8,8 +8,8 @@ ghost use Rattle.parameter_solver.specs.Splits.{splitting};
 ghost use Rattle.purse.specs.Trace.{each};
 ghost use Rattle.purse.specs.Work.{Charged};
 ghost use Rattle.purse.specs.declared.log.Entry.TheVariants.{Apart, Merge};
-ghost use Rattle.solution_rules.specs.Candidates.{candidates, charged_candidates};
-ghost use Rattle.solution_rules.specs.Solutions.{chosen};
+ghost use Rattle.solution_laws.specs.Candidates.{candidates, charged_candidates};
+ghost use Rattle.solution_laws.specs.Solutions.{chosen};
 ghost use Rattle.std.specs.Prelude.{◌≡◌, ◌<◌, ◌+◌, [], All, IfOk, drop, length, position, true};
 
 use super::numbers::nearest;
@@ -17,9 +17,9 @@ use super::single::{at_root, bounded};
 use clause_set::{Clause, Literal, found};
 use equation_solver::{free_ndiv, merge_divs};
 use purse::{Purse, StepFault};
-use rule_steps::{is_divisibility, is_equation, is_indivisibility, whole_charge};
 use sqlite_items::Items;
 use std::alloc::Global;
+use step_code::{is_divisibility, is_equation, is_indivisibility, whole_charge};
 
 /// The place of the first equation with j.
 pub fn equation_place(ls: &[Literal], j: u32) -> Option<usize>

@@ -4,7 +4,7 @@ ghost use Rattle.clause_set.specs.Weight.{weight};
 ghost use Rattle.linear_term.specs.Range.{InRange};
 ghost use Rattle.purse.specs.Trace.{capped};
 ghost use Rattle.purse.specs.Work.{Charged};
-ghost use Rattle.solution_rules.specs.Solutions.{with_value};
+ghost use Rattle.solution_laws.specs.Solutions.{with_value};
 ghost use Rattle.std.specs.Prelude.{◌≡◌, ◌+◌};
 
 use clause_set::weight::weight;

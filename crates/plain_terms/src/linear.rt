@@ -12,8 +12,8 @@ ghost use Rattle.typed_formula.specs.Formula.{expression, expressions_of};
 use super::plain::{factor_of, is_numeric, without_minus};
 use linear_term::Term;
 use purse::StepFault;
-use rule_steps::combining;
 use std::alloc::Global;
+use step_code::combining;
 use typed_formula::TypedTerm;
 
 /// The name x, or 0 where there are no more than x names.

@@ -13,8 +13,8 @@ use Rattle.function_encoding.specs.Marks.{is_marked, with_mark}
 use Rattle.cut_sides.specs.Sides.{arithmetic, case_between, first_itself, second_denied, none}
 use Rattle.cut_sides.specs.Symbols.{is_empty, is_symbol, is_within, symbols_in, symbols_in_all, symbols_in_term, symbols_in_terms, uses}
 use Rattle.typed_printer.proofs.Together.{arity_below}
-use Rattle.pred_interpolant.specs.Fit.{IsFit, fit}
-use Rattle.pred_interpolant.specs.Marks.{AreSymbolMarks, AreUnset, AreWithin, no_marks, noted, symbol_place}
+use Rattle.pred_interpolant.specs.Fit.{IsFitFormula, fit}
+use Rattle.pred_interpolant.specs.Marks.{AreSymbolMarks, AreUnset, AreMarkedWithin, no_marks, noted, symbol_place}
 
 -- ---- the places of symbols
 
@@ -208,7 +208,7 @@ all_by P (b ∷ xs) h =
     and_both (P b) (list_all P xs) (h b (ap (λ z. z || list_any (is_symbol b) xs) (symbol_self b)))
     (all_by P xs (λ a i. h a (or_right (is_symbol a b) (list_any (is_symbol a) xs) i)))
 
-within_marks : (p : Problem) (f g : Formula) (a b : List Bool) → IsFit p f → AreSymbolMarks p f a → AreSymbolMarks p g b → AreWithin a b → is_within f g ≡ true
+within_marks : (p : Problem) (f g : Formula) (a b : List Bool) → IsFitFormula p f → AreSymbolMarks p f a → AreSymbolMarks p g b → AreMarkedWithin a b → is_within f g ≡ true
 within_marks p f g a b h k l w =
     all_by (uses g) (symbols_in f) (λ s u.
     let lt = in_place p (symbols_in f) s (placed p 0 f h) u in
@@ -228,7 +228,7 @@ all_marked p g b y (s ∷ xs) l lt h k = by (at_place y s) refl k (all_marked p 
         ∙ subst (λ z. list_any (at_place z) (symbols_in g) ≡ true) (sym q) (used_marked (symbols_in g) s (and_left (uses g s) (list_all (uses g) xs) h))
     by false e i f = f i
 
-marks_within : (p : Problem) (f g : Formula) (a b : List Bool) → AreSymbolMarks p f a → AreSymbolMarks p g b → is_within f g ≡ true → AreWithin a b
+marks_within : (p : Problem) (f g : Formula) (a b : List Bool) → AreSymbolMarks p f a → AreSymbolMarks p g b → is_within f g ≡ true → AreMarkedWithin a b
 marks_within p f g a b k l h y lt m =
     let small = subst (λ n. y < n) (marks_many p f a k) lt in
     all_marked p g b y (symbols_in f) l small h (sym (marks_exact p f a k y small) ∙ m)
@@ -238,7 +238,7 @@ marks_within p f g a b k l h y lt m =
 abbrev Exact : Bool → Type 0 → Type 0
 Exact b A = (b ≡ true) ↔ A
 
-unset_empty : (p : Problem) (f : Formula) (a : List Bool) → IsFit p f → AreSymbolMarks p f a → AreUnset a → is_empty (symbols_in f) ≡ true
+unset_empty : (p : Problem) (f : Formula) (a : List Bool) → IsFitFormula p f → AreSymbolMarks p f a → AreUnset a → is_empty (symbols_in f) ≡ true
 unset_empty p f a h k u = by (symbols_in f) refl
   where
     by : (xs : List (Bool × ℕ)) → symbols_in f ≡ xs → is_empty xs ≡ true
@@ -264,17 +264,17 @@ not_true false h = refl
 test_false : (b c : Bool) (A : Type 0) → Exact b A → b ≡ false → (c ≡ true → A) → c ≡ false
 test_false b c A e h f = not_true c (λ k. false≢true (sym h ∙ e.1 (f k)))
 
-pub chosen_arithmetic : (p : Problem) (f g : Formula) (a : List Bool) (r : Bool) → IsFit p f → AreSymbolMarks p f a → Exact r (AreUnset a) → r ≡ true → arithmetic ≡ case_between f g
+pub chosen_arithmetic : (p : Problem) (f g : Formula) (a : List Bool) (r : Bool) → IsFitFormula p f → AreSymbolMarks p f a → Exact r (AreUnset a) → r ≡ true → arithmetic ≡ case_between f g
 chosen_arithmetic p f g a r h k e t = rw (unset_empty p f a h k (e.0 t)) refl
 
 pub some_symbol : (p : Problem) (f : Formula) (a : List Bool) (r : Bool) → AreSymbolMarks p f a → Exact r (AreUnset a) → r ≡ false → is_empty (symbols_in f) ≡ false
 some_symbol p f a r k e t = test_false r (is_empty (symbols_in f)) (AreUnset a) e t (empty_unset p f a k)
 
-pub chosen_within : (p : Problem) (f g : Formula) (a b : List Bool) (r : Bool) → IsFit p f → AreSymbolMarks p f a → AreSymbolMarks p g b → Exact r (AreWithin a b) → r ≡ true → is_within f g ≡ true
+pub chosen_within : (p : Problem) (f g : Formula) (a b : List Bool) (r : Bool) → IsFitFormula p f → AreSymbolMarks p f a → AreSymbolMarks p g b → Exact r (AreMarkedWithin a b) → r ≡ true → is_within f g ≡ true
 chosen_within p f g a b r h k l e t = within_marks p f g a b h k l (e.0 t)
 
-pub not_within : (p : Problem) (f g : Formula) (a b : List Bool) (r : Bool) → AreSymbolMarks p f a → AreSymbolMarks p g b → Exact r (AreWithin a b) → r ≡ false → is_within f g ≡ false
-not_within p f g a b r k l e t = test_false r (is_within f g) (AreWithin a b) e t (marks_within p f g a b k l)
+pub not_within : (p : Problem) (f g : Formula) (a b : List Bool) (r : Bool) → AreSymbolMarks p f a → AreSymbolMarks p g b → Exact r (AreMarkedWithin a b) → r ≡ false → is_within f g ≡ false
+not_within p f g a b r k l e t = test_false r (is_within f g) (AreMarkedWithin a b) e t (marks_within p f g a b k l)
 
 pub case_first : (f g : Formula) → is_empty (symbols_in f) ≡ false → is_within f g ≡ true → first_itself ≡ case_between f g
 case_first f g h k = rw (h, k) refl

@@ -10,12 +10,12 @@ use Rattle.function_encoding.specs.Encoded.{Encodes}
 use Rattle.pred_interpolant.specs.declared.fault.MiddleFormula.{MiddleFormula}
 use Rattle.pred_interpolant.specs.declared.fault.MiddleFault.{MiddleFault}
 use Rattle.pred_interpolant.specs.declared.fault.Obligations.{Obligations}
-use Rattle.pred_interpolant.specs.Made.{EndsEarly, Finds, MakesObligations, Misses, first_obligation, second_obligation, unencoded, unfound}
+use Rattle.pred_interpolant.specs.Made.{ObligationsEndEarly, Finds, MakesObligations, Misses, first_obligation, second_obligation, unencoded, unfound}
 use Rattle.pred_interpolant.specs.Middle.{contradicts, first, follows, obligation_root, said, second}
 
-pub early : (p : Problem) (cut at : ℕ) (old new : Funds) (e : MiddleFault) (r : Result Obligations MiddleFault) → IsErrAnd r (λ x. x ≡ e) → EndsEarly p cut at old e new → MakesObligations p cut at old r new
+pub early : (p : Problem) (cut at : ℕ) (old new : Funds) (e : MiddleFault) (r : Result Obligations MiddleFault) → IsErrAnd r (λ x. x ≡ e) → ObligationsEndEarly p cut at old e new → MakesObligations p cut at old r new
 early p cut at old new e (Ok o) h k = absurd h
-early p cut at old new e (Err x) h k = subst (λ z. EndsEarly p cut at old z new) (sym h) k
+early p cut at old new e (Err x) h k = subst (λ z. ObligationsEndEarly p cut at old z new) (sym h) k
 
 pub unfound_ends : (p : Problem) (cut at : ℕ) (old new : Funds) (e : MiddleFault) (r : Result Obligations MiddleFault) → IsErrAnd r (λ x. x ≡ e) → Misses p cut at old e new → MakesObligations p cut at old r new
 unfound_ends p cut at old new e r h k = early p cut at old new e r h (unfound k)

@@ -9,7 +9,7 @@ use Rattle.interpolant.specs.declared.fault.InterpolantFault.{InterpolantFault}
 use Rattle.interpolant.specs.declared.fault.InterpolantFault.TheVariants as interpolant
 use Rattle.cut_sides.specs.Sides.{case_of, cut_of, none}
 use Rattle.pred_interpolant.specs.declared.fault.MiddleFault.TheVariants.{Branch, Symbols}
-use Rattle.pred_interpolant.specs.Made.{EndsEarly, MakesObligations, Misses, first_obligation, second_obligation, memory, run, symbols, uninterpolated, unencoded, unfound}
+use Rattle.pred_interpolant.specs.Made.{ObligationsEndEarly, MakesObligations, Misses, first_obligation, second_obligation, memory, run, symbols, uninterpolated, unencoded, unfound}
 use Rattle.pred_interpolant.specs.Made as made
 
 refusal_branch : (r : EncodeRefusal) → Branch ≡ unencoded r → ⊥
@@ -52,7 +52,7 @@ never_branch p cut at old new (second_obligation m c h r u) = refusal_branch u.0
 pub symbols_where : (p : Problem) (cut at : ℕ) (old new : Funds) → MakesObligations p cut at old (Err Symbols) new ↔ ((case_of p (cut_of p cut) at ≡ none) × (new ≡ old))
 symbols_where p cut at old new = (by, λ h. unfound (symbols h.0 refl h.1))
   where
-    by : EndsEarly p cut at old Symbols new → (case_of p (cut_of p cut) at ≡ none) × (new ≡ old)
+    by : ObligationsEndEarly p cut at old Symbols new → (case_of p (cut_of p cut) at ≡ none) × (new ≡ old)
     by (unfound h) = missed_symbols p cut at old new h
     by (first_obligation m h u) = absurd (refusal_symbols u.0 u.2)
     by (second_obligation m c h r u) = absurd (refusal_symbols u.0 u.2)

@@ -20,7 +20,7 @@ use Rattle.encoding.proofs.Parts.{assumed_everywhere}
 use Rattle.cut_sides.specs.Closing.{closed, place_of, quantified, rebound, renamed, renamed_all, renamed_term, renamed_terms, types_of}
 use Rattle.typed_printer.specs.Replaced.{with_formula}
 use Rattle.typed_printer.proofs.Sayable.{both, both_everywhere}
-use Rattle.pred_interpolant.specs.Fit.{IsFit, IsFormulaFit, IsTermFit, fit}
+use Rattle.pred_interpolant.specs.Fit.{IsFitFormula, IsFormulaFit, IsTermFit, fit}
 
 -- ---- well-formed problems
 
@@ -32,7 +32,7 @@ of_expressions p =
     both (of_terms IsNumberRanged) (both (of_terms (IsNameBelow (constants p))) (both (of_terms (IsFunctionDeclared p.functions)) (both (of_terms HasMember) (of_terms IsLinear))))
 
 -- the formula of a well-formed problem can stand in it
-pub formed_fit : (p : Problem) → IsWellFormed p → IsFit p (formula p.formula)
+pub formed_fit : (p : Problem) → IsWellFormed p → IsFitFormula p (formula p.formula)
 formed_fit p good =
     let f = formula p.formula in
     let P = of_formulas (IsPredicateDeclared p.predicates) in
@@ -53,14 +53,14 @@ formed_fit p good =
     (both_everywhere X (both F (both M L)) 0 f good.names
     (both_everywhere F (both M L) 0 f good.functions (both_everywhere M L 0 f good.sums good.products)))))
 
-formula_part : (p : Problem) (f : Formula) (P : ℕ → Formula → Type 0) → ((n : ℕ) (g : Formula) → IsFormulaFit p n g → P n g) → IsFit p f → Everywhere (of_formulas P) 0 f
+formula_part : (p : Problem) (f : Formula) (P : ℕ → Formula → Type 0) → ((n : ℕ) (g : Formula) → IsFormulaFit p n g → P n g) → IsFitFormula p f → Everywhere (of_formulas P) 0 f
 formula_part p f P h = everywhere_more (fit p) (of_formulas P) (record { of_formula = h; of_term = λ n t k. tt }) 0 f
 
-term_part : (p : Problem) (f : Formula) (P : ℕ → Expression → Type 0) → ((n : ℕ) (t : Expression) → IsTermFit p n t → P n t) → IsFit p f → Everywhere (of_terms P) 0 f
+term_part : (p : Problem) (f : Formula) (P : ℕ → Expression → Type 0) → ((n : ℕ) (t : Expression) → IsTermFit p n t → P n t) → IsFitFormula p f → Everywhere (of_terms P) 0 f
 term_part p f P h = everywhere_more (fit p) (of_terms P) (record { of_formula = λ n g k. tt; of_term = h }) 0 f
 
 -- with a formula that can stand in it the problem is well formed, without its cuts
-pub fit_formed : (p : Problem) (t : Typed) → IsWellFormed p → IsFit p (formula t) → IsWellFormed (with_formula p t)
+pub fit_formed : (p : Problem) (t : Typed) → IsWellFormed p → IsFitFormula p (formula t) → IsWellFormed (with_formula p t)
 fit_formed p t good h = record {
   few = good.few;
   numbers = term_part p (formula t) IsNumberRanged (λ n u k. k.number) h;
@@ -77,21 +77,21 @@ fit_formed p t good h = record {
   divided = λ k d l. absurd (omega arith);
 }
 
-pub assumed_fit : (p : Problem) (set : List ℕ) → IsWellFormed p → IsFit p (assumed_by p set)
+pub assumed_fit : (p : Problem) (set : List ℕ) → IsWellFormed p → IsFitFormula p (assumed_by p set)
 assumed_fit p set good =
     assumed_everywhere (fit p) (record { nots = λ f. record { predicate = tt; binder = tt; part = tt }; everies = λ fs. record { predicate = tt; binder = tt; part = tt } }) p set
     (formed_fit p good)
 
-pub implies_fit : (p : Problem) (f g : Formula) → IsFit p f → IsFit p g → IsFit p (implies f g)
+pub implies_fit : (p : Problem) (f g : Formula) → IsFitFormula p f → IsFitFormula p g → IsFitFormula p (implies f g)
 implies_fit p f g h k = (record { predicate = tt; binder = tt; part = tt }, h, k)
 
-pub both_fit : (p : Problem) (f g : Formula) → IsFit p f → IsFit p g → IsFit p (every (formulas (f ∷ g ∷ [])))
+pub both_fit : (p : Problem) (f g : Formula) → IsFitFormula p f → IsFitFormula p g → IsFitFormula p (every (formulas (f ∷ g ∷ [])))
 both_fit p f g h k = (record { predicate = tt; binder = tt; part = tt }, (h, (k, tt)))
 
-pub denied_fit : (p : Problem) (f : Formula) → IsFit p f → IsFit p (negation f)
+pub denied_fit : (p : Problem) (f : Formula) → IsFitFormula p f → IsFitFormula p (negation f)
 denied_fit p f h = (record { predicate = tt; binder = tt; part = tt }, h)
 
-pub false_fit : (p : Problem) → IsFit p (constant false)
+pub false_fit : (p : Problem) → IsFitFormula p (constant false)
 false_fit p = record { predicate = tt; binder = tt; part = tt }
 
 -- ---- other names
@@ -223,7 +223,7 @@ rebound_goes p own x n lt = by (nat_lt x (constants p)) refl
     by false h = omega (arith, lt)
 
 -- a formula with some of the problem's constants under quantifiers
-pub closed_fit : (p : Problem) (all : Bool) (own : List ℕ) (f : Formula) → IsWellFormed p → IsFit p f → IsFit p (closed all p own f)
+pub closed_fit : (p : Problem) (all : Bool) (own : List ℕ) (f : Formula) → IsWellFormed p → IsFitFormula p f → IsFitFormula p (closed all p own f)
 closed_fit p all own f good h =
     quantified_fit p all (types_of p own) 0 (renamed (rebound (constants p) own) f) (own_ranged p own good)
     (subst (λ m. Everywhere (fit p) m (renamed (rebound (constants p) own) f)) (let l = length-types p own in omega (arith, l))

@@ -16,25 +16,25 @@ use Rattle.pri_typing.specs.declared.problem.Problem.{Problem}
 use Rattle.pri_typing.specs.Everywhere.{Property, Everywhere, AllEverywhere, TermEverywhere, TermsEverywhere}
 use Rattle.pri_typing.specs.Problems.{IsNoCall, IsNoPredicate, IsWithoutApplication}
 use Rattle.pri_typing.specs.Typing.{signed}
-use Rattle.pri_printer.specs.Summands.{Signed, Summand, alone, summands, times}
+use Rattle.pri_printer.specs.Summands.{SignedSummand, Summand, alone, summands, times}
 use Rattle.pri_printer.specs.Formulas.{clause_formula, divides_formula, later, later_part, less_summand, literal_formula, normal_form_formula, sum_value, summand_value}
-use Rattle.pri_printer.specs.Names.{DnfNames, IsBelow, IsNamed, OccursIn}
+use Rattle.pri_printer.specs.Names.{DnfNames, IsVariableBelow, HasNamesIn, OccursIn}
 use Rattle.pri_printer.specs.Printed.{constants_of, dnf_formula}
-use Rattle.pri_printer.specs.Ranges.{IsRanged}
+use Rattle.pri_printer.specs.Ranges.{IsRangedLiteral}
 use Rattle.pri_printer.proofs.Bridge.{dnf_printable}
 use Rattle.pri_printer.proofs.Outer.{constants_true}
 use Rattle.pri_printer.proofs.Plain.{printed_names}
 use Rattle.pri_printer.proofs.Standing.{AllPrintable, AreFit, ArePrintable, Fits, IsPrintable}
 use Rattle.constraint_text.proofs.Printed.{all_below}
-use Rattle.elim_rules.specs.Whole.{AreOver, Lacks}
+use Rattle.elim_laws.specs.Whole.{AreOver, Lacks}
 use Rattle.encoding.specs.Occurrences.{names_in, names_in_all, names_in_term, names_in_terms, occurs}
 use Rattle.encoding.specs.Problems.{constants}
 use Rattle.cut_sides.specs.Between.{IsStrongest}
 use Rattle.cut_sides.specs.Symbols.{is_empty, symbols_in, symbols_in_all, symbols_in_term, symbols_in_terms}
-use Rattle.interpolant.specs.Sides.{IsBetween}
+use Rattle.interpolant.specs.Sides.{IsInterpolant}
 use Rattle.interpolant.specs.Sides as sides
 use Rattle.interpolant.proofs.Occurrences.{absent_is}
-use Rattle.pred_interpolant.specs.Fit.{IsFit, fit}
+use Rattle.pred_interpolant.specs.Fit.{IsFitFormula, fit}
 use Rattle.pred_interpolant.specs.Middle.{Shares}
 
 -- ---- it can stand in the problem
@@ -73,11 +73,11 @@ signed_fit : (c : Bool) (p : Problem) (k : ℕ) (a : Summand) → Fits (constant
 signed_fit true p k a h = minus_fit p k (summand_value a) (summand_fit p k a h)
 signed_fit false p k a h = summand_fit p k a h
 
-later_fit : (p : Problem) (k : ℕ) (more : List Signed) → AreFit (constants p) more → TermsEverywhere (fit p) k (expressions (map later (map later_part more)))
+later_fit : (p : Problem) (k : ℕ) (more : List SignedSummand) → AreFit (constants p) more → TermsEverywhere (fit p) k (expressions (map later (map later_part more)))
 later_fit p k [] h = tt
 later_fit p k (a ∷ more) h = (signed_fit a.0 p k a.1 h.0, later_fit p k more h.1)
 
-sum_fit : (p : Problem) (k : ℕ) (xs : List Signed) → AreFit (constants p) xs → TermEverywhere (fit p) k (sum_value xs)
+sum_fit : (p : Problem) (k : ℕ) (xs : List SignedSummand) → AreFit (constants p) xs → TermEverywhere (fit p) k (sum_value xs)
 sum_fit p k [] h = number_fit p k 0 (omega arith)
 sum_fit p k (a ∷ []) h = first_fit a.0 p k a.1 h.0
 sum_fit p k (a ∷ b ∷ more) h =
@@ -128,10 +128,10 @@ pub many_constants : (p : Problem) → length (constants_of p) ≡ constants p
 many_constants p = length-append p.existentials p.universals
 
 -- the formula of a normal form over the constants with its numbers in the range
-pub dnf_fit : (p : Problem) (d cs : List (List Literal)) → cs ≡ d → All (All IsRanged) cs → AreOver (constants p) d → IsFit p (dnf_formula p d)
+pub dnf_fit : (p : Problem) (d cs : List (List Literal)) → cs ≡ d → All (All IsRangedLiteral) cs → AreOver (constants p) d → IsFitFormula p (dnf_formula p d)
 dnf_fit p d cs e ranged over =
-    subst (λ n. IsFit p (normal_form_formula n d)) (sym (many_constants p))
-    (normal_fit p d (dnf_printable (constants p) d cs e ranged (subst (λ n. DnfNames (IsBelow n) d) (many_constants p) (all_below p d over))))
+    subst (λ n. IsFitFormula p (normal_form_formula n d)) (sym (many_constants p))
+    (normal_fit p d (dnf_printable (constants p) d cs e ranged (subst (λ n. DnfNames (IsVariableBelow n) d) (many_constants p) (all_below p d over))))
 
 pub dnf_is : (p : Problem) (d cs : List (List Literal)) (n : ℕ) (f : Formula) → cs ≡ d → n ≡ constants p → f ≡ normal_form_formula n cs → f ≡ dnf_formula p d
 dnf_is p d cs n f e m h = h ∙ (λ i. normal_form_formula ((m ∙ sym (many_constants p)) i) (e i))
@@ -156,7 +156,7 @@ named_both P n [] ys h k = k
 named_both P n (x ∷ xs) ys h k = (h.0, named_both P n xs ys h.1 k)
 
 abbrev speaking : (ℕ → Type 0) → ℕ → Property
-speaking P n = record { of_formula = IsNoPredicate; of_term = λ depth. IsNamed P n }
+speaking P n = record { of_formula = IsNoPredicate; of_term = λ depth. HasNamesIn P n }
 
 none : {A : Type 0} (xs ys : List A) → xs ≡ [] → ys ≡ [] → xs ++ ys ≡ []
 none xs ys h k = λ i. h i ++ k i
@@ -229,7 +229,7 @@ lacks_all : (x : ℕ) (d : List (List Literal)) → AllByRecursion (Lacks x) d �
 lacks_all x [] h = refl
 lacks_all x (c ∷ d) h = λ i. lacks_clause x c h.0 i || lacks_all x d h.1 i
 
-pub dnf_shares : (w : Meaning) (p : Problem) (f g : Formula) (d : List (List Literal)) → IsBetween w p f g d → Shares p f (dnf_formula p d) g
+pub dnf_shares : (w : Meaning) (p : Problem) (f g : Formula) (d : List (List Literal)) → IsInterpolant w p f g d → Shares p f (dnf_formula p d) g
 dnf_shares w p f g d b =
     let n = length (constants_of p) in
     let s = spoken (OccursIn d) n 0 (dnf_formula p d) (printed_names p d) in
@@ -242,7 +242,7 @@ dnf_shares w p f g d b =
       symbols = λ a u. absurd (false≢true (sym (ap (list_any _) s.1) ∙ u));
     }
   where
-    stands : (x : ℕ) (h : Formula) → x < constants p → (sides.Lacks x h → sides.Lacks x f ⊎ sides.Lacks x g) → OccursIn d x → occurs x h ≡ true
+    stands : (x : ℕ) (h : Formula) → x < constants p → (sides.LacksName x h → sides.LacksName x f ⊎ sides.LacksName x g) → OccursIn d x → occurs x h ≡ true
     stands x h lt side o = by (occurs x h) refl
       where
         by : (c : Bool) → occurs x h ≡ c → c ≡ true

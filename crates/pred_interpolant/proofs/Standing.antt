@@ -16,15 +16,15 @@ use Rattle.cut_sides.specs.Closing.{strongest_formula, weakest_formula}
 use Rattle.cut_sides.specs.Sides.{Case, arithmetic, case_between, case_of, cut_of, first_itself, first_sets, first_side, other_sets, second_denied, StandsBy}
 use Rattle.cut_sides.proofs.Quantifying.{strongest, weakest}
 use Rattle.interpolant.specs.declared.fault.Interpolant.{Interpolant}
-use Rattle.interpolant.specs.Run.{Interpolates}
-use Rattle.interpolant.specs.Sides.{IsBetween}
+use Rattle.interpolant.specs.Run.{AnswersInterpolant}
+use Rattle.interpolant.specs.Sides.{IsInterpolant}
 use Rattle.typed_printer.specs.Replaced.{with_formula}
 use Rattle.pred_interpolant.specs.declared.fault.MiddleFormula.{MiddleFormula}
 use Rattle.pred_interpolant.specs.declared.fault.MiddleFormula.TheVariants.{Arithmetic, General}
 use Rattle.pred_interpolant.specs.declared.fault.MiddleFault.{MiddleFault}
 use Rattle.pred_interpolant.specs.declared.fault.MiddleFault.TheVariants as fault
 use Rattle.pred_interpolant.specs.declared.making.Sides.{Sides}
-use Rattle.pred_interpolant.specs.Fit.{IsFit, fit}
+use Rattle.pred_interpolant.specs.Fit.{IsFitFormula, fit}
 use Rattle.pred_interpolant.specs.Made.{AreSides, Finds, FindsBy, FindsOr, Misses, memory}
 use Rattle.pred_interpolant.specs.Middle.{IsFound, IsOfCase, Shares, first, second}
 use Rattle.pred_interpolant.proofs.Choosing.{arithmetic_empty, first_within, second_within}
@@ -35,7 +35,7 @@ use Rattle.cut_sides.specs.Closing.{own_constants}
 use Rattle.encoding.specs.Problems.{constants}
 
 -- a formula of a well-formed problem can stand in it
-pub over_fit : (p : Problem) (f : Typed) → IsWellFormed (with_formula p f) → IsFit p (formula f)
+pub over_fit : (p : Problem) (f : Typed) → IsWellFormed (with_formula p f) → IsFitFormula p (formula f)
 over_fit p f good =
     everywhere_more (fit (with_formula p f)) (fit p) (record {
       of_formula = λ n g h. record { predicate = h.predicate; binder = h.binder; part = h.part };
@@ -46,8 +46,8 @@ over_fit p f good =
 pub case_is : (p : Problem) (cut at : ℕ) (s : Sides) (k c : Case) → AreSides p cut at s → k ≡ case_between (formula s.first) (formula s.second) → k ≡ c → case_of p (cut_of p cut) at ≡ c
 case_is p cut at s k c h e is = (λ i. case_between (sym h.first i) (sym h.second i)) ∙ sym e ∙ is
 
-pub side_fit : (p : Problem) (set : List ℕ) (f : Typed) → IsWellFormed p → formula f ≡ assumed_by p set → IsFit p (formula f)
-side_fit p set f good e = subst (IsFit p) (sym e) (assumed_fit p set good)
+pub side_fit : (p : Problem) (set : List ℕ) (f : Typed) → IsWellFormed p → formula f ≡ assumed_by p set → IsFitFormula p (formula f)
+side_fit p set f good e = subst (IsFitFormula p) (sym e) (assumed_fit p set good)
 
 pub plain_first : (p : Problem) (cut at : ℕ) → case_of p (cut_of p cut) at ≡ arithmetic → IsWithoutApplication (first_side p (cut_of p cut) at)
 plain_first p cut at h = plain_side (first_side p (cut_of p cut) at) (arithmetic_empty (first p cut at) (second p cut at) h)
@@ -57,11 +57,11 @@ some_meaning = record { truth = λ k xs. false; value = λ k xs. pos 0 }
 
 -- the normal form
 pub arithmetic_work : (p : Problem) (cut at : ℕ) (old new : Funds) (i : Interpolant) → case_of p (cut_of p cut) at ≡ arithmetic
-    → Interpolates p (first_sets (cut_of p cut) at) (other_sets (cut_of p cut) at) old (Ok i) new → Finds p cut at old (Arithmetic i.formula) new
+    → AnswersInterpolant p (first_sets (cut_of p cut) at) (other_sets (cut_of p cut) at) old (Ok i) new → Finds p cut at old (Arithmetic i.formula) new
 arithmetic_work p cut at old new i c h = subst (λ k. FindsBy p cut at k old (Arithmetic i.formula) new) (sym c) h
 
 pub arithmetic_found : (p : Problem) (cut at : ℕ) (d : List (List Literal)) → case_of p (cut_of p cut) at ≡ arithmetic
-    → ((w : Meaning) → IsBetween w p (first p cut at) (second p cut at) d) → ((w : Meaning) → IsStrongest w p (first p cut at) (second p cut at) (λ e. dnf_truth d e ≡ true))
+    → ((w : Meaning) → IsInterpolant w p (first p cut at) (second p cut at) d) → ((w : Meaning) → IsStrongest w p (first p cut at) (second p cut at) (λ e. dnf_truth d e ≡ true))
     → IsFound p cut at (Arithmetic d)
 arithmetic_found p cut at d c b s =
     let over = (b some_meaning).over in
@@ -88,7 +88,7 @@ first_found p cut at g good c e =
     let h = second p cut at in
     record {
       of_case = subst (IsOfCase p f h (General g)) (sym c) e;
-      over = fit_formed p g good (subst (IsFit p) (sym e) (closed_fit p false (own_constants (constants p) f h) f good (assumed_fit p (first_sets (cut_of p cut) at) good)));
+      over = fit_formed p g good (subst (IsFitFormula p) (sym e) (closed_fit p false (own_constants (constants p) f h) f good (assumed_fit p (first_sets (cut_of p cut) at) good)));
       stands = λ w. subst (StandsBy w p f h (Truth w (formula g))) (sym c) (subst (λ z. IsStrongest w p f h (Truth w z)) (sym e) (strongest w p f h good));
       shares = subst (λ z. Shares p f z h) (sym e) (strongest_shares p f h (first_within f h c));
     }
@@ -109,7 +109,7 @@ second_found p cut at g good c e =
     let h = second p cut at in
     record {
       of_case = subst (IsOfCase p f h (General g)) (sym c) e;
-      over = fit_formed p g good (subst (IsFit p) (sym e) (closed_fit p true (own_constants (constants p) h f) (negation h) good (denied_fit p h (assumed_fit p (other_sets (cut_of p cut) at) good))));
+      over = fit_formed p g good (subst (IsFitFormula p) (sym e) (closed_fit p true (own_constants (constants p) h f) (negation h) good (denied_fit p h (assumed_fit p (other_sets (cut_of p cut) at) good))));
       stands = λ w. subst (StandsBy w p f h (Truth w (formula g))) (sym c) (subst (λ z. IsWeakest w p f h (Truth w z)) (sym e) (weakest w p f h good));
       shares = subst (λ z. Shares p f z h) (sym e) (weakest_shares p f h (second_within f h c));
     }

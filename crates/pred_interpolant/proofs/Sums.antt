@@ -6,7 +6,7 @@ use Rattle.linear_term.specs.Range.{InRange}
 use Rattle.std.proofs.lemmas.List.{map-append}
 use Rattle.typed_formula.specs.declared.typed.TypedTerm.{TypedTerm}
 use Rattle.typed_formula.specs.Formula.{expression, expressions, expressions_of, total}
-use Rattle.pri_printer.specs.Summands.{Signed, constant, monomial, summands}
+use Rattle.pri_printer.specs.Summands.{SignedSummand, constant, monomial, summands}
 use Rattle.pri_printer.specs.Formulas.{first_value, later, later_part, sum_value}
 
 -- The numbers of monomials.
@@ -18,7 +18,7 @@ pub ranged_more : (xs ys more : List (ℕ × ℤ)) (x : ℕ × ℤ) → xs ≡ y
 ranged_more xs ys more x e q h = λ k d lt. (subst (All (λ p. InRange p.1)) (e ∙ q) h) (suc k) d (omega (arith, lt))
 
 -- what comes behind the first monomial
-abbrev behind : List (ℕ × ℤ) → ℤ → List Signed
+abbrev behind : List (ℕ × ℤ) → ℤ → List SignedSummand
 behind more k = map monomial more ++ cond (int_eq k (pos 0)) [] (constant k ∷ [])
 
 -- the rest of a sum, put behind nothing in two steps
@@ -30,7 +30,7 @@ rest_is start first second more k e h l =
     l ∙ ap (λ xs. xs ++ map later (map later_part tail)) (h ∙ ap (λ xs. map expression xs ++ map later (map later_part (map monomial more))) e)
     ∙ sym (map-append later (map later_part (map monomial more)) (map later_part tail)) ∙ ap (map later) (sym (map-append later_part (map monomial more) tail))
 
-none_left : (xs : List Signed) → map later (map later_part xs) ≡ [] → xs ≡ []
+none_left : (xs : List SignedSummand) → map later (map later_part xs) ≡ [] → xs ≡ []
 none_left [] h = refl
 none_left (x ∷ xs) h = absurd cc
 
@@ -43,7 +43,7 @@ pub several_are : (p : ℕ × ℤ) (more : List (ℕ × ℤ)) (k : ℤ) (head : 
     → map expression rest ≡ map later (map later_part (behind more k)) → ¬ (rest ≡ []) → members ≡ head ∷ rest → total (expressions_of members) ≡ sum_value (summands (p ∷ more) k)
 several_are p more k head rest members h r some e = ap (λ ms. total (expressions_of ms)) e ∙ by rest (behind more k) r some
   where
-    by : (us : List TypedTerm) (xs : List Signed) → map expression us ≡ map later (map later_part xs) → ¬ (us ≡ []) → total (expressions_of (head ∷ us)) ≡ sum_value (monomial p ∷ xs)
+    by : (us : List TypedTerm) (xs : List SignedSummand) → map expression us ≡ map later (map later_part xs) → ¬ (us ≡ []) → total (expressions_of (head ∷ us)) ≡ sum_value (monomial p ∷ xs)
     by [] xs q n = absurd (n refl)
     by (u ∷ us) [] q n = absurd cc
     by (u ∷ us) (x ∷ xs) q n = λ i. total (expressions (h i ∷ q i))

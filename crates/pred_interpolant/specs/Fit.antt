@@ -25,5 +25,5 @@ abbrev pub fit : Problem → Property
 fit p = record { of_formula = IsFormulaFit p; of_term = IsTermFit p }
 
 -- the formula can stand in the problem
-abbrev pub IsFit : Problem → Formula → Type 0
-IsFit p f = Everywhere (fit p) 0 f
+abbrev pub IsFitFormula : Problem → Formula → Type 0
+IsFitFormula p f = Everywhere (fit p) 0 f

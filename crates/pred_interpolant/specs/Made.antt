@@ -12,7 +12,7 @@ use Rattle.cut_sides.specs.Closing.{strongest_formula, weakest_formula}
 use Rattle.cut_sides.specs.Sides.{Case, arithmetic, first_itself, second_denied, none, case_of, cut_of, first_sets, first_side, other_sets, other_side}
 use Rattle.interpolant.specs.declared.fault.InterpolantFault.{InterpolantFault}
 use Rattle.interpolant.specs.declared.fault.InterpolantFault.TheVariants as interpolant
-use Rattle.interpolant.specs.Run.{Interpolates}
+use Rattle.interpolant.specs.Run.{AnswersInterpolant}
 use Rattle.pred_interpolant.specs.declared.fault.MiddleFormula.{MiddleFormula}
 use Rattle.pred_interpolant.specs.declared.fault.MiddleFormula.TheVariants.{Arithmetic, General}
 use Rattle.pred_interpolant.specs.declared.fault.MiddleFault.{MiddleFault}
@@ -39,7 +39,7 @@ uninterpolated (interpolant.Encode r) = unencoded r
 -- as that run left it; or the closed first side, or the closed denial of the second, and the purse is as it was.
 abbrev pub FindsBy : Problem → ℕ → ℕ → Case → Funds → MiddleFormula → Funds → Type 0
 FindsBy p cut at arithmetic old (Arithmetic d) new =
-    Interpolates p (first_sets (cut_of p cut) at) (other_sets (cut_of p cut) at) old (Ok (record { formula = d })) new
+    AnswersInterpolant p (first_sets (cut_of p cut) at) (other_sets (cut_of p cut) at) old (Ok (record { formula = d })) new
 FindsBy p cut at first_itself old (General f) new = (formula f ≡ strongest_formula p (middle.first p cut at) (middle.second p cut at)) × (new ≡ old)
 FindsBy p cut at second_denied old (General f) new = (formula f ≡ weakest_formula p (middle.first p cut at) (middle.second p cut at)) × (new ≡ old)
 FindsBy p cut at c old m new = ⊥
@@ -51,7 +51,7 @@ Finds p cut at old m new = FindsBy p cut at (case_of p (cut_of p cut) at) old m 
 pub data Misses (p : Problem) (cut at : ℕ) (old : Funds) (e : MiddleFault) (new : Funds) : Type 0 where
   symbols : case_of p (cut_of p cut) at ≡ none → e ≡ fault.Symbols → new ≡ old → Misses p cut at old e new
   run : (x : InterpolantFault) → case_of p (cut_of p cut) at ≡ arithmetic
-      → Interpolates p (first_sets (cut_of p cut) at) (other_sets (cut_of p cut) at) old (Err x) new → e ≡ uninterpolated x → Misses p cut at old e new
+      → AnswersInterpolant p (first_sets (cut_of p cut) at) (other_sets (cut_of p cut) at) old (Err x) new → e ≡ uninterpolated x → Misses p cut at old e new
   memory : e ≡ fault.Memory → Misses p cut at old e new
 
 -- the formula by the case, or why there is none
@@ -75,14 +75,14 @@ abbrev pub IsRootOf : Problem → Formula → Core → Type 0
 IsRootOf p f c = Encodes (obligation_root p f) (Ok c)
 
 -- what ends early with this fault: there is no formula; the first obligation has no encoding; or the second has none.
-pub data EndsEarly (p : Problem) (cut at : ℕ) (old : Funds) (e : MiddleFault) (new : Funds) : Type 0 where
-  unfound : Misses p cut at old e new → EndsEarly p cut at old e new
-  first_obligation : (m : MiddleFormula) → Finds p cut at old m new → IsUnencoded p (below p cut at m) e → EndsEarly p cut at old e new
+pub data ObligationsEndEarly (p : Problem) (cut at : ℕ) (old : Funds) (e : MiddleFault) (new : Funds) : Type 0 where
+  unfound : Misses p cut at old e new → ObligationsEndEarly p cut at old e new
+  first_obligation : (m : MiddleFormula) → Finds p cut at old m new → IsUnencoded p (below p cut at m) e → ObligationsEndEarly p cut at old e new
   second_obligation : (m : MiddleFormula) (c : Core) → Finds p cut at old m new → IsRootOf p (below p cut at m) c → IsUnencoded p (above p cut at m) e
-      → EndsEarly p cut at old e new
+      → ObligationsEndEarly p cut at old e new
 
 -- the obligations of the formula that is found, both encoded; or else the first step that ends early
 abbrev pub MakesObligations : Problem → ℕ → ℕ → Funds → Result Obligations MiddleFault → Funds → Type 0
 MakesObligations p cut at old (Ok o) new =
     Finds p cut at old o.formula new × IsRootOf p (below p cut at o.formula) o.below.root × IsRootOf p (above p cut at o.formula) o.above.root
-MakesObligations p cut at old (Err e) new = EndsEarly p cut at old e new
+MakesObligations p cut at old (Err e) new = ObligationsEndEarly p cut at old e new

@@ -26,8 +26,8 @@ abbrev pub AreSymbolMarks : Problem → Formula → List Bool → Type 0
 AreSymbolMarks p f marks = marks ≡ noted (no_marks p) (symbols_in f)
 
 -- each mark of the first list is one of the second
-abbrev pub AreWithin : List Bool → List Bool → Type 0
-AreWithin first second = (i : ℕ) → i < length first → is_marked first i ≡ true → is_marked second i ≡ true
+abbrev pub AreMarkedWithin : List Bool → List Bool → Type 0
+AreMarkedWithin first second = (i : ℕ) → i < length first → is_marked first i ≡ true → is_marked second i ≡ true
 
 -- no mark is set
 abbrev pub AreUnset : List Bool → Type 0

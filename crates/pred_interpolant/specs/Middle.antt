@@ -8,7 +8,7 @@ use Rattle.pri_typing.specs.declared.problem.Problem.{Problem}
 use Rattle.pri_typing.specs.WellFormed.{IsWellFormed}
 use Rattle.pri_printer.specs.Printed.{dnf_formula}
 use Rattle.formula.specs.Form.{Form}
-use Rattle.elim_rules.specs.Whole.{AreOver}
+use Rattle.elim_laws.specs.Whole.{AreOver}
 use Rattle.encoding.specs.Occurrences.{occurs}
 use Rattle.encoding.specs.Problems.{constants, over_constants}
 use Rattle.encoding.specs.Root.{root}
@@ -42,9 +42,9 @@ IsOfCase p f g (General h) second_denied = formula h ≡ weakest_formula p f g
 IsOfCase p f g _ _ = ⊥
 
 -- a normal form over the constants of the problem, or a formula over its symbols
-abbrev pub IsOver : Problem → MiddleFormula → Type 0
-IsOver p (Arithmetic d) = AreOver (constants p) d
-IsOver p (General f) = IsWellFormed (with_formula p f)
+abbrev pub IsOverProblem : Problem → MiddleFormula → Type 0
+IsOverProblem p (Arithmetic d) = AreOver (constants p) d
+IsOverProblem p (General f) = IsWellFormed (with_formula p f)
 
 -- the formula speaks of those constants, predicates and functions alone that both others speak of
 pub record Shares (p : Problem) (f between g : Formula) : Type 0 where
@@ -55,7 +55,7 @@ pub record Shares (p : Problem) (f between g : Formula) : Type 0 where
 -- second side is denied, in every interpretation; and it speaks of what both sides speak of.
 pub record IsFound (p : Problem) (cut at : ℕ) (m : MiddleFormula) : Type 0 where
   pub of_case : IsOfCase p (first p cut at) (second p cut at) m (case_of p (cut_of p cut) at)
-  pub over : IsOver p m
+  pub over : IsOverProblem p m
   pub stands : (w : Meaning) → Stands w p (cut_of p cut) at (Truth w (said p m))
   pub shares : Shares p (first p cut at) (said p m) (second p cut at)
 

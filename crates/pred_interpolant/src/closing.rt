@@ -1,5 +1,6 @@
 // A formula with some of the problem's constants under quantifiers.
 
+ghost use Rattle.limits.specs.Limits.{most_constants};
 ghost use Rattle.std.specs.Prelude.{◌≡◌, ◌&&◌, ◌++◌, ◌<◌, ◌≤◌, ◌∷◌, [], cond, not, false, IfOk, OnOk, length, map};
 ghost use Rattle.std.specs.List.{filter};
 ghost use Rattle.typed_formula.specs.Formula.{formula};
@@ -40,7 +41,7 @@ fn put_kept(kept: bool, x: u32, out: &mut Vec<u32>) -> Result<(), Memory>
 
 /// The constants, in their order, that have a mark in the first list and none in the second.
 fn only_first(alloc: Global, first: &[bool], second: &[bool]) -> Result<Vec<u32>, Memory>
-    requires few { length first.now ≤ 1000 }
+    requires few { length first.now ≤ most_constants }
     requires same { length second.now ≡ length first.now }
     ensures { IfOk result (λ v. v.items ≡ filter (λ x. is_marked first.now x && not (is_marked second.now x)) (numbers_from 0 (length first.now))) }
 {
@@ -60,7 +61,7 @@ pub fn own_constants(
 ) -> Result<Vec<u32>, Memory>
     requires { IsWellFormed p.now }
     ensures own { IfOk result (λ v. v.items ≡ closing.own_constants (constants p.now) (assumed_by p.now first.now) (assumed_by p.now second.now)) }
-    ensures few { IfOk result (λ v. length v.items ≤ 1000) }
+    ensures few { IfOk result (λ v. length v.items ≤ most_constants) }
 {
     let own = marks_of(alloc, p, first)?;
     let others = marks_of(alloc, p, second)?;
@@ -70,8 +71,8 @@ pub fn own_constants(
 /// Where one of n constants goes when those in the list get quantifiers, outermost the first.
 fn rebound(n: u32, own: &[u32], x: u32) -> u32
     requires within { x < n }
-    requires constants { n ≤ 1000 }
-    requires few { length own.now ≤ 1000 }
+    requires constants { n ≤ most_constants }
+    requires few { length own.now ≤ most_constants }
     ensures { result ≡ closing.rebound n own.now x }
 {
     for i in 0..own.len() {
@@ -84,8 +85,8 @@ fn rebound(n: u32, own: &[u32], x: u32) -> u32
 
 /// The same of each of the n constants.
 fn table_of(alloc: Global, n: u32, own: &[u32]) -> Result<Vec<u32>, Memory>
-    requires constants { n ≤ 1000 }
-    requires few { length own.now ≤ 1000 }
+    requires constants { n ≤ most_constants }
+    requires few { length own.now ≤ most_constants }
     ensures { IfOk result (λ v. v.items ≡ map (closing.rebound n own.now) (numbers_from 0 n)) }
 {
     let mut table = Vec::new(alloc);
@@ -154,7 +155,7 @@ pub fn closed(
     f: &Typed,
 ) -> Result<Typed, Memory>
     requires formed { IsWellFormed p.now }
-    requires few { length own.now ≤ 1000 }
+    requires few { length own.now ≤ most_constants }
     ensures { IfOk result (λ g. formula g ≡ closing.closed all p.now own.now (formula f.now)) }
 {
     let n = p.existentials.len() as u32 + p.universals.len() as u32;

@@ -7,10 +7,10 @@ ghost use Rattle.pri_typing.specs.WellFormed.{IsWellFormed};
 ghost use Rattle.cut_sides.specs.Closing.{strongest_formula, weakest_formula};
 ghost use Rattle.function_encoding.specs.Encoded.{Encodes, root_of};
 ghost use Rattle.cut_sides.specs.Sides.{cut_of};
-ghost use Rattle.pred_interpolant.specs.Fit.{IsFit};
+ghost use Rattle.pred_interpolant.specs.Fit.{IsFitFormula};
 ghost use Rattle.pred_interpolant.specs.Made.{AreSides, FindsOr, MakesObligations};
 ghost use Rattle.pred_interpolant.specs.Middle as middle;
-ghost use Rattle.pred_interpolant.specs.Middle.{IsFound, IsObligation, IsOver, obligation_root};
+ghost use Rattle.pred_interpolant.specs.Middle.{IsFound, IsObligation, IsOverProblem, obligation_root};
 
 use crate::closing::{closed, own_constants};
 use crate::fault::{MiddleFault, MiddleFormula, Obligations};
@@ -30,9 +30,9 @@ use typed_formula::Typed;
 /// The formula that is meant.
 fn said(alloc: Global, p: &Problem, m: &MiddleFormula) -> Result<Typed, Memory>
     requires formed { IsWellFormed p.now }
-    requires over { IsOver p.now m.now }
+    requires over { IsOverProblem p.now m.now }
     ensures is { IfOk result (λ f. formula f ≡ middle.said p.now m.now) }
-    ensures fit { IfOk result (λ f. IsFit p.now (formula f)) }
+    ensures fit { IfOk result (λ f. IsFitFormula p.now (formula f)) }
 {
     match m {
         MiddleFormula::Arithmetic(d) => dnf_as_formula(alloc, p, d),
@@ -76,8 +76,8 @@ fn weakest(
 /// The encoding of what says that the formula follows from the first side.
 fn below(alloc: Global, p: &Problem, f: Typed, m: &MiddleFormula) -> Result<Encoded, EncodeRefusal>
     requires formed { IsWellFormed p.now }
-    requires over { IsOver p.now m.now }
-    requires fit { IsFit p.now (formula f) }
+    requires over { IsOverProblem p.now m.now }
+    requires fit { IsFitFormula p.now (formula f) }
     ensures work { Encodes (obligation_root p.now (middle.follows (formula f) (middle.said p.now m.now))) (root_of result) }
     ensures encoded { IfOk result (IsObligation p.now (middle.follows (formula f) (middle.said p.now m.now))) }
 {
@@ -89,8 +89,8 @@ fn below(alloc: Global, p: &Problem, f: Typed, m: &MiddleFormula) -> Result<Enco
 /// The encoding of what says that the formula contradicts the second side.
 fn above(alloc: Global, p: &Problem, g: Typed, m: &MiddleFormula) -> Result<Encoded, EncodeRefusal>
     requires formed { IsWellFormed p.now }
-    requires over { IsOver p.now m.now }
-    requires fit { IsFit p.now (formula g) }
+    requires over { IsOverProblem p.now m.now }
+    requires fit { IsFitFormula p.now (formula g) }
     ensures work { Encodes (obligation_root p.now (middle.contradicts (middle.said p.now m.now) (formula g))) (root_of result) }
     ensures encoded { IfOk result (IsObligation p.now (middle.contradicts (middle.said p.now m.now) (formula g))) }
 {

@@ -4,17 +4,17 @@ ghost use Rattle.std.specs.Prelude.{◌≡◌, ◌++◌, IfOk, OnOk, All, map, c
 ghost use Rattle.std.specs.Ordering.{int_eq};
 ghost use Rattle.typed_formula.specs.Formula.{expression, formula};
 ghost use Rattle.clause_set.specs.Literals.{HasDivisor};
-ghost use Rattle.elim_rules.specs.Whole.{AreOver};
+ghost use Rattle.elim_laws.specs.Whole.{AreOver};
 ghost use Rattle.linear_term.specs.Range.{InRange};
 ghost use Rattle.pri_typing.specs.WellFormed.{IsWellFormed};
 ghost use Rattle.pri_printer.specs.Formulas as forms;
 ghost use Rattle.pri_printer.specs.Formulas.{clause_formula, divides_formula, first_value, later, later_part, literal_formula, normal_form_formula, sum_value, summand_value, term_value};
 ghost use Rattle.pri_printer.specs.Printed.{dnf_formula};
-ghost use Rattle.pri_printer.specs.Ranges.{IsRanged};
+ghost use Rattle.pri_printer.specs.Ranges.{IsRangedLiteral};
 ghost use Rattle.pri_printer.specs.Summands as summands;
 ghost use Rattle.pri_printer.specs.Summands.{monomial};
 ghost use Rattle.encoding.specs.Problems.{constants};
-ghost use Rattle.pred_interpolant.specs.Fit.{IsFit};
+ghost use Rattle.pred_interpolant.specs.Fit.{IsFitFormula};
 
 use clause_set::{Clause, Dnf, Literal};
 use linear_term::{Memory, Term};
@@ -251,7 +251,7 @@ fn normal_form(alloc: Global, n: u32, cs: &[Clause]) -> Result<Typed, Memory>
 /// The numbers of a literal are in the range: this call does nothing, and tells its caller so.
 fn know_literal(l: &Literal)
     requires { HasDivisor l.now }
-    ensures { IsRanged l.now }
+    ensures { IsRangedLiteral l.now }
 {
     l.term().know_normal();
 }
@@ -259,7 +259,7 @@ fn know_literal(l: &Literal)
 /// The same of literals.
 fn know_literals(literals: &[Literal])
     requires { All HasDivisor literals.now }
-    ensures { All IsRanged literals.now }
+    ensures { All IsRangedLiteral literals.now }
 {
     for l in literals {
         know_literal(l);
@@ -268,7 +268,7 @@ fn know_literals(literals: &[Literal])
 
 /// The same of clauses.
 fn know_clauses(clauses: &[Clause])
-    ensures { All (All IsRanged) clauses.now }
+    ensures { All (All IsRangedLiteral) clauses.now }
 {
     for c in clauses {
         c.know_clause();
@@ -281,7 +281,7 @@ pub fn dnf_as_formula(alloc: Global, p: &Problem, d: &Dnf) -> Result<Typed, Memo
     requires formed { IsWellFormed p.now }
     requires over { AreOver (constants p.now) d.now }
     ensures is { IfOk result (λ f. formula f ≡ dnf_formula p.now d.now) }
-    ensures fit { IfOk result (λ f. IsFit p.now (formula f)) }
+    ensures fit { IfOk result (λ f. IsFitFormula p.now (formula f)) }
 {
     know_clauses(d.clauses());
     let n = p.existentials.len() as u32 + p.universals.len() as u32;

@@ -5,7 +5,7 @@ ghost use Rattle.typed_formula.specs.Formula.{formula};
 ghost use Rattle.function_encoding.specs.Encoded.{Encodes, root_of};
 ghost use Rattle.pri_typing.specs.WellFormed.{IsWellFormed};
 ghost use Rattle.typed_printer.specs.Replaced.{with_formula};
-ghost use Rattle.pred_interpolant.specs.Fit.{IsFit};
+ghost use Rattle.pred_interpolant.specs.Fit.{IsFitFormula};
 ghost use Rattle.pred_interpolant.specs.Replaced.{AreConstantsOf, AreOthersOf};
 ghost use Rattle.pred_interpolant.specs.Middle.{IsObligation, obligation_root};
 
@@ -100,7 +100,7 @@ fn replaced(alloc: Global, p: &Problem, f: Typed) -> Result<Problem, Memory>
 /// The encoding of the problem with this formula.
 pub fn encode_formula(alloc: Global, p: &Problem, f: Typed) -> Result<Encoded, EncodeRefusal>
     requires formed { IsWellFormed p.now }
-    requires fit { IsFit p.now (formula f) }
+    requires fit { IsFitFormula p.now (formula f) }
     ensures work { Encodes (obligation_root p.now (formula f)) (root_of result) }
     ensures encoded { IfOk result (λ e. IsObligation p.now (formula f) e) }
 {

@@ -6,8 +6,8 @@ ghost use Rattle.pri_typing.specs.WellFormed.{IsWellFormed};
 ghost use Rattle.function_encoding.specs.Marks.{with_mark};
 ghost use Rattle.cut_sides.specs.Sides.{case_between};
 ghost use Rattle.cut_sides.specs.Symbols.{symbols_in, symbols_in_all, symbols_in_term, symbols_in_terms};
-ghost use Rattle.pred_interpolant.specs.Fit.{IsFit};
-ghost use Rattle.pred_interpolant.specs.Marks.{AreSymbolMarks, AreUnset, AreWithin, case_chosen, noted, symbol_place};
+ghost use Rattle.pred_interpolant.specs.Fit.{IsFitFormula};
+ghost use Rattle.pred_interpolant.specs.Marks.{AreSymbolMarks, AreUnset, AreMarkedWithin, case_chosen, noted, symbol_place};
 
 use pri_typing::Problem;
 use std::alloc::{AllocError, Global};
@@ -148,7 +148,7 @@ fn are_unset(marks: &[bool]) -> bool
 /// Whether each mark of the first list is one of the second.
 fn are_within(first: &[bool], second: &[bool]) -> bool
     requires { length second.now ≡ length first.now }
-    ensures { IsTrue result ↔ AreWithin first.now second.now }
+    ensures { IsTrue result ↔ AreMarkedWithin first.now second.now }
 {
     for i in 0..first.len() {
         if first[i] && !second[i] {
@@ -178,8 +178,8 @@ pub fn choose(
     second: &Typed,
 ) -> Result<Choice, AllocError>
     requires formed { IsWellFormed p.now }
-    requires first { IsFit p.now (formula first.now) }
-    requires second { IsFit p.now (formula second.now) }
+    requires first { IsFitFormula p.now (formula first.now) }
+    requires second { IsFitFormula p.now (formula second.now) }
     ensures { IfOk result (λ c. case_chosen c ≡ case_between (formula first.now) (formula second.now)) }
 {
     let own = symbols_of(alloc, p, first)?;

@@ -11,7 +11,7 @@ use Rattle.linear_term.proofs.Totals.{value_of-combination}
 use Rattle.typed_formula.specs.Truth.{Meaning}
 use Rattle.purse.specs.Trace.{Traced, just, step, next, each}
 use Rattle.formula.specs.Form.{Form, FormTruth, equal, unequal, at_least, holds, fails, differs, conjunction, disjunction, universal, existential, forms, values_of, AreFormsTrue, AreFormsFalse, IsFormOver}
-use Rattle.sequent.specs.Sequent.{Member, Sequent, IsMemberTrue, SequentTruth, IsMember, IsWellFormed}
+use Rattle.sequent.specs.Sequent.{Member, Sequent, IsMemberTrue, SequentTruth, IsMember, IsFormedSequent}
 use Rattle.formula.specs.Form.{is_pure}
 use Rattle.sequent.specs.Rules.{brought}
 use Rattle.pred_unify.specs.Pairs.{equations, alike, same_arguments, other_values, predicate_pair, function_pair, with_predicates, with_functions, function_pairs, pairs_of, pures, closing_of}
@@ -209,11 +209,11 @@ pures_false w n e [] len h = tt
 pures_false w n e (m ∷ ms) len h = pure_false w n e m (pures n ms) (is_pure m.formula) len h.0 (pures_false w n e ms len h.1)
 
 -- wherever a pair is true, the sequent is
-pub pairs_true : (w : Meaning) (s : Sequent) (e : List ℤ) → IsWellFormed s → length e ≡ s.count → ¬ (AllByRecursion (Fails w e) (pairs_of s.members).value) → SequentTruth w s e
+pub pairs_true : (w : Meaning) (s : Sequent) (e : List ℤ) → IsFormedSequent s → length e ≡ s.count → ¬ (AllByRecursion (Fails w e) (pairs_of s.members).value) → SequentTruth w s e
 pairs_true w s e formed len some h = some (pairs_are_false w s.count e s.members len (all_both (IsMember s.count) (λ m. ¬ (IsMemberTrue w e m)) s.members formed h))
 
 -- wherever the closing formula is true, the sequent is
-pub closing_true : (w : Meaning) (s : Sequent) (e : List ℤ) → IsWellFormed s → length e ≡ s.count → FormTruth w (closing_of s).value e → SequentTruth w s e
+pub closing_true : (w : Meaning) (s : Sequent) (e : List ℤ) → IsFormedSequent s → length e ≡ s.count → FormTruth w (closing_of s).value e → SequentTruth w s e
 unfolding next just
 closing_true w s e formed len t h =
     let false_ones = all_both (IsMember s.count) (λ m. ¬ (IsMemberTrue w e m)) s.members formed h in

@@ -12,7 +12,7 @@ use Rattle.typed_formula.specs.Truth.{Meaning}
 use Rattle.typed_formula.proofs.Stability.{equal_stable}
 use Rattle.purse.specs.Trace.{Traced, just, step, next, each}
 use Rattle.formula.specs.Form.{Form, FormTruth, Forms, equal, unequal, holds, fails, differs, no_form, and_form, forms, values_of, AreFormsTrue, AreFormsFalse, IsFormOver}
-use Rattle.sequent.specs.Sequent.{Member, Sequent, AreFalse, IsMember, IsWellFormed}
+use Rattle.sequent.specs.Sequent.{Member, Sequent, AreFalse, IsMember, IsFormedSequent}
 use Rattle.formula.specs.Form.{is_pure}
 use Rattle.sequent.specs.Rules.{brought}
 use Rattle.pred_unify.specs.Pairs.{equations, alike, same_arguments, other_values, predicate_pair, function_pair, with_predicates, with_functions, function_pairs, pairs_of, pures, closing_of}
@@ -227,7 +227,7 @@ facts n ms e h =
     }
 
 -- a saturated leaf is tight
-pub leaf_tight : (s : Sequent) (e : List ℤ) → IsWellFormed s → length e ≡ s.count → AllByRecursion (λ m. is_leaf m.formula ≡ true) s.members
+pub leaf_tight : (s : Sequent) (e : List ℤ) → IsFormedSequent s → length e ≡ s.count → AllByRecursion (λ m. is_leaf m.formula ≡ true) s.members
     → ¬ (FormTruth (table_of s.members e) (closing_of s).value e) → AreFalse (table_of s.members e) e s.members
 unfolding next just
 leaf_tight s e formed len leaf h =

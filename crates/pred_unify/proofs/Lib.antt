@@ -1,4 +1,5 @@
 pub mod Clashes
+pub mod Partners
 pub mod Pures
 pub mod Making
 pub mod Leaves

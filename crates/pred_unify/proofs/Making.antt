@@ -1,6 +1,6 @@
 -- Work whose value is seen in what the code makes.
-use Rattle.std.proofs.Common.{◌≡◌, ℕ, ◌<◌, ◌≤◌, ◌+◌, arith, Bool, true, false, cond, List, [], ◌∷◌, ◌++◌, map, length, drop, take, ◌-◌, get_or, Result, Ok, Err, IsErrAnd, refl, sym, ap, ◌∙◌, subst, append_assoc}
-use Rattle.std.proofs.lemmas.List.{map-append, take_all, length-drop}
+use Rattle.std.proofs.Common.{◌≡◌, ℕ, zero, suc, ◌<◌, ◌≤◌, ◌+◌, arith, Bool, true, false, cond, List, [], ◌∷◌, ◌++◌, map, length, drop, take, ◌-◌, get_or, Result, Ok, Err, IsErrAnd, refl, sym, ap, ◌∙◌, subst, append_assoc}
+use Rattle.std.proofs.lemmas.List.{map-append, take_all, length-drop, drop_more}
 use Rattle.linear_term.specs.Linear.{Linear}
 use Rattle.linear_term.specs.declared.range.TermFault.{TermFault}
 use Rattle.purse.specs.Trace.{Traced, just, next, each}
@@ -8,6 +8,10 @@ use Rattle.sequent.specs.Sequent as q
 use Rattle.sequent.specs.declared.member.Member.{Member}
 use Rattle.sequent.specs.Views.{member_of, members_of}
 use Rattle.purse.proofs.Charging.{Left, drop-item, drop_all}
+use Rattle.std.specs.Borrow.{Bor}
+use Rattle.std.specs.List.{AllByRecursion}
+use Rattle.pred_unify.specs.Reading.{among, behind, is_differing, is_holding}
+use Rattle.pred_unify.proofs.Partners.{nothing_more, predicates_kept, values_kept}
 use Rattle.formula.specs.declared.calculus.Core.{Core}
 use Rattle.formula.specs.declared.calculus.Core.TheVariants as c
 use Rattle.formula.specs.Form.{Form, equal, unequal, holds, fails, differs, conjunction, disjunction, forms}
@@ -45,18 +49,24 @@ and_pushed all more d is = form-And more ∙ ap (λ l. conjunction (forms l)) (a
 pub nothing_made : (x : Traced (List Form)) (out : List Core) → x ≡ just [] → out ≡ [] → Made (map form) x (Ok out)
 nothing_made x out is none = subst (λ w. Made (map form) w (Ok out)) (sym is) (made_just (map form) [] out (ap (map form) none))
 
-pub each_next : (f : q.Member → Traced (List Form)) (ms : List Member) (i : ℕ) (m : Member) (out : List Core) (work : Traced (List Form)) → i < length ms → m ≡ get_or ms i m
-    → Left (each f (members_of (drop i ms)) (map form out)) work → Left (next (f (member_of m)) (λ ds. each f (members_of (drop (i + 1) ms)) (map form out ++ ds))) work
-each_next f ms i m out work lt is inv = subst (λ l. Left (each f (members_of l) (map form out)) work) (drop-item ms i m lt is) inv
+pub each_next : (f : q.Member → Traced (List Form)) (rs : List (Bor Member)) (i : ℕ) (r : Bor Member) (out : List Core) (work : Traced (List Form)) → i < length rs → r ≡ get_or rs i r
+    → Left (each f (members_of (behind (drop i rs))) (map form out)) work → Left (next (f (member_of r.now)) (λ ds. each f (members_of (behind (drop (i + 1) rs))) (map form out ++ ds))) work
+each_next f rs i r out work lt is inv = subst (λ l. Left (each f (members_of (behind l)) (map form out)) work) (drop-item rs i r lt is) inv
+
+-- a member without pairs is passed
+pub each_passed : (f : q.Member → Traced (List Form)) (rs : List (Bor Member)) (i : ℕ) (r : Bor Member) (out : List Core) (work : Traced (List Form)) → i < length rs → r ≡ get_or rs i r → f (member_of r.now) ≡ just []
+    → Left (each f (members_of (behind (drop i rs))) (map form out)) work → Left (each f (members_of (behind (drop (i + 1) rs))) (map form out)) work
+each_passed f rs i r out work lt is none inv =
+    subst (λ w. Left w work) (nothing_more (f (member_of r.now)) (λ ds. each f (members_of (behind (drop (i + 1) rs))) ds) (map form out) none) (each_next f rs i r out work lt is inv)
 
 pub each_appended : (f : q.Member → Traced (List Form)) (ms : List Member) (out more all : List Core) (work : Traced (List Form)) → all ≡ out ++ more
     → Left (each f (members_of ms) (map form out ++ map form more)) work → Left (each f (members_of ms) (map form all)) work
 each_appended f ms out more all work is inv = subst (λ fs. Left (each f (members_of ms) fs) work) (sym (ap (map form) is ∙ map-append form out more)) inv
 
-pub each_end : (f : q.Member → Traced (List Form)) (ms : List Member) (i : ℕ) (out : List Core) (work : Traced (List Form)) → length ms ≤ i
-    → Left (each f (members_of (drop i ms)) (map form out)) work → Made (map form) work (Ok out)
-each_end f ms i out work le inv =
-    left_done (map form) (Ok out) (subst (λ l. Left (each f (members_of l) (map form out)) work) (drop_all ms i le) inv) (made_just (map form) (map form out) out refl)
+pub each_end : (f : q.Member → Traced (List Form)) (rs : List (Bor Member)) (i : ℕ) (out : List Core) (work : Traced (List Form)) → length rs ≤ i
+    → Left (each f (members_of (behind (drop i rs))) (map form out)) work → Made (map form) work (Ok out)
+each_end f rs i out work le inv =
+    left_done (map form) (Ok out) (subst (λ l. Left (each f (members_of (behind l)) (map form out)) work) (drop_all rs i le) inv) (made_just (map form) (map form out) out refl)
 
 pub predicate_else : (p : ℕ) (ss : List Linear) (g : Core) (q : ℕ) (ts same : List Linear) (b : Bool) (out : List Core) → form g ≡ holds q ts → same ≡ ts → b ≡ alike p ss q same → b ≡ false → out ≡ []
     → Made (map form) (predicate_pair p ss (form g)) (Ok out)
@@ -80,19 +90,19 @@ pub functions_made : (ms : List q.Member) (g : Core) (f : ℕ) (ss same : List L
 functions_made ms g f ss same u r is slice made =
     subst (λ x. Made (map form) x r) (ap (λ l. each (λ m. function_pair f l u m.formula) ms []) slice ∙ ap (with_functions ms) (sym is)) made
 
-pub later_next : (ms : List Member) (i : ℕ) (m : Member) (out : List Core) (work : Traced (List Form)) → i < length ms → m ≡ get_or ms i m
-    → Left (function_pairs (members_of (drop i ms)) (map form out)) work
-    → Left (next (with_functions (members_of (drop (i + 1) ms)) (form m.formula)) (λ fs. function_pairs (members_of (drop (i + 1) ms)) (map form out ++ fs))) work
-later_next ms i m out work lt is inv = subst (λ l. Left (function_pairs (members_of l) (map form out)) work) (drop-item ms i m lt is) inv
+pub later_next : (rs : List (Bor Member)) (i : ℕ) (d : Bor Member) (out : List Core) (work : Traced (List Form)) → i < length rs
+    → Left (function_pairs (members_of (behind (drop i rs))) (map form out)) work
+    → Left (next (with_functions (members_of (behind (drop (i + 1) rs))) (form (get_or rs i d).now.formula)) (λ fs. function_pairs (members_of (behind (drop (i + 1) rs))) (map form out ++ fs))) work
+later_next rs i d out work lt inv = subst (λ l. Left (function_pairs (members_of (behind l)) (map form out)) work) (drop_more rs i d lt) inv
 
 pub later_appended : (ms : List Member) (out more all : List Core) (work : Traced (List Form)) → all ≡ out ++ more
     → Left (function_pairs (members_of ms) (map form out ++ map form more)) work → Left (function_pairs (members_of ms) (map form all)) work
 later_appended ms out more all work is inv = subst (λ fs. Left (function_pairs (members_of ms) fs) work) (sym (ap (map form) is ∙ map-append form out more)) inv
 
-pub later_end : (ms : List Member) (i : ℕ) (out : List Core) (work : Traced (List Form)) → length ms ≤ i
-    → Left (function_pairs (members_of (drop i ms)) (map form out)) work → Made (map form) work (Ok out)
-later_end ms i out work le inv =
-    left_done (map form) (Ok out) (subst (λ l. Left (function_pairs (members_of l) (map form out)) work) (drop_all ms i le) inv) (made_just (map form) (map form out) out refl)
+pub later_end : (rs : List (Bor Member)) (i : ℕ) (out : List Core) (work : Traced (List Form)) → length rs ≤ i
+    → Left (function_pairs (members_of (behind (drop i rs))) (map form out)) work → Made (map form) work (Ok out)
+later_end rs i out work le inv =
+    left_done (map form) (Ok out) (subst (λ l. Left (function_pairs (members_of (behind l)) (map form out)) work) (drop_all rs i le) inv) (made_just (map form) (map form out) out refl)
 
 pub or_joined : (pure more all : List Core) → all ≡ pure ++ more → form (c.Or all) ≡ disjunction (forms (map form pure ++ map form more))
 or_joined pure more all is = form-Or all ∙ ap (λ l. disjunction (forms l)) (ap (map form) is ∙ map-append form pure more)
@@ -109,25 +119,35 @@ pub pure_out : (n : ℕ) (out : List Core) (m : Member) (ms : List Member) (all 
 pure_out n out m ms all pure h =
     sym (ap (λ b. map form out ++ cond b (brought m.over n (form m.formula) ∷ pures n (members_of ms)) (pures n (members_of ms))) pure) ∙ h
 
-pub pairs_cut : (ms same : List Member) (r : Result (List Core) TermFault) (e : TermFault) → same ≡ ms → IsErrAnd r (λ x. x ≡ e)
-    → Made (map form) (each (λ m. with_predicates (members_of same) m.formula) (members_of same) []) (Err e) → Made (map form) (pairs_of (members_of ms)) r
-pairs_cut ms same r e slice h made =
-    subst (λ l. Made (map form) (pairs_of (members_of l)) r) slice (made_err (map form) (map form) (each (λ m. with_predicates (members_of same) m.formula) (members_of same) []) (λ ps. function_pairs (members_of same) ps) r h made)
+pub pairs_cut : (ms same hs : List Member) (r : Result (List Core) TermFault) (e : TermFault) → same ≡ ms → hs ≡ among is_holding ms → IsErrAnd r (λ x. x ≡ e)
+    → Made (map form) (each (λ m. with_predicates (members_of hs) m.formula) (members_of same) []) (Err e) → Made (map form) (pairs_of (members_of ms)) r
+pairs_cut ms same hs r e whole held h made =
+    made_err (map form) (map form) (each (λ m. with_predicates (members_of ms) m.formula) (members_of ms) []) (λ ps. function_pairs (members_of ms) ps) r h
+    (subst (λ w. Made (map form) w (Err e)) ((λ i. each (λ m. with_predicates (members_of (held i)) m.formula) (members_of (whole i)) []) ∙ predicates_kept ms) made)
 
-pub pairs_made : (ms same again : List Member) (ps : List Core) (r : Result (List Core) TermFault) → same ≡ ms → again ≡ ms
-    → Made (map form) (each (λ m. with_predicates (members_of same) m.formula) (members_of same) []) (Ok ps) → Made (map form) (function_pairs (members_of again) (map form ps)) r
+pub pairs_made : (ms same hs ds : List Member) (ps : List Core) (r : Result (List Core) TermFault) → same ≡ ms → hs ≡ among is_holding ms → ds ≡ among is_differing ms
+    → Made (map form) (each (λ m. with_predicates (members_of hs) m.formula) (members_of same) []) (Ok ps) → Made (map form) (function_pairs (members_of ds) (map form ps)) r
     → Made (map form) (pairs_of (members_of ms)) r
-pairs_made ms same again ps r slice other first second =
+pairs_made ms same hs ds ps r whole held other first second =
     made_ok (map form) (map form) (each (λ m. with_predicates (members_of ms) m.formula) (members_of ms) []) (λ fs. function_pairs (members_of ms) fs)
-    (subst (λ l. Made (map form) (each (λ m. with_predicates (members_of l) m.formula) (members_of l) []) (Ok ps)) slice first)
-    (subst (λ l. Made (map form) (function_pairs (members_of l) (map form ps)) r) other second)
+    (subst (λ w. Made (map form) w (Ok ps)) ((λ i. each (λ m. with_predicates (members_of (held i)) m.formula) (members_of (whole i)) []) ∙ predicates_kept ms) first)
+    (subst (λ w. Made (map form) w r) (ap (λ l. function_pairs (members_of l) (map form ps)) other ∙ values_kept ms (map form ps)) second)
 
 pub closing_is : (all pure more : List Core) (gs : List Form) → all ≡ pure ++ more → map form pure ≡ gs → form (c.Or all) ≡ disjunction (forms (gs ++ map form more))
 closing_is all pure more gs is same = or_joined pure more all is ∙ ap (λ l. disjunction (forms (l ++ map form more))) same
 
-pub later_made : (ms : List Member) (i : ℕ) (m : Member) (r : Result (List Core) TermFault) → m ≡ get_or ms i m
-    → Made (map form) (with_functions (members_of (take (length ms - (i + 1)) (drop (i + 1) ms))) (form (get_or ms i m).formula)) r
-    → Made (map form) (with_functions (members_of (drop (i + 1) ms)) (form m.formula)) r
-later_made ms i m r is made =
-    let whole : take (length ms - (i + 1)) (drop (i + 1) ms) ≡ drop (i + 1) ms = take_all (length ms - (i + 1)) (drop (i + 1) ms) (omega (arith, length-drop (i + 1) ms)) in
-    subst (λ w. Made (map form) w r) (λ j. with_functions (members_of (whole j)) (form (sym is j).formula)) made
+pub later_made : (rs : List (Bor Member)) (i : ℕ) (d : Bor Member) (r : Result (List Core) TermFault)
+    → Made (map form) (with_functions (members_of (behind (take (length rs - (i + 1)) (drop (i + 1) rs)))) (form (get_or rs i d).now.formula)) r
+    → Made (map form) (with_functions (members_of (behind (drop (i + 1) rs))) (form (get_or rs i d).now.formula)) r
+later_made rs i d r made =
+    let whole : take (length rs - (i + 1)) (drop (i + 1) rs) ≡ drop (i + 1) rs = take_all (length rs - (i + 1)) (drop (i + 1) rs) (omega (arith, length-drop (i + 1) rs)) in
+    subst (λ l. Made (map form) (with_functions (members_of (behind l)) (form (get_or rs i d).now.formula)) r) whole made
+
+-- what holds of all members holds of each that a reference leads to
+pub all_behind : (P : Member → Type 0) (rs : List (Bor Member)) (i : ℕ) (r : Bor Member) → i < length rs → r ≡ get_or rs i r → AllByRecursion P (behind rs) → P r.now
+all_behind P rs i r lt is h = subst (λ (b : Bor Member). P b.now) (sym is) (found rs i h lt)
+  where
+    found : (rs : List (Bor Member)) (i : ℕ) → AllByRecursion P (behind rs) → i < length rs → P (get_or rs i r).now
+    found [] i h lt = absurd (let z : i < 0 = lt in omega (arith, z))
+    found (b ∷ bs) zero h lt = h.0
+    found (b ∷ bs) (suc i) h lt = found bs i h.1 (let z : suc i < suc (length bs) = lt in omega (arith, z))

@@ -1,2 +1,3 @@
 pub mod Leaf
 pub mod Pairs
+pub mod Reading

@@ -3,7 +3,9 @@
 #![tactic(auto)]
 
 mod laws;
+mod leaf;
 mod pairing;
 
 pub use laws::{closing_law, leaf_law, pure_law};
-pub use pairing::{closing, pairs};
+pub use leaf::Leaf;
+pub use pairing::{closing, closing_at, pairs};

@@ -3,12 +3,14 @@
 ghost use Rattle.std.specs.Prelude.{◌≡◌, ◌≤◌, ◌<◌, ◌+◌, ◌-◌, ◌^◌, length, [], map, IfOk, OnOk, ◌++◌};
 ghost use Rattle.std.specs.List.{AllByRecursion};
 ghost use Rattle.pred_unify.specs.Pairs as pair;
+ghost use Rattle.pred_unify.specs.Reading.{HasKinds, behind, meets, sequent_at};
 ghost use Rattle.formula.specs.Made.{Made};
 ghost use Rattle.formula.specs.Shifts.{IsBelow};
 ghost use Rattle.formula.specs.Tree.{form};
 ghost use Rattle.sequent.specs.Views.{members_of, sequent_of, HasRoom};
 ghost use Rattle.purse.specs.Trace.{each};
 
+use super::leaf::Leaf;
 use formula::{Core, is_pure, shift};
 use linear_term::{Memory, Term, TermFault};
 use sequent::{Member, Sequent};
@@ -96,6 +98,24 @@ fn predicate_pair(alloc: Global, p: u32, ss: &[Term], g: &Core) -> Result<Items<
     }
 }
 
+/// Whether g says that the predicate holds, at as many arguments.
+fn meets(p: u32, ss: &[Term], g: &Core) -> bool
+    ensures { result ≡ meets p ss.now (form g.now) }
+{
+    match g {
+        Core::Pred(q, ts) => alike(p, ss, *q, ts.as_slice()),
+        Core::Eq(_) => false,
+        Core::Neq(_) => false,
+        Core::Geq(_) => false,
+        Core::NotPred(_, _) => false,
+        Core::NotFun(_, _, _) => false,
+        Core::And(_) => false,
+        Core::Or(_) => false,
+        Core::Forall(_) => false,
+        Core::Exists(_) => false,
+    }
+}
+
 /// More pairs behind those in out: mostly none.
 fn put(out: &mut Items<Core>, more: Items<Core>) -> Result<(), Memory>
     ensures { OnOk result (out.new ≡ out.old ++ more) }
@@ -112,14 +132,16 @@ fn predicate_pairs(
     alloc: Global,
     p: u32,
     ss: &[Term],
-    members: &[Member],
+    members: &[&Member],
 ) -> Result<Items<Core>, TermFault>
-    ensures { Made (map form) (each (λ m. pair.predicate_pair p ss.now m.formula) (members_of members.now) []) result }
+    ensures { Made (map form) (each (λ m. pair.predicate_pair p ss.now m.formula) (members_of (behind members.now)) []) result }
 {
     let mut out = Items::new(alloc);
     for m in members {
-        let more = predicate_pair(alloc, p, ss, &m.formula)?;
-        put(&mut out, more)?;
+        if meets(p, ss, &m.formula) {
+            let more = predicate_pair(alloc, p, ss, &m.formula)?;
+            put(&mut out, more)?;
+        }
     }
     Ok(out)
 }
@@ -160,9 +182,9 @@ fn function_values(
     f: u32,
     ss: &[Term],
     u: &Term,
-    members: &[Member],
+    members: &[&Member],
 ) -> Result<Items<Core>, TermFault>
-    ensures { Made (map form) (each (λ m. pair.function_pair f ss.now u.now m.formula) (members_of members.now) []) result }
+    ensures { Made (map form) (each (λ m. pair.function_pair f ss.now u.now m.formula) (members_of (behind members.now)) []) result }
 {
     let mut out = Items::new(alloc);
     for m in members {
@@ -173,8 +195,8 @@ fn function_values(
 }
 
 /// The pairs of g with each member, if g is a negated predicate.
-fn with_predicates(alloc: Global, members: &[Member], g: &Core) -> Result<Items<Core>, TermFault>
-    ensures { Made (map form) (pair.with_predicates (members_of members.now) (form g.now)) result }
+fn with_predicates(alloc: Global, members: &[&Member], g: &Core) -> Result<Items<Core>, TermFault>
+    ensures { Made (map form) (pair.with_predicates (members_of (behind members.now)) (form g.now)) result }
 {
     match g {
         Core::NotPred(p, ss) => predicate_pairs(alloc, *p, ss.as_slice(), members),
@@ -191,8 +213,8 @@ fn with_predicates(alloc: Global, members: &[Member], g: &Core) -> Result<Items<
 }
 
 /// The pairs of g with each member, if g is a value of a function.
-fn with_functions(alloc: Global, members: &[Member], g: &Core) -> Result<Items<Core>, TermFault>
-    ensures { Made (map form) (pair.with_functions (members_of members.now) (form g.now)) result }
+fn with_functions(alloc: Global, members: &[&Member], g: &Core) -> Result<Items<Core>, TermFault>
+    ensures { Made (map form) (pair.with_functions (members_of (behind members.now)) (form g.now)) result }
 {
     match g {
         Core::NotFun(f, ss, u) => function_values(alloc, *f, ss.as_slice(), u, members),
@@ -208,13 +230,17 @@ fn with_functions(alloc: Global, members: &[Member], g: &Core) -> Result<Items<C
     }
 }
 
-/// Each negated predicate with each predicate.
-fn all_predicates(alloc: Global, members: &[Member]) -> Result<Items<Core>, TermFault>
-    ensures { Made (map form) (each (λ m. pair.with_predicates (members_of members.now) m.formula) (members_of members.now) []) result }
+/// Each negated predicate among the members with each predicate that holds.
+fn all_predicates(
+    alloc: Global,
+    members: &[&Member],
+    holding: &[&Member],
+) -> Result<Items<Core>, TermFault>
+    ensures { Made (map form) (each (λ m. pair.with_predicates (members_of (behind holding.now)) m.formula) (members_of (behind members.now)) []) result }
 {
     let mut out = Items::new(alloc);
     for m in members {
-        let more = with_predicates(alloc, members, &m.formula)?;
+        let more = with_predicates(alloc, holding, &m.formula)?;
         put(&mut out, more)?;
     }
     Ok(out)
@@ -223,10 +249,10 @@ fn all_predicates(alloc: Global, members: &[Member]) -> Result<Items<Core>, Term
 /// Each function's value with each later one, behind the pairs in out.
 fn later_values(
     alloc: Global,
-    members: &[Member],
+    members: &[&Member],
     before: Items<Core>,
 ) -> Result<Items<Core>, TermFault>
-    ensures { Made (map form) (pair.function_pairs (members_of members.now) (map form before)) result }
+    ensures { Made (map form) (pair.function_pairs (members_of (behind members.now)) (map form before)) result }
 {
     let mut out = before;
     for i in 0..members.len() {
@@ -236,18 +262,27 @@ fn later_values(
     Ok(out)
 }
 
+/// The pairs of the leaf: where one of them is true, so is its sequent.
+fn pairs_at(alloc: Global, leaf: &Leaf) -> Result<Items<Core>, TermFault>
+    requires { HasKinds leaf.now }
+    ensures { Made (map form) (pair.pairs_of (members_of (sequent_at leaf.now).members)) result }
+{
+    let ps = all_predicates(alloc, leaf.members.as_slice(), leaf.holding.as_slice())?;
+    later_values(alloc, leaf.differing.as_slice(), ps)
+}
+
 /// The pairs of the sequent: where one of them is true, so is the sequent.
 pub fn pairs(alloc: Global, s: &Sequent) -> Result<Items<Core>, TermFault>
     ensures { Made (map form) (pair.pairs_of (members_of s.now.members)) result }
 {
-    let ps = all_predicates(alloc, s.members.as_slice())?;
-    later_values(alloc, s.members.as_slice(), ps)
+    let leaf = Leaf::of_sequent(alloc, s)?;
+    pairs_at(alloc, &leaf)
 }
 
 /// The pure members among all constants.
-fn pures(alloc: Global, members: &[Member], count: u32) -> Result<Items<Core>, Memory>
-    requires { AllByRecursion (λ m. (m.over ≤ count) × (m.used + 1 < 2 ^ 32) × IsBelow (2 ^ 32 - (count - m.over)) (form m.formula)) members.now }
-    ensures { IfOk result (λ fs. map form fs ≡ pair.pures count (members_of members.now)) }
+fn pures(alloc: Global, members: &[&Member], count: u32) -> Result<Items<Core>, Memory>
+    requires { AllByRecursion (λ m. (m.over ≤ count) × (m.used + 1 < 2 ^ 32) × IsBelow (2 ^ 32 - (count - m.over)) (form m.formula)) (behind members.now) }
+    ensures { IfOk result (λ fs. map form fs ≡ pair.pures count (members_of (behind members.now))) }
 {
     let mut out = Items::new(alloc);
     for m in members {
@@ -258,13 +293,23 @@ fn pures(alloc: Global, members: &[Member], count: u32) -> Result<Items<Core>, M
     Ok(out)
 }
 
+/// One of the pure members or of the pairs, read where the members lie.
+pub fn closing_at(alloc: Global, leaf: &Leaf) -> Result<Core, TermFault>
+    requires room { HasRoom (sequent_at leaf.now) }
+    requires kinds { HasKinds leaf.now }
+    ensures { Made form (pair.closing_of (sequent_of (sequent_at leaf.now))) result }
+{
+    let ps = pairs_at(alloc, leaf)?;
+    let mut all = pures(alloc, leaf.members.as_slice(), leaf.count)?;
+    all.append(ps)?;
+    Ok(Core::Or(all))
+}
+
 /// One of the pure members or of the pairs.
 pub fn closing(alloc: Global, s: &Sequent) -> Result<Core, TermFault>
     requires { HasRoom s.now }
     ensures { Made form (pair.closing_of (sequent_of s.now)) result }
 {
-    let ps = pairs(alloc, s)?;
-    let mut all = pures(alloc, s.members.as_slice(), s.count)?;
-    all.append(ps)?;
-    Ok(Core::Or(all))
+    let leaf = Leaf::of_sequent(alloc, s)?;
+    closing_at(alloc, &leaf)
 }

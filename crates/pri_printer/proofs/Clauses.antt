@@ -19,7 +19,7 @@ use Rattle.pri_typing.specs.Phrase as ph
 use Rattle.pri_typing.specs.Scope.{Scope}
 use Rattle.pri_typing.specs.Typing.{relation_of}
 use Rattle.pri_printer.proofs.Spells.{Spells, IsTerm, IsFormula, IsNumeral}
-use Rattle.pri_printer.specs.Summands.{Summand, Signed, summands}
+use Rattle.pri_printer.specs.Summands.{Summand, SignedSummand, summands}
 use Rattle.pri_printer.specs.Text.{term_text, divides_text, literal_text, clause_text, normal_form_text}
 use Rattle.pri_printer.specs.Formulas.{term_value, divides_formula, literal_formula, clause_formula, normal_form_formula}
 use Rattle.pri_printer.proofs.Standing.{Stand, AreFit, CanPrint, within, IsPrintable, ArePrintable, AllPrintable}

@@ -12,7 +12,7 @@ use Rattle.texts.specs.Texts.{is_text, is_among}
 use Rattle.pri_printer.specs.Quotient.{quotient_name, free_from}
 use Rattle.pri_tokens.specs.Written.{IsIdentifier}
 use Rattle.pri_typing.proofs.Distinct.{text_same}
-use Rattle.pri_printer.proofs.Terms.{decimal_is}
+use Rattle.pri_tokens.proofs.Decimals.{decimal_is}
 
 -- the others
 without : List ℕ → List (List ℕ) → List (List ℕ)

@@ -16,9 +16,9 @@ use Rattle.pri_typing.specs.declared.problem.Problem.{Problem}
 use Rattle.pri_typing.specs.Everywhere.{Property, Everywhere, AllEverywhere, TermEverywhere, TermsEverywhere}
 use Rattle.pri_typing.specs.Problems.{IsNoPredicate, IsNameIn, SpeaksOfExistentials}
 use Rattle.pri_typing.specs.Typing.{signed}
-use Rattle.pri_printer.specs.Summands.{Summand, alone, times, Signed, monomial, constant, summands}
+use Rattle.pri_printer.specs.Summands.{Summand, alone, times, SignedSummand, monomial, constant, summands}
 use Rattle.pri_printer.specs.Formulas.{summand_value, less_summand, later_part, later, sum_value, divides_formula, literal_formula, clause_formula, normal_form_formula}
-use Rattle.pri_printer.specs.Names.{PairNames, LiteralNames, ClauseNames, DnfNames, IsBelow, IsNamed, OccursIn, SpeaksOf}
+use Rattle.pri_printer.specs.Names.{PairNames, LiteralNames, ClauseNames, DnfNames, IsVariableBelow, HasNamesIn, OccursIn, SpeaksOf}
 use Rattle.pri_printer.specs.Printed.{constants_of, dnf_formula}
 
 -- the property holds of each form that is printed, of the names that are P, and of the name n
@@ -40,7 +40,7 @@ abbrev SummandNames : (ℕ → Type 0) → Summand → Type 0
 SummandNames P (alone n) = Unit {0}
 SummandNames P (times n x) = P x
 
-abbrev SummandsNames : (ℕ → Type 0) → List Signed → Type 0
+abbrev SummandsNames : (ℕ → Type 0) → List SignedSummand → Type 0
 SummandsNames P [] = Unit {0}
 SummandsNames P (a ∷ more) = SummandNames P a.1 × SummandsNames P more
 
@@ -69,12 +69,12 @@ signed_plain : (c : Bool) (Q : Property) (P : ℕ → Type 0) (n : ℕ) → Suit
 signed_plain true Q P n s k a h = (s.minus_is k _, summand_plain Q P n s k a h)
 signed_plain false Q P n s k a h = summand_plain Q P n s k a h
 
-later_plain : (Q : Property) (P : ℕ → Type 0) (n : ℕ) → Suits Q P n → (k : ℕ) (more : List Signed) → SummandsNames P more
+later_plain : (Q : Property) (P : ℕ → Type 0) (n : ℕ) → Suits Q P n → (k : ℕ) (more : List SignedSummand) → SummandsNames P more
     → TermsEverywhere Q k (expressions (map later (map later_part more)))
 later_plain Q P n s k [] h = tt
 later_plain Q P n s k (a ∷ more) h = (signed_plain a.0 Q P n s k a.1 h.0, later_plain Q P n s k more h.1)
 
-sum_plain : (Q : Property) (P : ℕ → Type 0) (n : ℕ) → Suits Q P n → (k : ℕ) (a : Signed) (more : List Signed) → SummandsNames P (a ∷ more) → TermEverywhere Q k (sum_value (a ∷ more))
+sum_plain : (Q : Property) (P : ℕ → Type 0) (n : ℕ) → Suits Q P n → (k : ℕ) (a : SignedSummand) (more : List SignedSummand) → SummandsNames P (a ∷ more) → TermEverywhere Q k (sum_value (a ∷ more))
 sum_plain Q P n s k a [] h = first_plain a.0 Q P n s k a.1 h.0
 sum_plain Q P n s k a (b ∷ more) h = (s.total_is k _, (first_plain a.0 Q P n s k a.1 h.0, later_plain Q P n s k (b ∷ more) h.1))
 
@@ -120,7 +120,7 @@ normal_form_plain Q P n s (c ∷ c2 ∷ cs) h = (s.some_is 0 _, clauses_plain Q 
 
 -- The two properties.
 
-names_suit : (P : ℕ → Type 0) (n : ℕ) → Suits (record { of_formula = IsNoPredicate; of_term = λ depth. IsNamed P n }) P n
+names_suit : (P : ℕ → Type 0) (n : ℕ) → Suits (record { of_formula = IsNoPredicate; of_term = λ depth. HasNamesIn P n }) P n
 names_suit P n = record {
   number_is = λ k v. tt;
   named = λ k x h. inl h;
@@ -136,7 +136,7 @@ names_suit P n = record {
   bound = λ k f. tt;
 }
 
-existentials_suit : (m n : ℕ) → Suits (record { of_formula = IsNoPredicate; of_term = λ depth. IsNameIn m n }) (IsBelow m) n
+existentials_suit : (m n : ℕ) → Suits (record { of_formula = IsNoPredicate; of_term = λ depth. IsNameIn m n }) (IsVariableBelow m) n
 existentials_suit m n = record {
   number_is = λ k v. tt;
   named = λ k x h. inl h;
@@ -195,7 +195,7 @@ printed_names p d =
     normal_form_plain _ (OccursIn d) (length (constants_of p)) (names_suit (OccursIn d) (length (constants_of p))) d (dnf_has (OccursIn d) d (λ x h. h))
 
 -- and of existential constants alone, where the normal form does
-pub printed_existentials : (p : Problem) (d : List (List Literal)) → DnfNames (IsBelow (length p.existentials)) d → SpeaksOfExistentials p (dnf_formula p d)
+pub printed_existentials : (p : Problem) (d : List (List Literal)) → DnfNames (IsVariableBelow (length p.existentials)) d → SpeaksOfExistentials p (dnf_formula p d)
 printed_existentials p d h =
     subst (λ n. Everywhere (record { of_formula = IsNoPredicate; of_term = λ depth. IsNameIn (length p.existentials) n }) 0 (dnf_formula p d)) (length-append p.existentials p.universals)
-    (normal_form_plain _ (IsBelow (length p.existentials)) (length (constants_of p)) (existentials_suit (length p.existentials) (length (constants_of p))) d h)
+    (normal_form_plain _ (IsVariableBelow (length p.existentials)) (length (constants_of p)) (existentials_suit (length p.existentials) (length (constants_of p))) d h)

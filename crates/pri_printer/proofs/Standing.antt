@@ -8,7 +8,7 @@ use Rattle.pri_typing.specs.Scope.{Scope, refers}
 use Rattle.linear_term.specs.Range.{InRange}
 use Rattle.clause_set.specs.declared.literal.Literal.{Literal}
 use Rattle.clause_set.specs.declared.literal.Literal.TheVariants.{Eq, Geq, Div, NDiv}
-use Rattle.pri_printer.specs.Summands.{Summand, alone, times, Signed, summands}
+use Rattle.pri_printer.specs.Summands.{Summand, alone, times, SignedSummand, summands}
 
 -- the text is an identifier that stands for the name x
 pub record IsNameOf (sc : Scope) (x : ℕ) (text : List ℕ) : Type 0 where
@@ -35,7 +35,7 @@ abbrev pub Fits : ℕ → Summand → Type 0
 Fits count (alone n) = n < 2 ^ 127
 Fits count (times n x) = (n < 2 ^ 127) × (x < count)
 
-abbrev pub AreFit : ℕ → List Signed → Type 0
+abbrev pub AreFit : ℕ → List SignedSummand → Type 0
 AreFit count [] = Unit {0}
 AreFit count (a ∷ more) = Fits count a.1 × AreFit count more
 

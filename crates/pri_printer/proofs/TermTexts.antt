@@ -2,11 +2,11 @@
 use Rattle.std.proofs.Common.{◌≡◌, ℕ, Bool, true, false, cond, List, [], ◌∷◌, ◌++◌, map, refl, sym, ap, ◌∙◌, append_assoc, ℤ, pos}
 use Rattle.std.specs.Prelude.{unsigned_abs, int_lt, codes}
 use Rattle.std.specs.Ordering.{int_eq}
-use Rattle.pri_printer.specs.Summands.{Signed, monomial, constant, summands, times}
+use Rattle.pri_printer.specs.Summands.{SignedSummand, monomial, constant, summands, times}
 use Rattle.pri_printer.specs.Text.{added_texts, adding_text, later_text, summand_text, sum_text, term_text, exists_text}
 use Rattle.linear_term.specs.Linear.{Linear}
 
-added-append : (names : List (List ℕ)) (xs ys : List Signed) → added_texts (map (later_text names) (xs ++ ys)) ≡ added_texts (map (later_text names) xs) ++ added_texts (map (later_text names) ys)
+added-append : (names : List (List ℕ)) (xs ys : List SignedSummand) → added_texts (map (later_text names) (xs ++ ys)) ≡ added_texts (map (later_text names) xs) ++ added_texts (map (later_text names) ys)
 added-append names [] ys = refl
 added-append names (x ∷ xs) ys =
     ap (λ z. adding_text x.0 ++ (summand_text names x.1 ++ z)) (added-append names xs ys)

@@ -1,15 +1,13 @@
 -- The text of a linear term spells it.
-use Rattle.std.proofs.Common.{ℕ, suc, ◌≡◌, ◌≤◌, ◌<◌, ◌+◌, ◌*◌, ◌-◌, ◌%◌, ◌^◌, Bool, true, false, not, cond, ◌==◌, List, [], ◌∷◌, ◌++◌, length, map, refl, ap, ◌∙◌, arith, length-append, pos}
+use Rattle.std.proofs.Common.{ℕ, suc, ◌≡◌, ◌≤◌, ◌<◌, ◌+◌, ◌^◌, Bool, true, false, not, cond, ◌==◌, List, [], ◌∷◌, ◌++◌, length, map, refl, ap, arith, pos}
 use Rattle.std.specs.Prelude.{nat_eq, slice_index_or}
 use Rattle.std.specs.List.{list_all}
 use Rattle.std.specs.Char.{is_ascii_digit}
 use Rattle.std.specs.Fmt.{decimal}
-use Rattle.std.proofs.Math.Nat.{mod-lt, div-add-mod}
-use Rattle.std.proofs.lemmas.Fmt.{decimal_by_steps_wide}
 use Rattle.std.proofs.lemmas.Bool.Decides.{nat_tests}
 use Rattle.pri_tokens.specs.Kinds.{is_name, is_number}
-use Rattle.pri_tokens.specs.Numerals.{decimal_value, with_digits}
-use Rattle.pri_tokens.proofs.Tests.{left_true, right_true}
+use Rattle.pri_tokens.proofs.Decimals.{decimal_is}
+use Rattle.pri_tokens.proofs.Tests.{left_true}
 use Rattle.std.proofs.lemmas.Bool.{false≢true}
 use Rattle.pri_tokens.specs.Lexemes.{starts_name}
 use Rattle.pri_reader.specs.Grammar.{right, multiplication, primary, factor, sum}
@@ -18,38 +16,12 @@ use Rattle.pri_typing.specs.Phrase.{Phrase}
 use Rattle.pri_typing.specs.Phrase as ph
 use Rattle.pri_typing.specs.Scope.{Scope}
 use Rattle.pri_printer.proofs.Spells.{Spells, IsTerm, IsNumeral}
-use Rattle.pri_printer.specs.Summands.{Summand, alone, times, Signed}
+use Rattle.pri_printer.specs.Summands.{Summand, alone, times, SignedSummand}
 use Rattle.pri_printer.specs.Text.{summand_text, later_text, sum_text}
 use Rattle.pri_printer.specs.Formulas.{summand_value, less_summand, later_part, first_value, sum_value}
 use Rattle.pri_printer.proofs.Standing.{IsNameOf, Stand, Fits, AreFit}
 use Rattle.pri_printer.proofs.Spelling.{heads, spells_as, factor_spelled, product_of_one, number_spelled, name_spelled, minus_spelled, product_spelled}
 use Rattle.pri_printer.proofs.Sums.{AreTermsSpelled, sum_spelled}
-
--- what is printed of a number is a numeral of its value
-pub record IsDecimal (n : ℕ) (text : List ℕ) : Type 0 where
-  pub digits : list_all is_ascii_digit text ≡ true
-  pub value : decimal_value text ≡ n
-  pub some : 1 ≤ length text
-
-digit_passes : (k : ℕ) → k < 10 → is_ascii_digit (48 + k) ≡ true
-digit_passes k h = grind (arith, nat_tests)
-
-all_behind : (f : ℕ → Bool) (xs : List ℕ) (y : ℕ) → list_all f xs ≡ true → f y ≡ true → list_all f (xs ++ y ∷ []) ≡ true
-all_behind f [] y a b = rw b refl
-all_behind f (x ∷ xs) y a b = rw (left_true (f x) (list_all f xs) a) (all_behind f xs y (right_true (f x) (list_all f xs) a) b)
-
-digits_behind : (n : ℕ) (ds : List ℕ) (d : ℕ) → with_digits n (ds ++ d ∷ []) ≡ 10 * with_digits n ds + (d - 48)
-digits_behind n [] d = refl
-digits_behind n (x ∷ ds) d = digits_behind (10 * n + (x - 48)) ds d
-
-pub decimal_is : (n : ℕ) → n < 10 ^ 64 → IsDecimal n (decimal n)
-decimal_is = decimal_by_steps_wide IsDecimal
-    (λ n h. record { digits = rw (digit_passes n h) refl; value = omega arith; some = omega arith })
-    (λ n ds h i. record {
-      digits = all_behind is_ascii_digit ds (48 + n % 10) i.digits (digit_passes (n % 10) (mod-lt n {m = 10} (omega arith)));
-      value = digits_behind 0 ds (48 + n % 10) ∙ omega (arith, i.value, div-add-mod n 10);
-      some = let l = length-append ds ((48 + n % 10) ∷ []) in omega (arith, l);
-    })
 
 -- Numbers and names.
 
@@ -149,13 +121,13 @@ first_by : (c : Bool) (n : ℕ) (sc : Scope) (names : List (List ℕ)) → Stand
 first_by true n sc names st a h = less_spelled n sc names st a h
 first_by false n sc names st a h = summand_spelled n sc names st a h
 
-later_spelled : (n : ℕ) (sc : Scope) (names : List (List ℕ)) → Stand sc names → (more : List Signed) → AreFit (length names) more
+later_spelled : (n : ℕ) (sc : Scope) (names : List (List ℕ)) → Stand sc names → (more : List SignedSummand) → AreFit (length names) more
     → AreTermsSpelled (suc (suc n)) sc (map (later_text names) more) (map later_part more)
 later_spelled n sc names st [] h = tt
 later_spelled n sc names st (a ∷ more) h = (refl, summand_spelled n sc names st a.1 h.0, later_spelled n sc names st more h.1)
 
 -- the text of a term
-pub term_spelled : (n : ℕ) (sc : Scope) (names : List (List ℕ)) → Stand sc names → (a : Signed) (more : List Signed) → AreFit (length names) (a ∷ more)
+pub term_spelled : (n : ℕ) (sc : Scope) (names : List (List ℕ)) → Stand sc names → (a : SignedSummand) (more : List SignedSummand) → AreFit (length names) (a ∷ more)
     → Spells (suc (suc n)) sum (IsTerm sc (sum_value (a ∷ more))) (sum_text names (a ∷ more))
 term_spelled n sc names st a more h =
     sum_spelled (suc (suc n)) sc _ (map (later_text names) more) (first_value a) (map later_part more)

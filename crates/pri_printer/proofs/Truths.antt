@@ -16,7 +16,7 @@ use Rattle.clause_set.specs.declared.literal.Literal.{Literal}
 use Rattle.clause_set.specs.declared.literal.Literal.TheVariants.{Eq, Geq, Div, NDiv}
 use Rattle.clause_set.specs.Literals.{literal_truth, clause_truth, dnf_truth}
 use Rattle.pri_printer.specs.Formulas.{term_value, divides_formula, literal_formula, clause_formula, normal_form_formula}
-use Rattle.pri_printer.specs.Names.{PairNames, IsBelow, LiteralNames, ClauseNames, DnfNames}
+use Rattle.pri_printer.specs.Names.{PairNames, IsVariableBelow, LiteralNames, ClauseNames, DnfNames}
 use Rattle.pri_printer.proofs.Values.{term_has}
 
 by_path : {A B : Type 0} → A ≡ B → A ↔ B
@@ -25,11 +25,11 @@ by_path p = (subst (λ X. X) p, subst (λ X. X) (sym p))
 through : {A B C : Type 0} → A ↔ B → B ↔ C → A ↔ C
 through f g = (λ a. g.0 (f.0 a), λ c. f.1 (g.1 c))
 
-total-append : (e : List ℤ) (v : ℤ) (ps : List (ℕ × ℤ)) → PairNames (IsBelow (length e)) ps → total (value_at (e ++ v ∷ [])) ps ≡ total (value_at e) ps
+total-append : (e : List ℤ) (v : ℤ) (ps : List (ℕ × ℤ)) → PairNames (IsVariableBelow (length e)) ps → total (value_at (e ++ v ∷ [])) ps ≡ total (value_at e) ps
 total-append e v [] h = refl
 total-append e v (p ∷ ps) h = rw (entry-append_left e (v ∷ []) p.0 h.0, total-append e v ps h.1) refl
 
-value-append : (e : List ℤ) (v : ℤ) (t : Linear) → PairNames (IsBelow (length e)) t.pairs → value_of t (e ++ v ∷ []) ≡ value_of t e
+value-append : (e : List ℤ) (v : ℤ) (t : Linear) → PairNames (IsVariableBelow (length e)) t.pairs → value_of t (e ++ v ∷ []) ≡ value_of t e
 unfolding value_of
 value-append e v t h = ap (λ z. z +ℤ t.constant) (total-append e v t.pairs h)
 
@@ -45,14 +45,14 @@ swap_back : (z q : ℤ) (d : ℕ) → z ≡ pos d *ℤ q → z ≡ q *ℤ pos d
 swap_back z q d h = omega (arith, ints)
 
 -- what the body of a divisibility says of the quotient
-body_is : (w : Meaning) (e : List ℤ) (v : ℤ) (d : ℕ) (t : Linear) → PairNames (IsBelow (length e)) t.pairs
+body_is : (w : Meaning) (e : List ℤ) (v : ℤ) (d : ℕ) (t : Linear) → PairNames (IsVariableBelow (length e)) t.pairs
     → HasValue w (term_value t) (e ++ v ∷ []) (λ x. x ≡ pos d *ℤ entry (e ++ v ∷ []) (length e)) ≡ (value_of t e ≡ pos d *ℤ v)
 body_is w e v d t h =
     term_has w (e ++ v ∷ []) t.pairs t.constant (λ x. x ≡ pos d *ℤ entry (e ++ v ∷ []) (length e))
     ∙ ap (λ z. z ≡ pos d *ℤ entry (e ++ v ∷ []) (length e)) (value-append e v t h)
     ∙ ap (λ z. value_of t e ≡ pos d *ℤ z) (last-entry e v)
 
-divides_true : (w : Meaning) (e : List ℤ) (d : ℤ) (t : Linear) → PairNames (IsBelow (length e)) t.pairs
+divides_true : (w : Meaning) (e : List ℤ) (d : ℤ) (t : Linear) → PairNames (IsVariableBelow (length e)) t.pairs
     → Truth w (divides_formula (length e) d t) e ↔ (divides (unsigned_abs d) (value_of t e) ≡ true)
 divides_true w e d t h = (
   λ u. test_stable _ (λ no. u (λ v i b. no (test_from_Divides (unsigned_abs d) (value_of t e)
@@ -69,7 +69,7 @@ at_least_zero : (z : ℤ) → (pos 0 ≤ℤ z) ↔ (int_le (pos 0) z ≡ true)
 at_least_zero (pos n) = (λ h. grind (arith, nat_tests), λ h. grind (arith, ints))
 at_least_zero (negsuc n) = (λ h. absurd (grind (arith, ints)), λ h. absurd (false≢true h))
 
-pub literal_true : (w : Meaning) (e : List ℤ) (l : Literal) → LiteralNames (IsBelow (length e)) l → Truth w (literal_formula (length e) l) e ↔ (literal_truth l e ≡ true)
+pub literal_true : (w : Meaning) (e : List ℤ) (l : Literal) → LiteralNames (IsVariableBelow (length e)) l → Truth w (literal_formula (length e) l) e ↔ (literal_truth l e ≡ true)
 literal_true w e (Eq t) h =
     let d = Decides-int_eq (value_of t e) (pos 0) in
     through (by_path (term_has w e t.pairs t.constant (λ x. x ≡ pos 0))) (d.1, d.0)
@@ -88,14 +88,14 @@ alone_true : (a : Bool) → (a ≡ true) ↔ ((a && true) ≡ true)
 alone_true true = (λ h. h, λ h. h)
 alone_true false = (λ h. h, λ h. h)
 
-all_true : (w : Meaning) (e : List ℤ) (ls : List Literal) → ClauseNames (IsBelow (length e)) ls
+all_true : (w : Meaning) (e : List ℤ) (ls : List Literal) → ClauseNames (IsVariableBelow (length e)) ls
     → AreAllTrue w (formulas (map (literal_formula (length e)) ls)) e ↔ (clause_truth ls e ≡ true)
 all_true w e [] h = (λ u. refl, λ u. tt)
 all_true w e (l ∷ ls) h =
     let i = literal_true w e l h.0 in let j = all_true w e ls h.1 in
     through (λ u. (i.0 u.0, j.0 u.1), λ u. (i.1 u.0, j.1 u.1)) (both_true (literal_truth l e) (clause_truth ls e))
 
-pub clause_true : (w : Meaning) (e : List ℤ) (ls : List Literal) → ClauseNames (IsBelow (length e)) ls
+pub clause_true : (w : Meaning) (e : List ℤ) (ls : List Literal) → ClauseNames (IsVariableBelow (length e)) ls
     → Truth w (clause_formula (length e) ls) e ↔ (clause_truth ls e ≡ true)
 clause_true w e [] h = (λ u. u, λ u. u)
 clause_true w e (l ∷ []) h = through (literal_true w e l h.0) (alone_true (literal_truth l e))
@@ -105,7 +105,7 @@ either_true : (a b : Bool) → ((¬ (a ≡ true)) × (b ≡ false)) ↔ ((a || b
 either_true true b = (λ h. absurd (h.0 refl), λ h. absurd (false≢true (sym h)))
 either_true false b = (λ h. h.1, λ h. (false≢true, h))
 
-all_false : (w : Meaning) (e : List ℤ) (cs : List (List Literal)) → DnfNames (IsBelow (length e)) cs
+all_false : (w : Meaning) (e : List ℤ) (cs : List (List Literal)) → DnfNames (IsVariableBelow (length e)) cs
     → AreAllFalse w (formulas (map (clause_formula (length e)) cs)) e ↔ (dnf_truth cs e ≡ false)
 all_false w e [] h = (λ u. refl, λ u. tt)
 all_false w e (c ∷ cs) h =
@@ -120,7 +120,7 @@ not_false : (b : Bool) → (¬ (b ≡ false)) ↔ (b ≡ true)
 not_false true = (λ h. refl, λ h e. false≢true (sym e))
 not_false false = (λ h. absurd (h refl), λ h. absurd (false≢true h))
 
-pub normal_form_true : (w : Meaning) (e : List ℤ) (cs : List (List Literal)) → DnfNames (IsBelow (length e)) cs
+pub normal_form_true : (w : Meaning) (e : List ℤ) (cs : List (List Literal)) → DnfNames (IsVariableBelow (length e)) cs
     → Truth w (normal_form_formula (length e) cs) e ↔ (dnf_truth cs e ≡ true)
 normal_form_true w e [] h = (λ u. u, λ u. u)
 normal_form_true w e (c ∷ []) h = through (clause_true w e c h.0) (or_false (clause_truth c e))

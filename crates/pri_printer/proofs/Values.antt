@@ -11,7 +11,7 @@ use Rattle.typed_formula.specs.Formula.{expressions, number, name, minus, produc
 use Rattle.typed_formula.specs.Truth.{Meaning, HasValue, HaveValues}
 use Rattle.typed_formula.specs.Lists.{sum_of}
 use Rattle.pri_typing.specs.Typing.{signed}
-use Rattle.pri_printer.specs.Summands.{Summand, alone, times, Signed, monomial, constant}
+use Rattle.pri_printer.specs.Summands.{Summand, alone, times, SignedSummand, monomial, constant}
 use Rattle.pri_printer.specs.Formulas.{summand_value, less_summand, later_part, later, sum_value, term_value}
 
 -- the integer that a summand is
@@ -19,7 +19,7 @@ amount : List ℤ → Summand → ℤ
 amount e (alone n) = pos n
 amount e (times n x) = pos n *ℤ entry e x
 
-signed_amount : List ℤ → Signed → ℤ
+signed_amount : List ℤ → SignedSummand → ℤ
 signed_amount e a = cond a.0 (neg_ℤ (amount e a.1)) (amount e a.1)
 
 one_times : (n : ℕ) (z : ℤ) → n ≡ 1 → z ≡ pos n *ℤ z
@@ -59,7 +59,7 @@ later_by : (c : Bool) (w : Meaning) (e : List ℤ) (a : Summand) (P : ℤ → Ty
 later_by true w e a P = summand_has w e a (λ x. P (neg_ℤ x))
 later_by false w e a P = summand_has w e a P
 
-later_has : (w : Meaning) (e : List ℤ) (more : List Signed) (P : List ℤ → Type 0)
+later_has : (w : Meaning) (e : List ℤ) (more : List SignedSummand) (P : List ℤ → Type 0)
     → HaveValues w (expressions (map later (map later_part more))) e P ≡ P (map (signed_amount e) more)
 unfolding signed_amount
 later_has w e [] P = refl
@@ -70,7 +70,7 @@ later_has w e (a ∷ more) P =
 plus_nothing : (z : ℤ) → z ≡ z +ℤ pos 0
 plus_nothing z = omega (arith, ints)
 
-sum_has : (w : Meaning) (e : List ℤ) (a : Signed) (more : List Signed) (P : ℤ → Type 0)
+sum_has : (w : Meaning) (e : List ℤ) (a : SignedSummand) (more : List SignedSummand) (P : ℤ → Type 0)
     → HasValue w (sum_value (a ∷ more)) e P ≡ P (sum_of (map (signed_amount e) (a ∷ more)))
 unfolding signed_amount
 sum_has w e a [] P = first_by a.0 w e a.1 P ∙ ap P (plus_nothing (signed_amount e a))

@@ -9,7 +9,7 @@ use Rattle.typed_formula.specs.declared.typed.Relation.TheVariants as relation
 use Rattle.pri_typing.specs.Typing.{signed}
 use Rattle.clause_set.specs.declared.literal.Literal.{Literal}
 use Rattle.clause_set.specs.declared.literal.Literal.TheVariants.{Eq, Geq, Div, NDiv}
-use Rattle.pri_printer.specs.Summands.{Summand, alone, times, Signed, summands}
+use Rattle.pri_printer.specs.Summands.{Summand, alone, times, SignedSummand, summands}
 
 -- n, x, or n times x
 abbrev pub summand_value : Summand → Expression
@@ -21,10 +21,10 @@ abbrev pub less_summand : Summand → Expression
 less_summand (alone n) = minus (number (pos n))
 less_summand (times n x) = cond (nat_eq n 1) (minus (name x)) (product (minus (number (pos n))) (name x))
 
-abbrev pub first_value : Signed → Expression
+abbrev pub first_value : SignedSummand → Expression
 first_value a = cond a.0 (less_summand a.1) (summand_value a.1)
 
-abbrev pub later_part : Signed → (Bool × Expression)
+abbrev pub later_part : SignedSummand → (Bool × Expression)
 later_part a = (a.0, summand_value a.1)
 
 -- a later term of a sum, with its sign
@@ -36,7 +36,7 @@ abbrev pub summation : Expression → List (Bool × Expression) → Expression
 summation t [] = t
 summation t (a ∷ more) = total (expressions (t ∷ map later (a ∷ more)))
 
-abbrev pub sum_value : List Signed → Expression
+abbrev pub sum_value : List SignedSummand → Expression
 sum_value [] = number (pos 0)
 sum_value (a ∷ more) = summation (first_value a) (map later_part more)
 

@@ -8,8 +8,8 @@ use Rattle.clause_set.specs.declared.literal.Literal.{Literal}
 use Rattle.clause_set.specs.Literals.{term_of}
 use Rattle.clause_set.specs.Names.{has}
 
-abbrev pub IsBelow : ℕ → ℕ → Type 0
-IsBelow n x = x < n
+abbrev pub IsVariableBelow : ℕ → ℕ → Type 0
+IsVariableBelow n x = x < n
 
 -- each name of the pairs is P
 abbrev pub PairNames : (ℕ → Type 0) → List (ℕ × ℤ) → Type 0
@@ -35,11 +35,11 @@ abbrev pub OccursIn : List (List Literal) → ℕ → Type 0
 OccursIn d x = list_any (list_any (has x)) d ≡ true
 
 -- a name is P or, as that of a bound variable, at n or above
-abbrev pub IsNamed : (ℕ → Type 0) → ℕ → Expression → Type 0
-IsNamed P n (name x) = P x ⊎ (n ≤ x)
-IsNamed P n (call f ts) = ⊥
-IsNamed P n _ = Unit {0}
+abbrev pub HasNamesIn : (ℕ → Type 0) → ℕ → Expression → Type 0
+HasNamesIn P n (name x) = P x ⊎ (n ≤ x)
+HasNamesIn P n (call f ts) = ⊥
+HasNamesIn P n _ = Unit {0}
 
 -- the formula has no application, and each of its names below n is P
 abbrev pub SpeaksOf : (ℕ → Type 0) → ℕ → Formula → Type 0
-SpeaksOf P n = Everywhere (record { of_formula = IsNoPredicate; of_term = λ depth. IsNamed P n }) 0
+SpeaksOf P n = Everywhere (record { of_formula = IsNoPredicate; of_term = λ depth. HasNamesIn P n }) 0

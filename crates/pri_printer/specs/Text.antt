@@ -5,7 +5,7 @@ use Rattle.std.specs.Fmt.{decimal, signed_decimal}
 use Rattle.linear_term.specs.Linear.{Linear}
 use Rattle.clause_set.specs.declared.literal.Literal.{Literal}
 use Rattle.clause_set.specs.declared.literal.Literal.TheVariants.{Eq, Geq, Div, NDiv}
-use Rattle.pri_printer.specs.Summands.{Summand, alone, times, Signed, summands}
+use Rattle.pri_printer.specs.Summands.{Summand, alone, times, SignedSummand, summands}
 
 -- a coefficient 1 is not printed
 abbrev pub summand_text : List (List ℕ) → Summand → List ℕ
@@ -21,11 +21,11 @@ abbrev pub added_texts : List (Bool × List ℕ) → List ℕ
 added_texts [] = []
 added_texts (u ∷ us) = adding_text u.0 ++ (u.1 ++ added_texts us)
 
-abbrev pub later_text : List (List ℕ) → Signed → (Bool × List ℕ)
+abbrev pub later_text : List (List ℕ) → SignedSummand → (Bool × List ℕ)
 later_text names a = (a.0, summand_text names a.1)
 
 -- a `-` before the first summand stands without a blank
-abbrev pub sum_text : List (List ℕ) → List Signed → List ℕ
+abbrev pub sum_text : List (List ℕ) → List SignedSummand → List ℕ
 sum_text names [] = []
 sum_text names (a ∷ more) = cond a.0 (codes "-" ++ summand_text names a.1) (summand_text names a.1) ++ added_texts (map (later_text names) more)
 

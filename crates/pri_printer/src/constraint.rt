@@ -2,9 +2,9 @@
 
 ghost use Rattle.std.specs.Prelude.{◌≡◌, ◌↔◌, ◌++◌, All, codes, IfOk, length, List, map, OnOk, true, ℤ};
 ghost use Rattle.clause_set.specs.Literals.{dnf_truth, HasDivisor};
-ghost use Rattle.pri_printer.specs.Names.{ClauseNames, DnfNames, IsBelow, OccursIn, SpeaksOf};
+ghost use Rattle.pri_printer.specs.Names.{ClauseNames, DnfNames, IsVariableBelow, OccursIn, SpeaksOf};
 ghost use Rattle.pri_printer.specs.Printed.{constants_of, dnf_formula, dnf_text, IsWithinLimits};
-ghost use Rattle.pri_printer.specs.Ranges.{IsRanged};
+ghost use Rattle.pri_printer.specs.Ranges.{IsRangedLiteral};
 ghost use Rattle.pri_printer.specs.Text.{behind_each, clause_text, literal_text, normal_form_text};
 ghost use Rattle.pri_typing.specs.Problems.{Says};
 ghost use Rattle.pri_typing.specs.WellFormed.{HasDistinctNames, HasIdentifiers, IsWellFormed};
@@ -25,7 +25,7 @@ fn put_literals(
     literals: &[Literal],
     out: &mut Vec<u8>,
 ) -> Result<(), Memory>
-    requires { ClauseNames (IsBelow (length (constants_of p.now))) literals.now }
+    requires { ClauseNames (IsVariableBelow (length (constants_of p.now))) literals.now }
     ensures { OnOk result (out.new.items ≡ out.old.items ++ behind_each (codes " & ") (map (literal_text (constants_of p.now) k.now) literals.now)) }
 {
     for literal in literals {
@@ -43,7 +43,7 @@ fn put_clause(
     clause: &Clause,
     out: &mut Vec<u8>,
 ) -> Result<(), Memory>
-    requires { ClauseNames (IsBelow (length (constants_of p.now))) clause.now }
+    requires { ClauseNames (IsVariableBelow (length (constants_of p.now))) clause.now }
     ensures { OnOk result (out.new.items ≡ out.old.items ++ clause_text (constants_of p.now) k.now clause.now) }
 {
     let Some((first, more)) = clause.literals().split_first() else {
@@ -62,7 +62,7 @@ fn put_clauses(
     clauses: &[Clause],
     out: &mut Vec<u8>,
 ) -> Result<(), Memory>
-    requires { DnfNames (IsBelow (length (constants_of p.now))) clauses.now }
+    requires { DnfNames (IsVariableBelow (length (constants_of p.now))) clauses.now }
     ensures { OnOk result (out.new.items ≡ out.old.items ++ behind_each (codes " | ") (map (clause_text (constants_of p.now) k.now) clauses.now)) }
 {
     for clause in clauses {
@@ -80,7 +80,7 @@ fn put_normal_form(
     clauses: &[Clause],
     out: &mut Vec<u8>,
 ) -> Result<(), Memory>
-    requires { DnfNames (IsBelow (length (constants_of p.now))) clauses.now }
+    requires { DnfNames (IsVariableBelow (length (constants_of p.now))) clauses.now }
     ensures { OnOk result (out.new.items ≡ out.old.items ++ normal_form_text (constants_of p.now) k.now clauses.now) }
 {
     let Some((first, more)) = clauses.split_first() else {
@@ -94,7 +94,7 @@ fn put_normal_form(
 /// The numbers of a literal are in the range: this call does nothing, and tells its caller so.
 fn know_literal(l: &Literal)
     requires { HasDivisor l.now }
-    ensures { IsRanged l.now }
+    ensures { IsRangedLiteral l.now }
 {
     l.term().know_normal();
 }
@@ -102,7 +102,7 @@ fn know_literal(l: &Literal)
 /// The same of literals.
 fn know_literals(literals: &[Literal])
     requires { All HasDivisor literals.now }
-    ensures { All IsRanged literals.now }
+    ensures { All IsRangedLiteral literals.now }
 {
     for l in literals {
         know_literal(l);
@@ -111,7 +111,7 @@ fn know_literals(literals: &[Literal])
 
 /// The same of clauses.
 fn know_clauses(clauses: &[Clause])
-    ensures { All (All IsRanged) clauses.now }
+    ensures { All (All IsRangedLiteral) clauses.now }
 {
     for c in clauses {
         c.know_clause();
@@ -131,7 +131,7 @@ pub fn print_dnf(alloc: Global, p: &Problem, d: &Dnf) -> Result<Vec<u8>, Memory>
     requires well_formed { IsWellFormed p.now }
     requires distinct { HasDistinctNames p.now }
     requires identifiers { HasIdentifiers p.now }
-    requires over { DnfNames (IsBelow (length (constants_of p.now))) d.now }
+    requires over { DnfNames (IsVariableBelow (length (constants_of p.now))) d.now }
     ensures text { IfOk result (λ v. v.items ≡ dnf_text p.now d.now) }
     ensures says { IfOk result (λ v. Says v.items p.now (dnf_formula p.now d.now)) }
     ensures limits { IfOk result (λ v. IsWithinLimits v.items) }

@@ -3,7 +3,7 @@
 ghost use Rattle.std.specs.Prelude.{◌≡◌, ◌↔◌, ◌<◌, false, length, List, true, ℕ, ℤ};
 ghost use Rattle.clause_set.specs.declared.literal.Literal.{Literal};
 ghost use Rattle.clause_set.specs.Literals.{dnf_truth};
-ghost use Rattle.pri_printer.specs.Names.{DnfNames, IsBelow};
+ghost use Rattle.pri_printer.specs.Names.{DnfNames, IsVariableBelow};
 ghost use Rattle.pri_printer.specs.Printed.{dnf_formula};
 ghost use Rattle.pri_printer.specs.Quotient.{quotient_name, quotient_number};
 ghost use Rattle.pri_typing.specs.declared.problem.Problem.{Problem};
@@ -15,8 +15,8 @@ ghost use Rattle.typed_formula.specs.Truth.{Meaning};
 /// A normal form over the existential constants of a problem is printed as a formula that speaks of these alone, and that
 /// is true at their values, whatever the universal constants and the interpretation are, exactly where the normal form is.
 pub fn constraint_law()
-    ensures speaks { (p : Problem) (d : List (List Literal)) → DnfNames (IsBelow (length p.existentials)) d → SpeaksOfExistentials p (dnf_formula p d) }
-    ensures truth { (w : Meaning) (p : Problem) (d : List (List Literal)) (e : List ℤ) → DnfNames (IsBelow (length p.existentials)) d
+    ensures speaks { (p : Problem) (d : List (List Literal)) → DnfNames (IsVariableBelow (length p.existentials)) d → SpeaksOfExistentials p (dnf_formula p d) }
+    ensures truth { (w : Meaning) (p : Problem) (d : List (List Literal)) (e : List ℤ) → DnfNames (IsVariableBelow (length p.existentials)) d
         → length e ≡ length p.existentials → IsTrueAt w p (dnf_formula p d) e ↔ (dnf_truth d e ≡ true) }
 {}
 

@@ -14,4 +14,5 @@ mod term;
 pub use constraint::print_dnf;
 pub use counterexample::print_counterexample;
 pub use laws::{constraint_law, quotient_law};
+pub use quotient::is_taken;
 pub use solution::print_solution;

@@ -2,7 +2,7 @@
 
 ghost use Rattle.std.specs.Prelude.{◌≡◌, ◌++◌, length, OnOk, unsigned_abs};
 ghost use Rattle.std.specs.Fmt.{decimal};
-ghost use Rattle.pri_printer.specs.Names.{IsBelow, LiteralNames, PairNames};
+ghost use Rattle.pri_printer.specs.Names.{IsVariableBelow, LiteralNames, PairNames};
 ghost use Rattle.pri_printer.specs.Printed.{constants_of};
 ghost use Rattle.pri_printer.specs.Text.{divides_text, literal_text};
 
@@ -28,7 +28,7 @@ fn put_divides(
     t: &Term,
     out: &mut Vec<u8>,
 ) -> Result<(), Memory>
-    requires { PairNames (IsBelow (length (constants_of p.now))) t.now.pairs }
+    requires { PairNames (IsVariableBelow (length (constants_of p.now))) t.now.pairs }
     ensures { OnOk result (out.new.items ≡ out.old.items ++ divides_text (constants_of p.now) k.now d.now t.now) }
 {
     out.extend_from_slice(b"\\exists int ")?;
@@ -50,7 +50,7 @@ pub(crate) fn put_literal(
     l: &Literal,
     out: &mut Vec<u8>,
 ) -> Result<(), Memory>
-    requires { LiteralNames (IsBelow (length (constants_of p.now))) l.now }
+    requires { LiteralNames (IsVariableBelow (length (constants_of p.now))) l.now }
     ensures { OnOk result (out.new.items ≡ out.old.items ++ literal_text (constants_of p.now) k.now l.now) }
 {
     match l {

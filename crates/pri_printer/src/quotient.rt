@@ -39,9 +39,9 @@ fn is_symbol(symbols: &[Symbol], name: &[u8]) -> bool
     false
 }
 
-/// Whether a symbol has this name.
+/// Whether a symbol of the problem has this name.
 #[tactic(auto, using(crate::proofs::Searching::among))]
-fn is_taken(p: &Problem, name: &[u8]) -> bool
+pub fn is_taken(p: &Problem, name: &[u8]) -> bool
     ensures { result ≡ is_among name.now (names_of_symbols p.now) }
 {
     is_listed(p.existentials.as_slice(), name)

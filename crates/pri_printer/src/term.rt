@@ -3,7 +3,7 @@
 ghost use Rattle.std.specs.Prelude.{◌≡◌, ◌++◌, ◌<◌, codes, cond, int_lt, length, map, OnOk, pos, slice_index_or, unsigned_abs, [], ◌∷◌};
 ghost use Rattle.std.specs.Fmt.{decimal};
 ghost use Rattle.std.specs.Ordering.{int_eq};
-ghost use Rattle.pri_printer.specs.Names.{IsBelow, PairNames};
+ghost use Rattle.pri_printer.specs.Names.{IsVariableBelow, PairNames};
 ghost use Rattle.pri_printer.specs.Printed.{constants_of};
 ghost use Rattle.pri_printer.specs.Summands.{constant as constant_summand, monomial, times};
 ghost use Rattle.pri_printer.specs.Text.{added_texts, adding_text, later_text, summand_text, term_text};
@@ -87,7 +87,7 @@ fn put_pairs(
     pairs: &[(u32, i128)],
     out: &mut Vec<u8>,
 ) -> Result<(), Memory>
-    requires { PairNames (IsBelow (length (constants_of p.now))) pairs.now }
+    requires { PairNames (IsVariableBelow (length (constants_of p.now))) pairs.now }
     ensures { OnOk result (out.new.items ≡ out.old.items ++ added_texts (map (later_text (constants_of p.now)) (map monomial pairs.now))) }
 {
     for pair in pairs {
@@ -135,7 +135,7 @@ pub(crate) fn put_term(
     t: &Term,
     out: &mut Vec<u8>,
 ) -> Result<(), Memory>
-    requires { PairNames (IsBelow (length (constants_of p.now))) t.now.pairs }
+    requires { PairNames (IsVariableBelow (length (constants_of p.now))) t.now.pairs }
     ensures { OnOk result (out.new.items ≡ out.old.items ++ term_text (constants_of p.now) t.now) }
 {
     let Some((first, more)) = t.pairs().split_first() else {

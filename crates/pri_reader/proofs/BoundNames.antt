@@ -10,7 +10,7 @@ use Rattle.pri_reader.specs.declared.tree.ReadRefusal.{ReadRefusal}
 use Rattle.pri_reader.specs.declared.tree.ReadRefusal.TheVariants as refusal
 use Rattle.pri_reader.specs.Grammar.{expr, name_of, of_type, Takes}
 use Rattle.pri_reader.specs.MachineStates.{Want, a_binder, for_binder, a_type, a_bound, a_unary, bound_at, wrap}
-use Rattle.pri_reader.specs.Reading.{file_setting, Binds, BindsEnd, BindsMore, BindsNoMore, BindsNone, IsRead, IsRefused, LeadsBound, NoRoom, NotNext, Opened, ReadsNoType, ReadsType, Unwanted}
+use Rattle.pri_reader.specs.Reading.{file_setting, Binds, BindsEnd, BindsMore, BindsNoMore, BindsNone, IsRead, IsReadRefused, LeadsBound, NoRoom, NotNext, Opened, ReadsNoType, ReadsType, Unwanted}
 use Rattle.pri_reader.proofs.Exits.{through}
 use Rattle.pri_reader.proofs.BinderSteps.{plain_pass, grouped_step, bound_bad, bound_step, bound_deep, bound_comma_step, bound_line_step, bound_plain_end_step, bound_grouped_end_step, plain_more_bad, grouped_more_bad}
 use Rattle.pri_reader.proofs.TokenSteps.{gives_wrap}
@@ -111,11 +111,11 @@ pub quantified_read : {b : List ℕ} {d m at : ℕ} {all : Bool} {names : List D
 quantified_read {at = at} {all = all} {names = names} g r = record { run = λ frames. g.run at all frames ∙ r.run (wrap (bound_at at all names) ∷ frames) ∙ gives_wrap _ _ _ _ _ }
 
 pub quantified_no_binder : {b : List ℕ} {d at : ℕ} {all : Bool} {t0 : List Lexeme} {e : ReadRefusal}
-    → BindsNone b (λ at all. a_binder at all d) t0 e → IsRefused b (a_binder at all d) [] t0 e
+    → BindsNone b (λ at all. a_binder at all d) t0 e → IsReadRefused b (a_binder at all d) [] t0 e
 quantified_no_binder {at = at} {all = all} g = record { run = λ frames. g.run at all frames }
 
 pub quantified_no_body : {b : List ℕ} {d m at : ℕ} {all : Bool} {names : List Declared} {t0 t1 : List Lexeme} {e : ReadRefusal}
-    → Binds b (λ at all. a_binder at all d) names m t0 t1 → IsRefused b (a_unary m) [] t1 e → IsRefused b (a_binder at all d) [] t0 e
+    → Binds b (λ at all. a_binder at all d) names m t0 t1 → IsReadRefused b (a_unary m) [] t1 e → IsReadRefused b (a_binder at all d) [] t0 e
 quantified_no_body {at = at} {all = all} {names = names} {e = e} g r = record { run = λ frames. through e (g.run at all frames) (r.run (wrap (bound_at at all names) ∷ frames)) }
 
 pub ruleset quantified_lines = (quantified_read, quantified_no_binder, quantified_no_body)

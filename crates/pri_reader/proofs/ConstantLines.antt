@@ -11,7 +11,7 @@ use Rattle.pri_reader.specs.declared.classes.Heading.TheVariants as h
 use Rattle.pri_reader.specs.Grammar.{name_of, of_type, all_of_type, Takes, constants_block, is_problem}
 use Rattle.pri_reader.specs.MachineStates.{a_brace, a_line, a_name, for_line, for_constants}
 use Rattle.pri_reader.specs.Reading.{file_setting, NotNext, ReadsNoType, ReadsType, Unwanted}
-use Rattle.pri_reader.specs.BlockReading.{IsBlock, IsNoBlock, Passes, PassesNames, Stops}
+use Rattle.pri_reader.specs.BlockReading.{IsBlock, IsNoBlock, PassesStates, PassesNames, StopsReader}
 use Rattle.pri_reader.proofs.Exits.{through}
 use Rattle.pri_reader.proofs.NameLists.{names_begin, names_next, names_end, names_none}
 use Rattle.pri_reader.proofs.BlockSteps.{brace_bad, brace_constants, constants_bad, constants_end, line_close, line_pass}
@@ -22,7 +22,7 @@ use Rattle.pri_reader.proofs.BlockSteps.{brace_bad, brace_constants, constants_b
 pub record LeadsNames (b : List ℕ) (sort : TypeName) (found : List Declared) (tokens rest : List Lexeme) : Type 0 where
   pub names : List Name
   pub typed : found ≡ all_of_type sort names
-  pub leads : Passes b tokens (λ for. a_name for []) rest (λ for. a_name for names)
+  pub leads : PassesStates b tokens (λ for. a_name for []) rest (λ for. a_name for names)
 
 one_more : (sort : TypeName) (found : List Declared) (names : List Name) (name : Name) → found ≡ all_of_type sort names
     → found ++ of_type sort name ∷ [] ≡ all_of_type sort (names ++ name ∷ [])
@@ -48,18 +48,18 @@ typed_end {b = b} {sort = sort} {found = found} {x = x} i s = record {
 }
 
 pub typed_none : {b : List ℕ} {sort : TypeName} {found : List Declared} {e : ReadRefusal} {t0 t1 : List Lexeme}
-    → LeadsNames b sort found t0 t1 → Unwanted t.Identifier b t1 e → Stops b (λ for. a_name for []) t0 e
+    → LeadsNames b sort found t0 t1 → Unwanted t.Identifier b t1 e → StopsReader b (λ for. a_name for []) t0 e
 typed_none i u = names_none i.leads u
 
 -- The lines.
 
 pub lines_begin : {b : List ℕ} {at : ℕ} {universal : Bool} {x : Lexeme} {t0 t1 : List Lexeme}
-    → Takes t.OpenBrace x t0 t1 → Passes b t0 (λ blocks. a_brace (h.Constants universal) at blocks) t1 (λ blocks. a_line universal at [] blocks)
+    → Takes t.OpenBrace x t0 t1 → PassesStates b t0 (λ blocks. a_brace (h.Constants universal) at blocks) t1 (λ blocks. a_line universal at [] blocks)
 lines_begin s = record { run = λ blocks. brace_constants _ _ _ _ _ _ _ s }
 
 pub lines_next : {b : List ℕ} {at : ℕ} {universal : Bool} {sort : TypeName} {names more : List Declared} {y : Lexeme} {t0 t1 t2 t3 t4 : List Lexeme}
-    → Passes b t0 (λ blocks. a_brace (h.Constants universal) at blocks) t1 (λ blocks. a_line universal at names blocks) → NotNext t.CloseBrace t1 → ReadsType b sort t1 t2
-    → PassesNames b sort more t2 t3 → Takes t.Semicolon y t3 t4 → Passes b t0 (λ blocks. a_brace (h.Constants universal) at blocks) t4 (λ blocks. a_line universal at (names ++ more) blocks)
+    → PassesStates b t0 (λ blocks. a_brace (h.Constants universal) at blocks) t1 (λ blocks. a_line universal at names blocks) → NotNext t.CloseBrace t1 → ReadsType b sort t1 t2
+    → PassesNames b sort more t2 t3 → Takes t.Semicolon y t3 t4 → PassesStates b t0 (λ blocks. a_brace (h.Constants universal) at blocks) t4 (λ blocks. a_line universal at (names ++ more) blocks)
 lines_next {at} {universal} {sort} {names} i n s r c = rw r.typed (record {
   run = λ blocks. i.run blocks ∙ line_pass _ _ _ _ _ _ n ∙ s.run (for_line universal at names blocks) [] ∙ r.passes.run (for_constants sort universal at names blocks)
       ∙ constants_end _ _ _ _ _ _ _ _ _ _ c;
@@ -70,7 +70,7 @@ constants_kind true at names = refl
 constants_kind false at names = refl
 
 pub lines_end : {b : List ℕ} {at : ℕ} {universal : Bool} {names : List Declared} {x : Lexeme} {t0 t1 t2 : List Lexeme}
-    → Passes b t0 (λ blocks. a_brace (h.Constants universal) at blocks) t1 (λ blocks. a_line universal at names blocks) → Takes t.CloseBrace x t1 t2 → IsBlock b (h.Constants universal) at (constants_block universal at names) t0 t2
+    → PassesStates b t0 (λ blocks. a_brace (h.Constants universal) at blocks) t1 (λ blocks. a_line universal at names blocks) → Takes t.CloseBrace x t1 t2 → IsBlock b (h.Constants universal) at (constants_block universal at names) t0 t2
 lines_end {at} {universal} {names} i s = record { run = λ blocks. i.run blocks ∙ line_close _ _ _ _ _ _ _ _ s; kind = constants_kind universal at names }
 
 pub lines_no_brace : {b : List ℕ} {at : ℕ} {universal : Bool} {e : ReadRefusal} {t0 : List Lexeme}
@@ -78,17 +78,17 @@ pub lines_no_brace : {b : List ℕ} {at : ℕ} {universal : Bool} {e : ReadRefus
 lines_no_brace u = record { run = λ blocks. rw u.is (brace_bad _ _ _ _ _ u.no) }
 
 pub lines_no_type : {b : List ℕ} {at : ℕ} {universal : Bool} {names : List Declared} {e : ReadRefusal} {t0 t1 : List Lexeme}
-    → Passes b t0 (λ blocks. a_brace (h.Constants universal) at blocks) t1 (λ blocks. a_line universal at names blocks) → NotNext t.CloseBrace t1 → ReadsNoType b t1 e → IsNoBlock b (h.Constants universal) at t0 e
+    → PassesStates b t0 (λ blocks. a_brace (h.Constants universal) at blocks) t1 (λ blocks. a_line universal at names blocks) → NotNext t.CloseBrace t1 → ReadsNoType b t1 e → IsNoBlock b (h.Constants universal) at t0 e
 lines_no_type {at} {universal} {names} {e} i n r = record { run = λ blocks. through e (i.run blocks ∙ line_pass _ _ _ _ _ _ n) (r.run (for_line universal at names blocks) []) }
 
 pub lines_no_name : {b : List ℕ} {at : ℕ} {universal : Bool} {sort : TypeName} {names : List Declared} {e : ReadRefusal} {t0 t1 t2 : List Lexeme}
-    → Passes b t0 (λ blocks. a_brace (h.Constants universal) at blocks) t1 (λ blocks. a_line universal at names blocks) → NotNext t.CloseBrace t1 → ReadsType b sort t1 t2
-    → Stops b (λ for. a_name for []) t2 e → IsNoBlock b (h.Constants universal) at t0 e
+    → PassesStates b t0 (λ blocks. a_brace (h.Constants universal) at blocks) t1 (λ blocks. a_line universal at names blocks) → NotNext t.CloseBrace t1 → ReadsType b sort t1 t2
+    → StopsReader b (λ for. a_name for []) t2 e → IsNoBlock b (h.Constants universal) at t0 e
 lines_no_name {at} {universal} {sort} {names} {e} i n s r =
     record { run = λ blocks. through e (i.run blocks ∙ line_pass _ _ _ _ _ _ n ∙ s.run (for_line universal at names blocks) []) (r.run (for_constants sort universal at names blocks)) }
 
 pub lines_no_end : {b : List ℕ} {at : ℕ} {universal : Bool} {sort : TypeName} {names more : List Declared} {e : ReadRefusal} {t0 t1 t2 t3 : List Lexeme}
-    → Passes b t0 (λ blocks. a_brace (h.Constants universal) at blocks) t1 (λ blocks. a_line universal at names blocks) → NotNext t.CloseBrace t1 → ReadsType b sort t1 t2
+    → PassesStates b t0 (λ blocks. a_brace (h.Constants universal) at blocks) t1 (λ blocks. a_line universal at names blocks) → NotNext t.CloseBrace t1 → ReadsType b sort t1 t2
     → PassesNames b sort more t2 t3 → NotNext t.Comma t3 → Unwanted t.Semicolon b t3 e → IsNoBlock b (h.Constants universal) at t0 e
 lines_no_end {at} {universal} {sort} {names} i n s r c u = record {
   run = λ blocks. rw u.is (i.run blocks ∙ line_pass _ _ _ _ _ _ n ∙ s.run (for_line universal at names blocks) [] ∙ r.passes.run (for_constants sort universal at names blocks)

@@ -13,14 +13,14 @@ use Rattle.pri_reader.specs.declared.tree.Comparison.{Comparison}
 use Rattle.pri_reader.specs.declared.classes.Prefix.{Prefix}
 use Rattle.pri_reader.specs.declared.classes.Heading.{Heading}
 use Rattle.pri_reader.specs.declared.classes.Opening.{Opening}
-use Rattle.pri_reader.specs.Reading.{Adds, Begins, Compares, FailsWith, Heads, IsRefused, Prefixes}
+use Rattle.pri_reader.specs.Reading.{AddsTerm, BeginsTerm, Compares, FailsWith, Heads, IsReadRefused, Prefixes}
 
 -- the outcome is that of what was left to do, and that fails
 pub through : {outcome inner : Result File ReadRefusal} (e : ReadRefusal) → outcome ≡ inner → FailsWith e inner → FailsWith e outcome
 through e p h = subst (FailsWith e) (sym p) h
 
 -- want of memory says nothing of the file
-pub memory : {b : List ℕ} {want : Want} {above : List Frame} {tokens : List Lexeme} {e : ReadRefusal} → e ≡ refusal.Memory → IsRefused b want above tokens e
+pub memory : {b : List ℕ} {want : Want} {above : List Frame} {tokens : List Lexeme} {e : ReadRefusal} → e ≡ refusal.Memory → IsReadRefused b want above tokens e
 memory h = rw h (record { run = λ frames. tt })
 
 -- a `?` hands on the refusal of the call before it
@@ -40,7 +40,7 @@ handed_ok (Err e) P Q h f = tt
 pub takes_shorter : {k : Terminal} {x : Lexeme} {tokens rest : List Lexeme} → Takes k x tokens rest → length rest < length tokens
 takes_shorter {rest = rest} s = rw s.parts (omega arith)
 
-pub adds_shorter : {sign : Bool} {tokens rest : List Lexeme} → Adds sign tokens rest → length rest < length tokens
+pub adds_shorter : {sign : Bool} {tokens rest : List Lexeme} → AddsTerm sign tokens rest → length rest < length tokens
 adds_shorter {rest = rest} s = rw s.parts (omega arith)
 
 pub compares_shorter : {sign : Comparison} {tokens rest : List Lexeme} → Compares sign tokens rest → length rest < length tokens
@@ -49,7 +49,7 @@ compares_shorter {rest = rest} s = rw s.parts (omega arith)
 pub prefixes_shorter : {p : Prefix} {x : Lexeme} {tokens rest : List Lexeme} → Prefixes p x tokens rest → length rest < length tokens
 prefixes_shorter {rest = rest} s = rw s.parts (omega arith)
 
-pub begins_shorter : {o : Opening} {x : Lexeme} {tokens rest : List Lexeme} → Begins o x tokens rest → length rest < length tokens
+pub begins_shorter : {o : Opening} {x : Lexeme} {tokens rest : List Lexeme} → BeginsTerm o x tokens rest → length rest < length tokens
 begins_shorter {rest = rest} s = rw s.parts (omega arith)
 
 pub heads_shorter : {heading : Heading} {x : Lexeme} {tokens rest : List Lexeme} → Heads heading x tokens rest → length rest < length tokens

@@ -21,7 +21,7 @@ use Rattle.pri_reader.specs.Classes.{prefix_of, opening_of, heading_of, comparis
 use Rattle.pri_reader.specs.Grammar.{Right, equivalence, implication, multiplication, Chain, disjunction, conjunction, added, chained, summed, Setting, value_of, has_problem, with_set}
 use Rattle.pri_reader.specs.MachineStates.{Frame, right_of, chain_of, rel_of, sum_of, wrap, wrapped, second, parenthesis_of, test_of, branch_of, arguments_of, pair_left, pair_right, problem_of, Want, a_unary, a_minus, a_parenthesis, behind_name, an_argument, a_pair, a_binder, TypeFor, for_line, for_binder, Side, lower, upper, a_type, behind_int_word, an_endpoint, an_endpoint_number, behind_endpoint, behind_type, a_bound, bound_more, a_part_bracket, a_part_name, a_part_close, gives, a_block, a_brace, a_line, a_name, names_more, an_item_line, an_item, behind_item, a_first_parameter, a_parameter, behind_int, parameters_more, items_more, NamesFor, for_constants, for_set, ItemsFor, Move, bad, on, numeral, level, applied, under_rel, under_right, under_member, wants_right}
 use Rattle.pri_reader.specs.Machine.{with_item, takes_right, takes_chain, sum_goes_on, rel_goes_on, parenthesis_follows, test_follows, branch_follows, arguments_follow, left_follows, pair_follows, problem_follows, parenthesis_moves, minus_moves, unary_moves, behind_name_moves, argument_moves, pair_moves, binder_moves, type_moves, behind_type_moves, int_word_moves, endpoint_moves, endpoint_number_moves, behind_endpoint_moves, bound_moves, bound_more_moves, part_bracket_moves, part_name_moves, part_close_moves, follows, moves, block_moves, brace_moves, line_moves, name_moves, sets_end, names_more_moves, item_moves, item_line_moves, items_more_moves, behind_item_moves, parameter_moves, first_parameter_moves, parameters_more_moves, behind_int_moves}
-use Rattle.pri_reader.specs.First.{opens_level, LeadsTo, leads_on, leads_numeral, leads_level, Reaches, reaches_first, reaches_next, Completes}
+use Rattle.pri_reader.specs.First.{opens_level, LeadsTo, leads_on, leads_numeral, leads_level, ReachesFrames, reaches_first, reaches_next, Completes}
 use Rattle.pri_reader.proofs.Finish.{IsInProblem, IsTypeWhole, IsWhole, completes}
 
 abbrev pub is_number : Terminal → Bool
@@ -381,10 +381,10 @@ led_whole k value want frames _ leads_numeral u = u.2
 led_whole k value want frames _ leads_level u = u.1
 
 -- each state that the machine comes to is whole
-pub reaches_whole : {s : Setting} {want : Want} {frames : List Frame} → Reaches s want frames → IsWhole want frames
+pub reaches_whole : {s : Setting} {want : Want} {frames : List Frame} → ReachesFrames s want frames → IsWhole want frames
 reaches_whole reaches_first = tt
 reaches_whole {s = s} {want = want} {frames = frames} (reaches_next {old = old} {before = before} r x l) =
     led_whole x.terminal (value_of s x) want frames (moves s x x.terminal old before) l (moves_keep s x x.terminal old before (reaches_whole r))
 
-pub completion : (s : Setting) (want : Want) (frames : List Frame) → Reaches s want frames → Completes s want frames
+pub completion : (s : Setting) (want : Want) (frames : List Frame) → ReachesFrames s want frames → Completes s want frames
 completion s want frames r = completes s want frames (reaches_whole r)

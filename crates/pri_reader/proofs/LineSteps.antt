@@ -10,7 +10,7 @@ use Rattle.pri_reader.specs.declared.tree.ReadRefusal.TheVariants as refusal
 use Rattle.pri_reader.specs.Grammar.{equivalence, implication, multiplication, disjunction, conjunction, chained, added, summed, Takes}
 use Rattle.pri_reader.specs.MachineStates.{Frame, right_of, chain_of, rel_of, sum_of, wrap, second, compared, a_unary, a_minus, gives, on, level, under_product, under_sum, under_right, under_member, wants_right}
 use Rattle.pri_reader.specs.Machine.{takes_right, takes_chain, sum_goes_on, rel_goes_on, follows, moves}
-use Rattle.pri_reader.specs.Reading.{file_setting, reads, NotNext, Adds, AddsNone, Compares, ComparesNone, Opened}
+use Rattle.pri_reader.specs.Reading.{file_setting, reads, NotNext, AddsTerm, AddsNone, Compares, ComparesNone, Opened}
 use Rattle.pri_reader.proofs.Moves.{same_run}
 use Rattle.pri_reader.proofs.TokenSteps.{it, opened, too_deep, goes}
 
@@ -115,7 +115,7 @@ unfolding reads moves follows
 sum_pass b tokens n before sign f frames h = same_run (file_setting b) (length b) tokens f (summed before sign f) (sum_of n before sign ∷ frames) frames
     (λ x inner e. ap (λ z. sum_goes_on z n (before ++ added sign f ∷ []) frames (follows x.at x.terminal (summed before sign f) frames)) (h.no x inner e))
 
-pub sum_step : (b : List ℕ) (tokens inner : List Lexeme) (n : ℕ) (before : List Added) (old new : Bool) (f : Expr) (frames : List Frame) → Adds new tokens inner
+pub sum_step : (b : List ℕ) (tokens inner : List Lexeme) (n : ℕ) (before : List Added) (old new : Bool) (f : Expr) (frames : List Frame) → AddsTerm new tokens inner
     → reads b tokens (gives f) (sum_of n before old ∷ frames) ≡ reads b inner (a_minus n) (under_product n (sum_of n (before ++ added old f ∷ []) new ∷ frames))
 unfolding reads moves follows
 sum_step b tokens inner n before old new f frames h = goes b (it h.parts) _ _

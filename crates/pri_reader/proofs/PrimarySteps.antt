@@ -16,7 +16,7 @@ use Rattle.pri_reader.specs.Classes.{prefix_of, opening_of}
 use Rattle.pri_reader.specs.Grammar.{equivalence, expr, paired, name_of, Takes}
 use Rattle.pri_reader.specs.MachineStates.{Frame, wrap, not_at, minus_at, grouped_at, absolute_at, branches, test_of, branch_of, arguments_of, pair_left, pair_right, a_unary, a_minus, a_parenthesis, behind_name, an_argument, a_pair, a_binder, a_part_bracket, gives, bad, applied, under_rel, under_right}
 use Rattle.pri_reader.specs.Machine.{test_follows, branch_follows, arguments_follow, left_follows, pair_follows, minus_moves, unary_moves, behind_name_moves, argument_moves, pair_moves, follows, moves, limited, goes_on, run}
-use Rattle.pri_reader.specs.Reading.{file_setting, reads, place, NotNext, Begins, BeginsNone, Opened, Prefixes, PrefixesNone}
+use Rattle.pri_reader.specs.Reading.{file_setting, reads, place, NotNext, BeginsTerm, BeginsNone, Opened, Prefixes, PrefixesNone}
 use Rattle.pri_reader.proofs.Moves.{taken, step_numeral}
 use Rattle.pri_reader.proofs.TokenSteps.{below, it, stuck, refused, refused_both, opened, too_deep, too_great, goes}
 
@@ -63,31 +63,31 @@ unfolding reads run
 factor_bad b [] n frames h = refl
 factor_bad b (x ∷ inner) n frames h = stuck b refl _ _ (at_opening b x n frames _ (h.no x inner refl))
 
-pub minus_step : (b : List ℕ) (tokens inner : List Lexeme) (x : Lexeme) (n : ℕ) (frames : List Frame) → Begins o.Minus x tokens inner → {d : ℕ} → Opened n d
+pub minus_step : (b : List ℕ) (tokens inner : List Lexeme) (x : Lexeme) (n : ℕ) (frames : List Frame) → BeginsTerm o.Minus x tokens inner → {d : ℕ} → Opened n d
     → reads b tokens (a_minus n) frames ≡ reads b inner (a_minus d) (wrap (minus_at x.at) ∷ frames)
 minus_step b tokens inner x n frames e {d = d} h = opened b (it e.parts) _ _ (at_opening b x n frames _ e.is) h.below ∙ ap (λ m. reads b inner (a_minus m) (wrap (minus_at x.at) ∷ frames)) (sym (h.is ∙ add-one n))
 
-pub minus_deep : (b : List ℕ) (tokens inner : List Lexeme) (x : Lexeme) (n : ℕ) (frames : List Frame) → Begins o.Minus x tokens inner → 200 ≤ n
+pub minus_deep : (b : List ℕ) (tokens inner : List Lexeme) (x : Lexeme) (n : ℕ) (frames : List Frame) → BeginsTerm o.Minus x tokens inner → 200 ≤ n
     → reads b tokens (a_minus n) frames ≡ Err (refusal.Deep x.at)
 minus_deep b tokens inner x n frames e h = too_deep b (it e.parts) _ _ (at_opening b x n frames _ e.is) h
 
-pub number_step : (b : List ℕ) (tokens inner : List Lexeme) (x : Lexeme) (n : ℕ) (frames : List Frame) → Begins o.Number x tokens inner
+pub number_step : (b : List ℕ) (tokens inner : List Lexeme) (x : Lexeme) (n : ℕ) (frames : List Frame) → BeginsTerm o.Number x tokens inner
     → decimal_value (text_of b x) < 2 ^ 127
     → reads b tokens (a_minus n) frames ≡ reads b inner (gives (expr x.at (form.Number (pos (decimal_value (text_of b x)))))) frames
 unfolding reads
 number_step b tokens inner x n frames e h =
     step_numeral (file_setting b) (length b) (it e.parts) _ _ (at_opening b x n frames _ e.is) (below (decimal_value (text_of b x)) (2 ^ 127) h)
 
-pub number_great : (b : List ℕ) (tokens inner : List Lexeme) (x : Lexeme) (n : ℕ) (frames : List Frame) → Begins o.Number x tokens inner
+pub number_great : (b : List ℕ) (tokens inner : List Lexeme) (x : Lexeme) (n : ℕ) (frames : List Frame) → BeginsTerm o.Number x tokens inner
     → 2 ^ 127 ≤ decimal_value (text_of b x)
     → reads b tokens (a_minus n) frames ≡ Err (refusal.Literal x.at)
 number_great b tokens inner x n frames e h = too_great b (it e.parts) _ _ (at_opening b x n frames _ e.is) h
 
-pub truth_step : (b : List ℕ) (tokens inner : List Lexeme) (x : Lexeme) (truth : Bool) (n : ℕ) (frames : List Frame) → Begins (o.Truth truth) x tokens inner
+pub truth_step : (b : List ℕ) (tokens inner : List Lexeme) (x : Lexeme) (truth : Bool) (n : ℕ) (frames : List Frame) → BeginsTerm (o.Truth truth) x tokens inner
     → reads b tokens (a_minus n) frames ≡ reads b inner (gives (expr x.at (form.Truth truth))) frames
 truth_step b tokens inner x truth n frames e = goes b (it e.parts) _ _ (at_opening b x n frames _ e.is)
 
-pub identifier_step : (b : List ℕ) (tokens inner : List Lexeme) (x : Lexeme) (n : ℕ) (frames : List Frame) → Begins o.Identifier x tokens inner
+pub identifier_step : (b : List ℕ) (tokens inner : List Lexeme) (x : Lexeme) (n : ℕ) (frames : List Frame) → BeginsTerm o.Identifier x tokens inner
     → reads b tokens (a_minus n) frames ≡ reads b inner (behind_name (name_of (file_setting b) x) n) frames
 identifier_step b tokens inner x n frames e = goes b (it e.parts) _ _ (at_opening b x n frames _ e.is)
 
@@ -95,22 +95,22 @@ is_parenthesis : (k : Terminal) → opening_of k ≡ Some o.Parenthesis → k �
 is_parenthesis t.OpenParenthesis e = refl
 is_parenthesis _ e = absurd cc
 
-pub group_step : (b : List ℕ) (tokens inner : List Lexeme) (x : Lexeme) (n : ℕ) (frames : List Frame) → Begins o.Parenthesis x tokens inner
+pub group_step : (b : List ℕ) (tokens inner : List Lexeme) (x : Lexeme) (n : ℕ) (frames : List Frame) → BeginsTerm o.Parenthesis x tokens inner
     → reads b tokens (a_minus n) frames ≡ reads b tokens (a_parenthesis n) (wrap (grouped_at x.at) ∷ frames)
 unfolding reads moves
 group_step b tokens inner x n frames e =
     let h : Takes t.OpenParenthesis x tokens inner = record { parts = e.parts; is = is_parenthesis x.terminal e.is } in
     taken (file_setting b) (length b) h (a_minus n) frames ∙ sym (taken (file_setting b) (length b) h (a_parenthesis n) (wrap (grouped_at x.at) ∷ frames))
 
-pub if_step : (b : List ℕ) (tokens inner : List Lexeme) (x : Lexeme) (n : ℕ) (frames : List Frame) → Begins o.If x tokens inner
+pub if_step : (b : List ℕ) (tokens inner : List Lexeme) (x : Lexeme) (n : ℕ) (frames : List Frame) → BeginsTerm o.If x tokens inner
     → reads b tokens (a_minus n) frames ≡ reads b inner (a_parenthesis n) (test_of x.at n ∷ frames)
 if_step b tokens inner x n frames e = goes b (it e.parts) _ _ (at_opening b x n frames _ e.is)
 
-pub abs_step : (b : List ℕ) (tokens inner : List Lexeme) (x : Lexeme) (n : ℕ) (frames : List Frame) → Begins o.Abs x tokens inner
+pub abs_step : (b : List ℕ) (tokens inner : List Lexeme) (x : Lexeme) (n : ℕ) (frames : List Frame) → BeginsTerm o.Abs x tokens inner
     → reads b tokens (a_minus n) frames ≡ reads b inner (a_parenthesis n) (wrap (absolute_at x.at) ∷ frames)
 abs_step b tokens inner x n frames e = goes b (it e.parts) _ _ (at_opening b x n frames _ e.is)
 
-pub pair_begin : (b : List ℕ) (tokens inner : List Lexeme) (x : Lexeme) (max : Bool) (n : ℕ) (frames : List Frame) → Begins (o.Pair max) x tokens inner
+pub pair_begin : (b : List ℕ) (tokens inner : List Lexeme) (x : Lexeme) (max : Bool) (n : ℕ) (frames : List Frame) → BeginsTerm (o.Pair max) x tokens inner
     → reads b tokens (a_minus n) frames ≡ reads b inner (a_pair max x.at n) frames
 pair_begin b tokens inner x max n frames e = goes b (it e.parts) _ _ (at_opening b x n frames _ e.is)
 

@@ -8,7 +8,7 @@ use Rattle.pri_reader.specs.declared.tree.ReadRefusal.{ReadRefusal}
 use Rattle.pri_reader.specs.declared.tree.ReadRefusal.TheVariants as refusal
 use Rattle.pri_reader.specs.Grammar.{IsFile}
 use Rattle.pri_reader.specs.MachineStates.{a_block}
-use Rattle.pri_reader.specs.Reading.{Answers, AnswersRefusal, FailsWith, file_setting, reads}
+use Rattle.pri_reader.specs.Reading.{GivesFile, AnswersRefusal, FailsWith, file_setting, reads}
 use Rattle.pri_reader.specs.First.{Refuses, AsksNumber, IsFirstRefusal}
 use Rattle.std.specs.Result.{IfErr, IfOk}
 use Rattle.pri_reader.proofs.CompleteBlocks.{file_complete}
@@ -51,7 +51,7 @@ unfolding reads
 read_complete b tokens file h = file_complete (file_setting b) (length b) file tokens h
 
 pub answered : (b : List ℕ) (tokens : List Lexeme) (result : Result File ReadRefusal) → IfOk result (λ file. reads b tokens (a_block []) [] ≡ Ok file)
-    → IfErr result (λ e. FailsWith e (reads b tokens (a_block []) [])) → (file : File) → IsFile (file_setting b) file tokens → Answers file result
+    → IfErr result (λ e. FailsWith e (reads b tokens (a_block []) [])) → (file : File) → IsFile (file_setting b) file tokens → GivesFile file result
 answered b tokens (Ok g) h k file f = let e = read_complete b tokens file f in cc
 answered b tokens (Err refusal.Memory) h k file f = tt
 answered b tokens (Err (refusal.Syntax at)) h k file f = let e : Ok file ≡ Err (refusal.Syntax at) = sym (read_complete b tokens file f) ∙ k in absurd cc

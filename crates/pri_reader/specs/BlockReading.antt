@@ -17,18 +17,18 @@ use Rattle.pri_reader.specs.Machine.{items_for}
 use Rattle.pri_reader.specs.Reading.{FailsWith, NotNext, reads}
 
 -- the tokens lead from each of these states to one of those
-pub record Passes {A : Type 0} (b : List ℕ) (tokens : List Lexeme) (want : A → Want) (rest : List Lexeme) (new : A → Want) : Type 0 where
+pub record PassesStates {A : Type 0} (b : List ℕ) (tokens : List Lexeme) (want : A → Want) (rest : List Lexeme) (new : A → Want) : Type 0 where
   pub run : (a : A) → reads b tokens (want a) [] ≡ reads b rest (new a) []
 
 -- the file is refused so, where these tokens are read in any of these states
-pub record Stops (b : List ℕ) {A : Type 0} (want : A → Want) (tokens : List Lexeme) (e : ReadRefusal) : Type 0 where
+pub record StopsReader (b : List ℕ) {A : Type 0} (want : A → Want) (tokens : List Lexeme) (e : ReadRefusal) : Type 0 where
   pub run : (a : A) → FailsWith e (reads b tokens (want a) [])
 
 -- the tokens before the rest are read as names, which are of this type
 pub record PassesNames (b : List ℕ) (sort : TypeName) (found : List Declared) (tokens rest : List Lexeme) : Type 0 where
   pub names : List Name
   pub typed : found ≡ all_of_type sort names
-  pub passes : Passes b tokens (λ for. a_name for []) rest (λ for. names_more for names)
+  pub passes : PassesStates b tokens (λ for. a_name for []) rest (λ for. names_more for names)
 
 -- a token of this terminal may come next, and is taken then
 abbrev pub MayTake : Terminal → List Lexeme → List Lexeme → Type 0

@@ -110,10 +110,10 @@ pub data LeadsTo (want : Want) (frames : List Frame) : Move → Type 0 where
   leads_level : {n : ℕ} → LeadsTo want frames (level n want frames)
 
 -- the machine comes to this state
-pub data Reaches (s : Setting) : Want → List Frame → Type 0 where
-  reaches_first : Reaches s (a_block []) []
-  reaches_next : {old want : Want} {before frames : List Frame} → Reaches s old before → (x : Lexeme)
-      → LeadsTo want frames (moves s x x.terminal old before) → Reaches s want frames
+pub data ReachesFrames (s : Setting) : Want → List Frame → Type 0 where
+  reaches_first : ReachesFrames s (a_block []) []
+  reaches_next : {old want : Want} {before frames : List Frame} → ReachesFrames s old before → (x : Lexeme)
+      → LeadsTo want frames (moves s x x.terminal old before) → ReachesFrames s want frames
 
 -- these tokens complete a state to a file
 pub record Completes (s : Setting) (want : Want) (frames : List Frame) : Type 0 where

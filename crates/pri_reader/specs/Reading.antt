@@ -38,7 +38,7 @@ pub record NotNext (terminal : Terminal) (tokens : List Lexeme) : Type 0 where
   pub no : (x : Lexeme) (rest : List Lexeme) → tokens ≡ x ∷ rest → x.terminal ≡ terminal → ⊥
 
 -- the next token adds a term, with this sign
-pub record Adds (sign : Bool) (tokens rest : List Lexeme) : Type 0 where
+pub record AddsTerm (sign : Bool) (tokens rest : List Lexeme) : Type 0 where
   pub x : Lexeme
   pub parts : tokens ≡ x ∷ rest
   pub is : adding_of x.terminal ≡ Some sign
@@ -64,7 +64,7 @@ pub record PrefixesNone (tokens : List Lexeme) : Type 0 where
   pub no : (x : Lexeme) (rest : List Lexeme) → tokens ≡ x ∷ rest → prefix_of x.terminal ≡ None
 
 -- the next token x begins this term, or formula in parentheses
-pub record Begins (o : Opening) (x : Lexeme) (tokens rest : List Lexeme) : Type 0 where
+pub record BeginsTerm (o : Opening) (x : Lexeme) (tokens rest : List Lexeme) : Type 0 where
   pub parts : tokens ≡ x ∷ rest
   pub is : opening_of x.terminal ≡ Some o
 
@@ -115,15 +115,15 @@ FailsWith (refusal.Deep at) outcome = outcome ≡ Err (refusal.Deep at)
 
 -- From a state with these frames above all others, the tokens up to the rest lead to another state: the outcome of the
 -- file is the same.
-pub record Leads (b : List ℕ) (tokens : List Lexeme) (want : Want) (above : List Frame) (rest : List Lexeme) (new : Want) (left : List Frame) : Type 0 where
+pub record LeadsReader (b : List ℕ) (tokens : List Lexeme) (want : Want) (above : List Frame) (rest : List Lexeme) (new : Want) (left : List Frame) : Type 0 where
   pub run : (frames : List Frame) → reads b tokens want (above ++ frames) ≡ reads b rest new (left ++ frames)
 
 -- the tokens before the rest are read as this expression
 abbrev pub IsRead : List ℕ → Want → List Frame → Expr → List Lexeme → List Lexeme → Type 0
-IsRead b want above f tokens rest = Leads b tokens want above rest (gives f) []
+IsRead b want above f tokens rest = LeadsReader b tokens want above rest (gives f) []
 
 -- the file is refused so, where these tokens are read in a state with these frames above all others
-pub record IsRefused (b : List ℕ) (want : Want) (above : List Frame) (tokens : List Lexeme) (e : ReadRefusal) : Type 0 where
+pub record IsReadRefused (b : List ℕ) (want : Want) (above : List Frame) (tokens : List Lexeme) (e : ReadRefusal) : Type 0 where
   pub run : (frames : List Frame) → FailsWith e (reads b tokens want (above ++ frames))
 
 -- Types, for each use of one.
@@ -187,7 +187,7 @@ AnswersRefusal e (Err (refusal.Literal at)) = refusal.Literal at ≡ e
 AnswersRefusal e (Err (refusal.Deep at)) = refusal.Deep at ≡ e
 
 -- the answer is this file, unless memory is wanted
-abbrev pub Answers : File → Result File ReadRefusal → Type 0
-Answers file (Ok found) = found ≡ file
-Answers file (Err refusal.Memory) = Unit {0}
-Answers file (Err _) = ⊥
+abbrev pub GivesFile : File → Result File ReadRefusal → Type 0
+GivesFile file (Ok found) = found ≡ file
+GivesFile file (Err refusal.Memory) = Unit {0}
+GivesFile file (Err _) = ⊥

@@ -1,6 +1,6 @@
 // The blocks of constants: `{` { type identifier { `,` identifier } `;` } `}`
 
-ghost use Rattle.pri_reader.specs.BlockReading.{IsBlock, IsNoBlock, PassesNames, Stops};
+ghost use Rattle.pri_reader.specs.BlockReading.{IsBlock, IsNoBlock, PassesNames, StopsReader};
 ghost use Rattle.pri_reader.specs.Grammar.{constants_block};
 ghost use Rattle.pri_reader.specs.MachineStates.{NamesFor, a_name};
 ghost use Rattle.pri_reader.specs.Reading.{NotNext};
@@ -51,7 +51,7 @@ fn names_of_type<'a>(
     sort: TypeName,
 ) -> Result<(Items<Declared>, &'a [Lexeme]), ReadRefusal>
     ensures read { IfOk result (λ x. PassesNames bytes.now sort x.0 tokens.now x.1.now) }
-    ensures refused { IfErr result (Stops bytes.now {A = NamesFor} (λ for. a_name for []) tokens.now) }
+    ensures refused { IfErr result (StopsReader bytes.now {A = NamesFor} (λ for. a_name for []) tokens.now) }
     ensures ended { IfOk result (λ x. NotNext t.Comma x.1.now) }
     ensures shorter { IfOk result (λ x. length x.1.now < length tokens.now) }
 {

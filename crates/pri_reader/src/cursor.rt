@@ -1,7 +1,7 @@
 // The next tokens: which one comes, and what it is refused as.
 
 ghost use Rattle.pri_reader.specs.Grammar.{Takes, name_of};
-ghost use Rattle.pri_reader.specs.Reading.{Adds, AddsNone, Begins, BeginsNone, Compares, ComparesNone, Heads, HeadsNone, NoRoom, NotNext, Opened, Prefixes, PrefixesNone, RefusesNumber, TakesValue, Unwanted, file_setting, place};
+ghost use Rattle.pri_reader.specs.Reading.{AddsTerm, AddsNone, BeginsTerm, BeginsNone, Compares, ComparesNone, Heads, HeadsNone, NoRoom, NotNext, Opened, Prefixes, PrefixesNone, RefusesNumber, TakesValue, Unwanted, file_setting, place};
 ghost use Rattle.std.specs.Prelude.{◌≡◌, ◌≤◌, ◌<◌, ◌≤ℤ◌, ◌+◌, pos, IfErr, IfOk, MatchOption, length};
 
 use crate::classes::{
@@ -68,7 +68,7 @@ pub fn number<'a>(bytes: &[u8], tokens: &'a [Lexeme]) -> Result<(i128, &'a [Lexe
 
 /// The sign before one more term, true for a minus, and the tokens behind it.
 pub fn added(tokens: &[Lexeme]) -> Option<(bool, &[Lexeme])>
-    ensures { MatchOption result (AddsNone tokens.now) (λ x. Adds x.0 tokens.now x.1.now) }
+    ensures { MatchOption result (AddsNone tokens.now) (λ x. AddsTerm x.0 tokens.now x.1.now) }
 {
     let (first, rest) = tokens.split_first()?;
     let sign = adding(first.terminal)?;
@@ -96,7 +96,7 @@ pub fn prefix(tokens: &[Lexeme]) -> Option<(Prefix, Lexeme, &[Lexeme])>
 
 /// The term, or the formula in parentheses, which the next token begins, that token, and those behind it.
 pub fn opening(tokens: &[Lexeme]) -> Option<(Opening, Lexeme, &[Lexeme])>
-    ensures { MatchOption result (BeginsNone tokens.now) (λ x. Begins x.0 x.1 tokens.now x.2.now) }
+    ensures { MatchOption result (BeginsNone tokens.now) (λ x. BeginsTerm x.0 x.1 tokens.now x.2.now) }
 {
     let (first, rest) = tokens.split_first()?;
     let first = *first;

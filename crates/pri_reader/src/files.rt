@@ -1,7 +1,7 @@
 // The file that bytes are, or why they are none.
 
 ghost use Rattle.pri_reader.specs.Grammar.{IsFile};
-ghost use Rattle.pri_reader.specs.Reading.{Answers, AnswersRefusal, file_setting};
+ghost use Rattle.pri_reader.specs.Reading.{GivesFile, AnswersRefusal, file_setting};
 ghost use Rattle.pri_reader.specs.First.{IsFirstRefusal, Refuses};
 ghost use Rattle.pri_reader.specs.declared.tree.File.{File};
 ghost use Rattle.pri_reader.specs.declared.tree.ReadRefusal.{ReadRefusal};
@@ -20,7 +20,7 @@ use std::alloc::Global;
 pub fn read(alloc: Global, bytes: &[u8]) -> Result<File, ReadRefusal>
     requires { length bytes.now < 2 ^ 32 }
     ensures found { IfOk result (λ file. IsFile (file_setting bytes.now) file (lexemes_of bytes.now)) }
-    ensures only { (file : File) → IsFile (file_setting bytes.now) file (lexemes_of bytes.now) → Answers file result }
+    ensures only { (file : File) → IsFile (file_setting bytes.now) file (lexemes_of bytes.now) → GivesFile file result }
     ensures refused { IfErr result (Refuses (file_setting bytes.now) (length bytes.now) (lexemes_of bytes.now)) }
     ensures refuses { (e : ReadRefusal) → IsFirstRefusal (file_setting bytes.now) (length bytes.now) (lexemes_of bytes.now) e → AnswersRefusal e result }
 {

@@ -1,6 +1,6 @@
 // The first refusal of a file.
 
-ghost use Rattle.pri_reader.specs.First.{AsksNumber, Completes, IsFirstRefusal, Reaches};
+ghost use Rattle.pri_reader.specs.First.{AsksNumber, Completes, IsFirstRefusal, ReachesFrames};
 ghost use Rattle.pri_reader.specs.Grammar.{IsFile, Setting};
 ghost use Rattle.pri_reader.specs.MachineStates.{Frame, Want, a_block};
 ghost use Rattle.pri_reader.specs.Machine.{run};
@@ -12,7 +12,7 @@ ghost use Rattle.std.specs.Prelude.{◌≡◌, ◌↔◌, Err, List, [], ℕ};
 /// Each state that the machine comes to can be completed: some tokens end it in a file, where nothing limits numerals and
 /// levels.
 pub fn completion_law()
-    ensures { (s : Setting) (want : Want) (frames : List Frame) → Reaches s want frames → Completes s want frames }
+    ensures { (s : Setting) (want : Want) (frames : List Frame) → ReachesFrames s want frames → Completes s want frames }
 {}
 
 /// The machine refuses tokens with exactly their first refusal. Tokens have at most one, and exactly those that are no file

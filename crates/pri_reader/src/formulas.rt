@@ -3,7 +3,7 @@
 
 ghost use Rattle.pri_reader.specs.Grammar.{conjunction, disjunction, equivalence, implication};
 ghost use Rattle.pri_reader.specs.MachineStates.{a_binder, a_minus, a_part_bracket, a_unary, under_chain, under_rel, under_right};
-ghost use Rattle.pri_reader.specs.Reading.{IsRead, IsRefused};
+ghost use Rattle.pri_reader.specs.Reading.{IsRead, IsReadRefused};
 ghost use Rattle.std.specs.Prelude.{◌≤◌, ◌<◌, [], IfErr, IfOk, length};
 
 use crate::binders::binder;
@@ -26,7 +26,7 @@ pub fn whole<'a>(
 ) -> Result<(Boxed<Expr>, &'a [Lexeme]), ReadRefusal>
     requires { depth ≤ 200 }
     ensures read { IfOk result (λ x. IsRead bytes.now (a_unary depth) (under_right equivalence depth []) x.0 tokens.now x.1.now) }
-    ensures refused { IfErr result (IsRefused bytes.now (a_unary depth) (under_right equivalence depth []) tokens.now) }
+    ensures refused { IfErr result (IsReadRefused bytes.now (a_unary depth) (under_right equivalence depth []) tokens.now) }
     ensures shorter { IfOk result (λ x. length x.1.now < length tokens.now) }
 {
     let (first, rest) = imp(alloc, bytes, tokens, depth)?;
@@ -51,7 +51,7 @@ fn imp<'a>(
 ) -> Result<(Boxed<Expr>, &'a [Lexeme]), ReadRefusal>
     requires { depth ≤ 200 }
     ensures read { IfOk result (λ x. IsRead bytes.now (a_unary depth) (under_right implication depth []) x.0 tokens.now x.1.now) }
-    ensures refused { IfErr result (IsRefused bytes.now (a_unary depth) (under_right implication depth []) tokens.now) }
+    ensures refused { IfErr result (IsReadRefused bytes.now (a_unary depth) (under_right implication depth []) tokens.now) }
     ensures shorter { IfOk result (λ x. length x.1.now < length tokens.now) }
 {
     let (first, rest) = or(alloc, bytes, tokens, depth)?;
@@ -76,7 +76,7 @@ fn or<'a>(
 ) -> Result<(Boxed<Expr>, &'a [Lexeme]), ReadRefusal>
     requires { depth ≤ 200 }
     ensures read { IfOk result (λ x. IsRead bytes.now (a_unary depth) (under_chain disjunction depth []) x.0 tokens.now x.1.now) }
-    ensures refused { IfErr result (IsRefused bytes.now (a_unary depth) (under_chain disjunction depth []) tokens.now) }
+    ensures refused { IfErr result (IsReadRefused bytes.now (a_unary depth) (under_chain disjunction depth []) tokens.now) }
     ensures shorter { IfOk result (λ x. length x.1.now < length tokens.now) }
 {
     let (first, rest) = and(alloc, bytes, tokens, depth)?;
@@ -108,7 +108,7 @@ fn and<'a>(
 ) -> Result<(Boxed<Expr>, &'a [Lexeme]), ReadRefusal>
     requires { depth ≤ 200 }
     ensures read { IfOk result (λ x. IsRead bytes.now (a_unary depth) (under_chain conjunction depth []) x.0 tokens.now x.1.now) }
-    ensures refused { IfErr result (IsRefused bytes.now (a_unary depth) (under_chain conjunction depth []) tokens.now) }
+    ensures refused { IfErr result (IsReadRefused bytes.now (a_unary depth) (under_chain conjunction depth []) tokens.now) }
     ensures shorter { IfOk result (λ x. length x.1.now < length tokens.now) }
 {
     let (first, rest) = unary(alloc, bytes, tokens, depth)?;
@@ -140,7 +140,7 @@ fn unary<'a>(
 ) -> Result<(Boxed<Expr>, &'a [Lexeme]), ReadRefusal>
     requires { depth ≤ 200 }
     ensures read { IfOk result (λ x. IsRead bytes.now (a_unary depth) [] x.0 tokens.now x.1.now) }
-    ensures refused { IfErr result (IsRefused bytes.now (a_unary depth) [] tokens.now) }
+    ensures refused { IfErr result (IsReadRefused bytes.now (a_unary depth) [] tokens.now) }
     ensures shorter { IfOk result (λ x. length x.1.now < length tokens.now) }
 {
     let Some((prefix, first, inner)) = prefix(tokens) else {
@@ -175,7 +175,7 @@ fn quantified<'a>(
 ) -> Result<(Boxed<Expr>, &'a [Lexeme]), ReadRefusal>
     requires { depth ≤ 200 }
     ensures read { IfOk result (λ x. IsRead bytes.now (a_binder at all depth) [] x.0 tokens.now x.1.now) }
-    ensures refused { IfErr result (IsRefused bytes.now (a_binder at all depth) [] tokens.now) }
+    ensures refused { IfErr result (IsReadRefused bytes.now (a_binder at all depth) [] tokens.now) }
     ensures shorter { IfOk result (λ x. length x.1.now < length tokens.now) }
 {
     let (names, depth, body) = binder(alloc, bytes, tokens, depth)?;
@@ -196,7 +196,7 @@ fn part<'a>(
 ) -> Result<(Boxed<Expr>, &'a [Lexeme]), ReadRefusal>
     requires { depth ≤ 200 }
     ensures read { IfOk result (λ x. IsRead bytes.now (a_part_bracket at depth) [] x.0 tokens.now x.1.now) }
-    ensures refused { IfErr result (IsRefused bytes.now (a_part_bracket at depth) [] tokens.now) }
+    ensures refused { IfErr result (IsReadRefused bytes.now (a_part_bracket at depth) [] tokens.now) }
     ensures shorter { IfOk result (λ x. length x.1.now < length tokens.now) }
 {
     let (_, inner) = sign(bytes, tokens, Terminal::OpenBracket)?;
@@ -219,7 +219,7 @@ fn rel<'a>(
 ) -> Result<(Boxed<Expr>, &'a [Lexeme]), ReadRefusal>
     requires { depth ≤ 200 }
     ensures read { IfOk result (λ x. IsRead bytes.now (a_minus depth) (under_rel depth []) x.0 tokens.now x.1.now) }
-    ensures refused { IfErr result (IsRefused bytes.now (a_minus depth) (under_rel depth []) tokens.now) }
+    ensures refused { IfErr result (IsReadRefused bytes.now (a_minus depth) (under_rel depth []) tokens.now) }
     ensures shorter { IfOk result (λ x. length x.1.now < length tokens.now) }
 {
     let (first, rest) = sum(alloc, bytes, tokens, depth)?;

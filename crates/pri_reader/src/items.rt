@@ -1,7 +1,7 @@
 // Declared functions and predicates: item { `,` item } `;`, item = identifier [ `(` [ arg { `,` arg } ] `)` ], and
 // arg = int [ identifier ].
 
-ghost use Rattle.pri_reader.specs.BlockReading.{MayTake, Passes, Stops, with_items};
+ghost use Rattle.pri_reader.specs.BlockReading.{MayTake, PassesStates, StopsReader, with_items};
 ghost use Rattle.pri_tokens.specs.declared.terminals.Terminal.TheVariants as t;
 ghost use Rattle.pri_reader.specs.MachineStates.{ItemsFor, a_parameter, an_item, an_item_line, behind_item, items_more};
 ghost use Rattle.pri_reader.specs.Machine.{with_item};
@@ -22,8 +22,8 @@ pub fn items<'a>(
     tokens: &'a [Lexeme],
 ) -> Result<(Items<Item>, &'a [Lexeme]), ReadRefusal>
     requires { length tokens.now < 2 ^ 32 }
-    ensures read { IfOk result (λ x. Passes bytes.now tokens.now (λ i. an_item i) x.1.now (λ i. an_item_line (with_items i x.0))) }
-    ensures refused { IfErr result (Stops bytes.now {A = ItemsFor} (λ i. an_item i) tokens.now) }
+    ensures read { IfOk result (λ x. PassesStates bytes.now tokens.now (λ i. an_item i) x.1.now (λ i. an_item_line (with_items i x.0))) }
+    ensures refused { IfErr result (StopsReader bytes.now {A = ItemsFor} (λ i. an_item i) tokens.now) }
     ensures shorter { IfOk result (λ x. length x.1.now < length tokens.now) }
 {
     let mut items = Items::new(alloc);
@@ -47,8 +47,8 @@ fn item<'a>(
     tokens: &'a [Lexeme],
 ) -> Result<(Item, &'a [Lexeme]), ReadRefusal>
     requires { length tokens.now < 2 ^ 32 }
-    ensures read { IfOk result (λ x. Passes bytes.now tokens.now (λ i. an_item i) x.1.now (λ i. items_more (with_item i x.0.name x.0.arity))) }
-    ensures refused { IfErr result (Stops bytes.now {A = ItemsFor} (λ i. an_item i) tokens.now) }
+    ensures read { IfOk result (λ x. PassesStates bytes.now tokens.now (λ i. an_item i) x.1.now (λ i. items_more (with_item i x.0.name x.0.arity))) }
+    ensures refused { IfErr result (StopsReader bytes.now {A = ItemsFor} (λ i. an_item i) tokens.now) }
     ensures shorter { IfOk result (λ x. length x.1.now < length tokens.now) }
 {
     let (identifier, behind) = sign(bytes, tokens, Terminal::Identifier)?;
@@ -61,8 +61,8 @@ fn item<'a>(
 #[tactic(auto, using(crate::proofs::BlockExits::memory, crate::proofs::Exits::shorter))]
 fn arity<'a>(bytes: &[u8], tokens: &'a [Lexeme]) -> Result<(u32, &'a [Lexeme]), ReadRefusal>
     requires { length tokens.now < 2 ^ 32 }
-    ensures read { IfOk result (λ x. Passes bytes.now tokens.now (λ (p : ItemsFor × Name). behind_item p.0 p.1) x.1.now (λ (p : ItemsFor × Name). items_more (with_item p.0 p.1 x.0))) }
-    ensures refused { IfErr result (Stops bytes.now (λ (p : ItemsFor × Name). behind_item p.0 p.1) tokens.now) }
+    ensures read { IfOk result (λ x. PassesStates bytes.now tokens.now (λ (p : ItemsFor × Name). behind_item p.0 p.1) x.1.now (λ (p : ItemsFor × Name). items_more (with_item p.0 p.1 x.0))) }
+    ensures refused { IfErr result (StopsReader bytes.now (λ (p : ItemsFor × Name). behind_item p.0 p.1) tokens.now) }
     ensures shorter { IfOk result (λ x. length x.1.now ≤ length tokens.now) }
 {
     let Some((_, inner)) = after(tokens, Terminal::OpenParenthesis) else {
@@ -79,8 +79,8 @@ fn arity<'a>(bytes: &[u8], tokens: &'a [Lexeme]) -> Result<(u32, &'a [Lexeme]), 
 #[tactic(auto, using(crate::proofs::Exits::shorter))]
 fn parameters<'a>(bytes: &[u8], tokens: &'a [Lexeme]) -> Result<(u32, &'a [Lexeme]), ReadRefusal>
     requires { length tokens.now < 2 ^ 32 }
-    ensures read { IfOk result (λ x. Passes bytes.now tokens.now (λ (p : ItemsFor × Name). a_parameter p.0 p.1 0) x.1.now (λ (p : ItemsFor × Name). items_more (with_item p.0 p.1 x.0))) }
-    ensures refused { IfErr result (Stops bytes.now (λ (p : ItemsFor × Name). a_parameter p.0 p.1 0) tokens.now) }
+    ensures read { IfOk result (λ x. PassesStates bytes.now tokens.now (λ (p : ItemsFor × Name). a_parameter p.0 p.1 0) x.1.now (λ (p : ItemsFor × Name). items_more (with_item p.0 p.1 x.0))) }
+    ensures refused { IfErr result (StopsReader bytes.now (λ (p : ItemsFor × Name). a_parameter p.0 p.1 0) tokens.now) }
     ensures shorter { IfOk result (λ x. length x.1.now < length tokens.now) }
 {
     let mut count: u32 = 0;

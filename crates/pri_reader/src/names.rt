@@ -1,7 +1,7 @@
 // Lists of names: identifier { `,` identifier }
 
 ghost use Rattle.pri_reader.specs.MachineStates.{NamesFor, a_name, names_more};
-ghost use Rattle.pri_reader.specs.BlockReading.{Passes, Stops};
+ghost use Rattle.pri_reader.specs.BlockReading.{PassesStates, StopsReader};
 ghost use Rattle.pri_reader.specs.Reading.{NotNext};
 ghost use Rattle.pri_tokens.specs.declared.terminals.Terminal.TheVariants as t;
 ghost use Rattle.std.specs.Prelude.{◌<◌, [], IfErr, IfOk, length};
@@ -19,8 +19,8 @@ pub fn names<'a>(
     bytes: &[u8],
     tokens: &'a [Lexeme],
 ) -> Result<(Items<Name>, &'a [Lexeme]), ReadRefusal>
-    ensures read { IfOk result (λ x. Passes bytes.now tokens.now (λ for. a_name for []) x.1.now (λ for. names_more for x.0)) }
-    ensures refused { IfErr result (Stops bytes.now {A = NamesFor} (λ for. a_name for []) tokens.now) }
+    ensures read { IfOk result (λ x. PassesStates bytes.now tokens.now (λ for. a_name for []) x.1.now (λ for. names_more for x.0)) }
+    ensures refused { IfErr result (StopsReader bytes.now {A = NamesFor} (λ for. a_name for []) tokens.now) }
     ensures ended { IfOk result (λ x. NotNext t.Comma x.1.now) }
     ensures shorter { IfOk result (λ x. length x.1.now < length tokens.now) }
 {

@@ -2,7 +2,7 @@
 
 ghost use Rattle.pri_reader.specs.Grammar.{equivalence, expr, paired};
 ghost use Rattle.pri_reader.specs.MachineStates.{a_minus, a_pair, a_parenthesis, a_unary, arguments_of, behind_name, test_of, under_product, under_right, under_sum};
-ghost use Rattle.pri_reader.specs.Reading.{IsRead, IsRefused};
+ghost use Rattle.pri_reader.specs.Reading.{IsRead, IsReadRefused};
 ghost use Rattle.std.specs.Prelude.{◌≡◌, ℕ, ◌≤◌, ◌<◌, ◌∷◌, [], IfErr, IfOk, length};
 
 use crate::classes::Opening;
@@ -24,7 +24,7 @@ pub fn sum<'a>(
 ) -> Result<(Boxed<Expr>, &'a [Lexeme]), ReadRefusal>
     requires { depth ≤ 200 }
     ensures read { IfOk result (λ x. IsRead bytes.now (a_minus depth) (under_sum depth []) x.0 tokens.now x.1.now) }
-    ensures refused { IfErr result (IsRefused bytes.now (a_minus depth) (under_sum depth []) tokens.now) }
+    ensures refused { IfErr result (IsReadRefused bytes.now (a_minus depth) (under_sum depth []) tokens.now) }
     ensures shorter { IfOk result (λ x. length x.1.now < length tokens.now) }
 {
     let (first, rest) = product(alloc, bytes, tokens, depth)?;
@@ -57,7 +57,7 @@ fn product<'a>(
 ) -> Result<(Boxed<Expr>, &'a [Lexeme]), ReadRefusal>
     requires { depth ≤ 200 }
     ensures read { IfOk result (λ x. IsRead bytes.now (a_minus depth) (under_product depth []) x.0 tokens.now x.1.now) }
-    ensures refused { IfErr result (IsRefused bytes.now (a_minus depth) (under_product depth []) tokens.now) }
+    ensures refused { IfErr result (IsReadRefused bytes.now (a_minus depth) (under_product depth []) tokens.now) }
     ensures shorter { IfOk result (λ x. length x.1.now < length tokens.now) }
 {
     let (first, rest) = factor(alloc, bytes, tokens, depth)?;
@@ -82,7 +82,7 @@ fn factor<'a>(
 ) -> Result<(Boxed<Expr>, &'a [Lexeme]), ReadRefusal>
     requires { depth ≤ 200 }
     ensures read { IfOk result (λ x. IsRead bytes.now (a_minus depth) [] x.0 tokens.now x.1.now) }
-    ensures refused { IfErr result (IsRefused bytes.now (a_minus depth) [] tokens.now) }
+    ensures refused { IfErr result (IsReadRefused bytes.now (a_minus depth) [] tokens.now) }
     ensures shorter { IfOk result (λ x. length x.1.now < length tokens.now) }
 {
     let Some((opening, first, inner)) = opening(tokens) else {
@@ -138,7 +138,7 @@ fn application<'a>(
 ) -> Result<(Boxed<Expr>, &'a [Lexeme]), ReadRefusal>
     requires { depth ≤ 200 }
     ensures read { IfOk result (λ x. IsRead bytes.now (behind_name name depth) [] x.0 tokens.now x.1.now) }
-    ensures refused { IfErr result (IsRefused bytes.now (behind_name name depth) [] tokens.now) }
+    ensures refused { IfErr result (IsReadRefused bytes.now (behind_name name depth) [] tokens.now) }
     ensures shorter { IfOk result (λ x. length x.1.now ≤ length tokens.now) }
 {
     let at = name.at;
@@ -166,7 +166,7 @@ fn arguments<'a>(
 ) -> Result<(Boxed<Expr>, &'a [Lexeme]), ReadRefusal>
     requires { depth ≤ 200 }
     ensures read { IfOk result (λ x. IsRead bytes.now (a_unary depth) (under_right equivalence depth (arguments_of name depth [] ∷ [])) x.0 tokens.now x.1.now) }
-    ensures refused { IfErr result (IsRefused bytes.now (a_unary depth) (under_right equivalence depth (arguments_of name depth [] ∷ [])) tokens.now) }
+    ensures refused { IfErr result (IsReadRefused bytes.now (a_unary depth) (under_right equivalence depth (arguments_of name depth [] ∷ [])) tokens.now) }
     ensures shorter { IfOk result (λ x. length x.1.now < length tokens.now) }
 {
     let mut list = Items::new(alloc);
@@ -196,7 +196,7 @@ fn conditional<'a>(
 ) -> Result<(Boxed<Expr>, &'a [Lexeme]), ReadRefusal>
     requires { depth ≤ 200 }
     ensures read { IfOk result (λ x. IsRead bytes.now (a_parenthesis depth) (test_of at depth ∷ []) x.0 tokens.now x.1.now) }
-    ensures refused { IfErr result (IsRefused bytes.now (a_parenthesis depth) (test_of at depth ∷ []) tokens.now) }
+    ensures refused { IfErr result (IsReadRefused bytes.now (a_parenthesis depth) (test_of at depth ∷ []) tokens.now) }
     ensures shorter { IfOk result (λ x. length x.1.now < length tokens.now) }
 {
     let (test, rest) = parenthesis(alloc, bytes, tokens, depth)?;
@@ -221,7 +221,7 @@ fn pair<'a>(
 ) -> Result<(Boxed<Expr>, &'a [Lexeme]), ReadRefusal>
     requires { depth ≤ 200 }
     ensures read { IfOk result (λ x. IsRead bytes.now (a_pair max at depth) [] x.0 tokens.now x.1.now) }
-    ensures refused { IfErr result (IsRefused bytes.now (a_pair max at depth) [] tokens.now) }
+    ensures refused { IfErr result (IsReadRefused bytes.now (a_pair max at depth) [] tokens.now) }
     ensures shorter { IfOk result (λ x. length x.1.now < length tokens.now) }
 {
     let (open, inner) = sign(bytes, tokens, Terminal::OpenParenthesis)?;
@@ -245,7 +245,7 @@ fn parenthesis<'a>(
 ) -> Result<(Boxed<Expr>, &'a [Lexeme]), ReadRefusal>
     requires { depth ≤ 200 }
     ensures read { IfOk result (λ x. IsRead bytes.now (a_parenthesis depth) [] x.0 tokens.now x.1.now) }
-    ensures refused { IfErr result (IsRefused bytes.now (a_parenthesis depth) [] tokens.now) }
+    ensures refused { IfErr result (IsReadRefused bytes.now (a_parenthesis depth) [] tokens.now) }
     ensures shorter { IfOk result (λ x. length x.1.now < length tokens.now) }
 {
     let (open, inner) = sign(bytes, tokens, Terminal::OpenParenthesis)?;

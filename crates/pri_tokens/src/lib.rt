@@ -8,7 +8,7 @@ mod scanner;
 mod spellings;
 mod terminals;
 
-pub use laws::{spelling_law, tokens_law};
+pub use laws::{decimal_law, spelling_law, tokens_law};
 pub use numerals::{numeral, spelling};
 pub use scanner::{lexemes, tokens};
 pub use terminals::{Lexeme, Terminal, Token, TokenKind, kind_of};

@@ -10,7 +10,7 @@ use Rattle.typed_formula.specs.declared.typed.Typed.{Typed}
 use Rattle.typed_formula.specs.declared.typed.TypedTerm.{TypedTerm}
 use Rattle.pri_typing.specs.declared.scope.Site.{Site}
 use Rattle.pri_typing.specs.Sites.{bound_texts, most_bound}
-use Rattle.pri_typing.specs.Files.{most_symbols}
+use Rattle.limits.specs.Limits.{most_symbols}
 use Rattle.pri_typing.specs.Limits.{IsShallow, AreShallow, AddendsAreShallow, IsReady, AreReady, AddendsAreReady, IsReadyUnder}
 use Rattle.pri_typing.proofs.Scopes.{length-bind}
 use Rattle.pri_typing.specs.Phrase.{Phrase, phrase, phrases_of, addend, addends_of}

@@ -10,7 +10,8 @@ use Rattle.pri_typing.specs.declared.declaration.Kind.TheVariants.{Existential, 
 use Rattle.pri_typing.specs.declared.declaration.Declaration.{Declaration}
 use Rattle.texts.specs.Texts.{is_among}
 use Rattle.pri_typing.specs.Scope.{existentials, universals, functions, predicates, declaration, function_kind, declared_by, declarations}
-use Rattle.pri_typing.specs.Files.{declaration_faults, own_faults, most_symbols}
+use Rattle.limits.specs.Limits.{most_symbols}
+use Rattle.pri_typing.specs.Files.{declaration_faults, own_faults}
 use Rattle.pri_typing.proofs.Referents.{IsProperKind, AreProper}
 use Rattle.pri_typing.proofs.WellFormed.{nil_cons, nil_split}
 

@@ -10,7 +10,8 @@ use Rattle.pri_typing.specs.declared.declaration.Kind.TheVariants.{Existential, 
 use Rattle.pri_typing.specs.declared.declaration.Declaration.{Declaration}
 use Rattle.texts.specs.Texts.{is_text, is_among}
 use Rattle.pri_typing.specs.Scope.{existentials, universals, functions, predicates}
-use Rattle.pri_typing.specs.Files.{declaration_faults, own_faults, most_symbols}
+use Rattle.limits.specs.Limits.{most_symbols}
+use Rattle.pri_typing.specs.Files.{declaration_faults, own_faults}
 use Rattle.pri_typing.specs.WellFormed.{names_of_symbols}
 use Rattle.pri_typing.proofs.WellFormed.{nil_cons, nil_split}
 use Rattle.pri_typing.proofs.Distinct.{AreOnce, among-append, or_none, once_behind, text_other}

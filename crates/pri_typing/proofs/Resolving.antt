@@ -15,7 +15,8 @@ use Rattle.pri_typing.specs.Sites.{bound_texts, scope_at}
 use Rattle.pri_typing.specs.Faults.{least, earlier, faults}
 use Rattle.pri_typing.specs.Typing.{says, applications, first_of, part_names}
 use Rattle.pri_typing.specs.Parts.{is_cut, formula_faults, block_faults, cuts_in}
-use Rattle.pri_typing.specs.Files.{most_symbols, own_faults, declaration_faults, has_existential, parts_faults, problem_of, scope_of, file_faults, IsTyped}
+use Rattle.limits.specs.Limits.{most_symbols}
+use Rattle.pri_typing.specs.Files.{own_faults, declaration_faults, has_existential, parts_faults, problem_of, scope_of, file_faults, IsTyped}
 use Rattle.pri_typing.specs.Limits.{IsResolvable, IsReady, IsShallow}
 use Rattle.pri_typing.specs.Posed.{IsPosed}
 use Rattle.pri_typing.proofs.Least.{least-append, least-none}

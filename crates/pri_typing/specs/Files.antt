@@ -1,6 +1,7 @@
 -- The problem that a file poses, and all its faults.
 use Rattle.std.specs.Prelude.{ℕ, ◌≡◌, Bool, true, List, [], ◌∷◌, ◌++◌, length, map, nat_eq, nat_lt, if◌then◌else◌}
 use Rattle.std.specs.List.{flat_map, list_any}
+use Rattle.limits.specs.Limits.{most_symbols}
 use Rattle.pri_reader.specs.declared.tree.Block.{Block}
 use Rattle.pri_reader.specs.declared.tree.Block.TheVariants as block
 use Rattle.pri_reader.specs.declared.tree.File.{File}
@@ -19,10 +20,6 @@ use Rattle.pri_typing.specs.Faults.{faults}
 use Rattle.pri_typing.specs.Parts.{formula_faults, block_faults, is_cut, cuts_in}
 use Rattle.pri_typing.specs.Sorts.{existential_sorts, universal_sorts}
 use Rattle.pri_typing.specs.Typing.{says, applications, first_of, part_names}
-
--- the most symbols that a file may declare
-abbrev pub most_symbols : ℕ
-most_symbols = 1000
 
 -- the faults of a declaration behind so many others, of a name that one of them declares or not
 abbrev pub own_faults : Bool → ℕ → ℕ → List TypeRefusal

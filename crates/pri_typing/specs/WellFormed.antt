@@ -10,7 +10,7 @@ use Rattle.pri_typing.specs.declared.problem.Problem.{Problem}
 use Rattle.pri_typing.specs.declared.problem.Symbol.{Symbol}
 use Rattle.pri_typing.specs.declared.problem.Cut.{Cut}
 use Rattle.pri_typing.specs.Everywhere.{Property, Everywhere}
-use Rattle.pri_typing.specs.Files.{most_symbols}
+use Rattle.limits.specs.Limits.{most_symbols}
 use Rattle.texts.specs.Texts.{is_text}
 
 -- Numbers, names, applications, sums, products and parts.

@@ -1,5 +1,6 @@
 // The term that an expression is where some constants alone are declared.
 
+ghost use Rattle.limits.specs.Limits.{most_constants};
 ghost use Rattle.pri_typing.specs.Limits.{IsShallow};
 ghost use Rattle.pri_typing.specs.Phrase.{phrase};
 ghost use Rattle.pri_typing.specs.Problems.{unplaced};
@@ -49,7 +50,7 @@ pub fn resolve_term(
     constants: &[Items<u8>],
     expr: &Expr,
 ) -> Result<Option<TypedTerm>, Memory>
-    requires few { length constants.now ≤ 1000 }
+    requires few { length constants.now ≤ most_constants }
     requires shallow { IsShallow 0 (phrase expr.now) }
     ensures { IfOk result (IsTypedTerm constants.now (phrase expr.now)) }
 {

@@ -9,21 +9,20 @@ ghost use Rattle.pri_typing.specs.Symbols.{entry_at, first_entry, listed, IsList
 ghost use Rattle.pri_typing.specs.Scope.{constants, declared_from, function_kind, symbol_of};
 ghost use Rattle.std.specs.Option.{IfSome};
 ghost use Rattle.pri_typing.specs.Faults.{least};
-ghost use Rattle.pri_typing.specs.Files.{declaration_faults, has_existential, most_symbols, own_faults};
+ghost use Rattle.limits.specs.Limits.{most_symbols};
+ghost use Rattle.pri_typing.specs.Files.{declaration_faults, has_existential, own_faults};
 
 use crate::declaration::{Declaration, Kind};
 use crate::problem::{Symbol, TypeRefusal};
 use crate::refusals::earlier_of;
 use crate::scope::Referent;
 use indexmap::IndexMap;
+use limits::MOST_SYMBOLS;
 use linear_term::Memory;
 use pri_reader::{Block, Declared, Item, Name};
 use sqlite_items::Items;
 use std::alloc::{AllocError, Global};
 use std::marker::Model;
-
-/// The most symbols that a file may declare.
-const MOST_SYMBOLS: usize = 1000;
 
 /// A symbol: what it is declared as, and its number among the symbols of its kind.
 #[derive(Clone, Copy, Debug, PartialEq, Eq)]

@@ -3,7 +3,7 @@
 ghost use Rattle.std.specs.Prelude.{◌≡◌, ◌<◌, All, IfOk, IfSome, length, true};
 ghost use Rattle.clause_set.specs.Literals.{HasDivisor};
 ghost use Rattle.linear_term.specs.Range.{InRange};
-ghost use Rattle.pri_printer.specs.Names.{ClauseNames, DnfNames, IsBelow, PairNames};
+ghost use Rattle.pri_printer.specs.Names.{ClauseNames, DnfNames, IsVariableBelow, PairNames};
 ghost use Rattle.pri_printer.specs.Printed.{constants_of};
 ghost use Rattle.pri_typing.specs.WellFormed.{HasDistinctNames, HasIdentifiers, IsWellFormed};
 
@@ -123,7 +123,7 @@ fn is_constant(p: &Problem, name: u32) -> bool
 }
 
 fn are_constants(p: &Problem, pairs: &[(u32, i128)]) -> bool
-    ensures { result ≡ true → PairNames (IsBelow (length (constants_of p.now))) pairs.now }
+    ensures { result ≡ true → PairNames (IsVariableBelow (length (constants_of p.now))) pairs.now }
 {
     for pair in pairs {
         if !is_constant(p, pair.0) {
@@ -134,7 +134,7 @@ fn are_constants(p: &Problem, pairs: &[(u32, i128)]) -> bool
 }
 
 fn is_clause_of(p: &Problem, literals: &[Literal]) -> bool
-    ensures { result ≡ true → ClauseNames (IsBelow (length (constants_of p.now))) literals.now }
+    ensures { result ≡ true → ClauseNames (IsVariableBelow (length (constants_of p.now))) literals.now }
 {
     for l in literals {
         if !are_constants(p, l.term().pairs()) {
@@ -145,7 +145,7 @@ fn is_clause_of(p: &Problem, literals: &[Literal]) -> bool
 }
 
 fn is_over_constants(p: &Problem, clauses: &[Clause]) -> bool
-    ensures { result ≡ true → DnfNames (IsBelow (length (constants_of p.now))) clauses.now }
+    ensures { result ≡ true → DnfNames (IsVariableBelow (length (constants_of p.now))) clauses.now }
 {
     for c in clauses {
         if !is_clause_of(p, c.literals()) {

@@ -5,3 +5,4 @@ pub mod Encoded
 mod Existing
 pub mod Naming
 pub mod Reduced
+pub mod Sizes

@@ -15,7 +15,7 @@ use Rattle.formula.specs.Reduced.{HasReducedTerms, HaveReducedTerms}
 use Rattle.pri_typing.specs.declared.problem.Problem.{Problem}
 use Rattle.pri_typing.specs.Problems.{assumed_by}
 use Rattle.pri_typing.specs.WellFormed.{is_numeric}
-use Rattle.encoding.specs.Encoding.{named, multiple, related, signed_relation, product_of, junction, quantified, Bound, least, greatest, bounds, inequality, within, outside, limits, restricted, bound_by, cases, encoded, all_encoded, with_value, with_values, with_sum, with_more}
+use Rattle.encoding.specs.Encoding.{named, multiple, related, signed_relation, product_of, junction, quantified, SortBound, least, greatest, bounds, inequality, within, outside, limits, restricted, bound_by, cases, encoded, all_encoded, with_value, with_values, with_sum, with_more}
 use Rattle.typed_formula.specs.declared.typed.Sort.{Sort}
 use Rattle.encoding.specs.Occurrences.{occurs}
 use Rattle.encoding.specs.Problems.{append, body, parts_root, problem_root, constants, types}
@@ -64,7 +64,7 @@ inequality_reduced : (k m : ℤ) (x : ℕ) (t : Linear) → IsReduced t → HasR
 unfolding next just step
 inequality_reduced k m x t h = reduced-combination k m (linear.name x) t (name_reduced x) h
 
-limit_reduced : (all : Bool) (x : ℕ) (b : Bound) → HasReducedTerms (cond all (outside x b) (within x b)).value
+limit_reduced : (all : Bool) (x : ℕ) (b : SortBound) → HasReducedTerms (cond all (outside x b) (within x b)).value
 unfolding next just step
 limit_reduced true x (least n) =
     inequality_reduced (negsuc 0) (pos 1) x _ (reduced-combination (pos 1) (negsuc 0) (linear.number n) (linear.number (pos 1)) (number_reduced n) (number_reduced (pos 1)))
@@ -73,12 +73,12 @@ limit_reduced true x (greatest n) =
 limit_reduced false x (least n) = inequality_reduced (pos 1) (negsuc 0) x (linear.number n) (number_reduced n)
 limit_reduced false x (greatest n) = inequality_reduced (negsuc 0) (pos 1) x (linear.number n) (number_reduced n)
 
-limits_reduced : (all : Bool) (x : ℕ) (bs : List Bound) (gs : List Form) → HaveReducedTerms (forms gs) → HaveReducedTerms (forms ((limits all x bs).value ++ gs))
+limits_reduced : (all : Bool) (x : ℕ) (bs : List SortBound) (gs : List Form) → HaveReducedTerms (forms gs) → HaveReducedTerms (forms ((limits all x bs).value ++ gs))
 unfolding next just
 limits_reduced all x [] gs h = h
 limits_reduced all x (b ∷ bs) gs h = (limit_reduced all x b, limits_reduced all x bs gs h)
 
-restricted_reduced : (all : Bool) (x : ℕ) (bs : List Bound) (g : Form) → HasReducedTerms g → HasReducedTerms (restricted all (limits all x bs).value g)
+restricted_reduced : (all : Bool) (x : ℕ) (bs : List SortBound) (g : Form) → HasReducedTerms g → HasReducedTerms (restricted all (limits all x bs).value g)
 unfolding next just
 restricted_reduced all x [] g h = h
 restricted_reduced true x (b ∷ bs) g h = limits_reduced true x (b ∷ bs) (g ∷ []) (h, tt)

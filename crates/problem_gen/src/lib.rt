@@ -1,6 +1,7 @@
 // Large valid problems, made from a number: what `drill` proves.
 #![tactic(auto)]
 
+ghost use Rattle.limits.specs.Limits.{most_count};
 ghost use Rattle.problem_gen.specs.Drills.{conjunct_text, drill_text};
 ghost use Rattle.std.specs.Fmt.{decimal};
 ghost use Rattle.std.specs.Prelude.{◌≡◌, ◌++◌, ◌<◌, ◌≤◌, ◌^◌, length, IfOk, OnOk};
@@ -12,7 +13,7 @@ use std::alloc::Global;
 /// from x to x + 2 comes from i to i + 4. It is valid.
 #[tactic(auto, using(crate::proofs::Sizes::drill_size))]
 pub fn drill(alloc: Global, n: u32) -> Result<Vec<u8>, Memory>
-    requires { n ≤ 1000 }
+    requires { n ≤ most_count }
     ensures text { IfOk result (λ text. text.items ≡ drill_text n) }
     ensures short { IfOk result (λ text. length text.items < 2 ^ 32) }
 {
@@ -29,7 +30,7 @@ pub fn drill(alloc: Global, n: u32) -> Result<Vec<u8>, Memory>
 
 /// One conjunct, behind a text.
 fn put_conjunct(alloc: Global, i: u32, text: &mut Vec<u8>) -> Result<(), Memory>
-    requires { i ≤ 1000 }
+    requires { i ≤ most_count }
     ensures { OnOk result (text.new.items ≡ text.old.items ++ conjunct_text i) }
 {
     put_number(alloc, b"(p(", i, text)?;

@@ -1,9 +1,9 @@
 // Where single lines are refused: the offset of the first token with which no such line goes on.
 
-use given_text::{given, given_law};
-use proof_text::{Refusal, charges, charges_law, part_law, said_law, values_law, written_law};
+use given_line::{given, given_law};
+use proof_line::{end_line, log_line};
+use proof_tokens::{Refusal, charges, charges_law, part_law, said_law, values_law, written_law};
 use std::alloc::{AllocError, Global};
-use tree_lines::{end_line, log_line};
 
 // The place of a refusal in a text; 1,000 for want of memory.
 fn place(text: &str, refusal: Refusal) -> usize {

@@ -1,8 +1,8 @@
 // Whole texts: which are proofs, and where others are refused.
 
+use proof_grammar::check_text;
+use proof_line::Fault;
 use std::alloc::{AllocError, Global};
-use tree_lines::Fault;
-use tree_text::check_text;
 
 /// What a text is: a proof for so many charges, or refused at a place.
 #[derive(Clone, Copy, Debug, PartialEq, Eq)]

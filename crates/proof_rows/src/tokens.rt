@@ -1,6 +1,6 @@
 // How long the first token of a text is.
 
-use proof_text::{cutting_law, first_piece, spelling_law};
+use proof_tokens::{cutting_law, first_piece, spelling_law};
 use std::alloc::AllocError;
 
 // The length of the first token, 0 where there is none.

@@ -5,7 +5,7 @@ use Rattle.linear_term.specs.Linear.{Linear, IsReduced}
 use Rattle.linear_term.proofs.Names.{reduced-combination}
 use Rattle.purse.specs.Trace.{just, step, next, each}
 use Rattle.formula.specs.Form.{Form, equal, unequal, at_least, holds, fails, differs, conjunction, disjunction, universal, existential, forms, is_pure}
-use Rattle.elim_rules.specs.Presburger.{IsPresburger}
+use Rattle.elim_laws.specs.Presburger.{IsPresburger}
 use Rattle.sequent.specs.Sequent.{Member, Sequent}
 use Rattle.sequent.specs.Rules.{brought}
 use Rattle.sequent.proofs.Members.{all_append}
@@ -14,7 +14,7 @@ use Rattle.pred_unify.proofs.Clashes.{each_all, cond_all}
 use Rattle.pred_unify.proofs.Pures.{closing_pure}
 use Rattle.formula.specs.Reduced.{HasReducedTerms, HaveReducedTerms}
 use Rattle.proof_tree.specs.Reduced.{IsReducedSequent}
-use Rattle.elim_rules.proofs.Reduced.{presburger_of}
+use Rattle.elim_laws.proofs.Reduced.{presburger_of}
 use Rattle.proof_tree.proofs.Premises.{shifted_reduced, IsReducedMember}
 
 forms_reduced : (fs : List Form) → AllByRecursion HasReducedTerms fs → HaveReducedTerms (forms fs)

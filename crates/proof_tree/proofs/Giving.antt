@@ -9,7 +9,7 @@ use Rattle.clause_set.specs.Literals.{dnf_truth}
 use Rattle.sequent.specs.declared.member.Pick.{Pick}
 use Rattle.sequent.specs.Covers.{Covers, AreCovered}
 use Rattle.sequent.specs.Rules.{place, premises_at, premises_by}
-use Rattle.sequent.specs.Sequent.{Member, Sequent, IsWellFormed}
+use Rattle.sequent.specs.Sequent.{Member, Sequent, IsFormedSequent}
 use Rattle.sequent.proofs.Covering.{row_covers}
 use Rattle.sequent.proofs.Forming.{premises_formed}
 use Rattle.pred_unify.proofs.Clashes.{closing_true}
@@ -20,13 +20,13 @@ use Rattle.proof_tree.specs.Rules.{constraint_by}
 use Rattle.proof_tree.specs.Says.{IsConstraint, TruthAt, TruthBy}
 use Rattle.proof_tree.proofs.Premises.{reduced_by}
 use Rattle.proof_tree.proofs.Yielding.{rule_yields}
-use Rattle.elim_rules.proofs.Wholes.{whole_yields}
+use Rattle.elim_laws.proofs.Wholes.{whole_yields}
 
-formed_at : (s : Sequent) (i : ℕ) (o : Option Member) → IsWellFormed s → slice_get s.members i ≡ o → AllByRecursion IsWellFormed (premises_at s i o)
+formed_at : (s : Sequent) (i : ℕ) (o : Option Member) → IsFormedSequent s → slice_get s.members i ≡ o → AllByRecursion IsFormedSequent (premises_at s i o)
 formed_at s i None formed is = tt
 formed_at s i (Some m) formed is = premises_formed s i m formed is
 
-pub formed_by : (s : Sequent) (o : Option ℕ) → IsWellFormed s → AllByRecursion IsWellFormed (premises_by s o)
+pub formed_by : (s : Sequent) (o : Option ℕ) → IsFormedSequent s → AllByRecursion IsFormedSequent (premises_by s o)
 formed_by s None formed = tt
 formed_by s (Some i) formed = formed_at s i (slice_get s.members i) formed refl
 
@@ -56,23 +56,23 @@ constraint_is s p ns log d r g =
     whole_yields (constraint_by s p (all_given ns)) (IsConstraint s (place p) (truths (all_given ns)))
     (rule_yields s p (all_given ns) r g.0 (nodes_formed (premises_by s (place p)) ns (reduced_by s (place p) r) g.1) (given_length (premises_by s (place p)) ns g.1)) log d g.2
 
-covers_at : (w : Meaning) (s : Sequent) (i : ℕ) (o : Option Member) (ds : List (List ℤ → Bool)) (d : List ℤ → Bool) → IsWellFormed s → slice_get s.members i ≡ o
+covers_at : (w : Meaning) (s : Sequent) (i : ℕ) (o : Option Member) (ds : List (List ℤ → Bool)) (d : List ℤ → Bool) → IsFormedSequent s → slice_get s.members i ≡ o
     → AreCovered w (premises_at s i o) ds → ((e : List ℤ) → length e ≡ s.count → d e ≡ true → TruthAt o ds e) → Covers w d s
 covers_at w s i None ds d formed is c says = λ e len t. absurd (says e len t)
 covers_at w s i (Some m) ds d formed is c says = λ e len t. row_covers w s i m ds formed is c e len (says e len t)
 
-covers_by : (w : Meaning) (s : Sequent) (o : Option ℕ) (ds : List (List ℤ → Bool)) (d : List ℤ → Bool) → IsWellFormed s
+covers_by : (w : Meaning) (s : Sequent) (o : Option ℕ) (ds : List (List ℤ → Bool)) (d : List ℤ → Bool) → IsFormedSequent s
     → AreCovered w (premises_by s o) ds → ((e : List ℤ) → length e ≡ s.count → d e ≡ true → TruthBy s o ds e) → Covers w d s
 covers_by w s None ds d formed c says = λ e len t. closing_true w s e formed len (says e len t w)
 covers_by w s (Some i) ds d formed c says = covers_at w s i (slice_get s.members i) ds d formed refl c says
 
 mutual
-  pub node_covers : (w : Meaning) (s : Sequent) (n : Proof) → IsWellFormed s → IsReducedSequent s → Gives s n → Covers w (dnf_truth (given n)) s
+  pub node_covers : (w : Meaning) (s : Sequent) (n : Proof) → IsFormedSequent s → IsReducedSequent s → Gives s n → Covers w (dnf_truth (given n)) s
   node_covers w s (node p ns log d) formed r g =
       covers_by w s (place p) (truths (all_given ns)) (dnf_truth d) formed (nodes_cover w (premises_by s (place p)) ns (formed_by s (place p) formed) (reduced_by s (place p) r) g.1)
       (constraint_is s p ns log d r g).yes
 
-  pub nodes_cover : (w : Meaning) (ss : List Sequent) (ns : Proofs) → AllByRecursion IsWellFormed ss → AllByRecursion IsReducedSequent ss → AreGiven ss ns → AreCovered w ss (truths (all_given ns))
+  pub nodes_cover : (w : Meaning) (ss : List Sequent) (ns : Proofs) → AllByRecursion IsFormedSequent ss → AllByRecursion IsReducedSequent ss → AreGiven ss ns → AreCovered w ss (truths (all_given ns))
   nodes_cover w [] no_proof formed r g = tt
   nodes_cover w [] (and_proof n ns) formed r g = absurd g
   nodes_cover w (s ∷ ss) no_proof formed r g = absurd g

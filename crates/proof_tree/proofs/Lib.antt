@@ -6,3 +6,7 @@ pub mod Denying
 pub mod Walking
 pub mod Proving
 pub mod Knowing
+pub mod Clauses
+mod Outs
+mod Overs
+pub mod Given

@@ -16,20 +16,20 @@ use Rattle.clause_set.specs.Literals.{IsLiteral, dnf_truth}
 use Rattle.formula.specs.Form.{Form, FormTruth, IsFormOver, is_pure, equal, unequal, at_least, holds, fails, differs, conjunction, disjunction, universal, existential, no_form, and_form}
 use Rattle.formula.proofs.Anywhere.{truth_anywhere}
 use Rattle.formula.proofs.Stability.{form_stable}
-use Rattle.elim_rules.specs.Logs.{by_whole_log, names_by_log}
-use Rattle.elim_rules.specs.Whole.{IsSatisfied}
-use Rattle.elim_rules.proofs.Forms.{formed-literals}
-use Rattle.elim_rules.proofs.Satisfied.{names_yield}
-use Rattle.equation_rules.proofs.Lists.{kept-weaker}
+use Rattle.elim_laws.specs.Logs.{by_whole_log, names_by_log}
+use Rattle.elim_laws.specs.Whole.{HasSolution}
+use Rattle.elim_laws.proofs.Forms.{formed-literals}
+use Rattle.elim_laws.proofs.Satisfied.{names_yield}
+use Rattle.equation_laws.proofs.Lists.{kept-weaker}
 use Rattle.sequent.specs.declared.member.Shape.TheVariants.{Trivial}
 use Rattle.sequent.specs.declared.member.Pick.{Pick}
 use Rattle.sequent.specs.declared.member.Pick.TheVariants as pick
 use Rattle.sequent.specs.Leaf.{is_leaf}
 use Rattle.sequent.specs.Rules.{applies, is_shape, premises_at, shape_of}
-use Rattle.sequent.specs.Sequent.{Member, Sequent, AreFalse, IsWellFormed}
+use Rattle.sequent.specs.Sequent.{Member, Sequent, AreFalse, IsFormedSequent}
 use Rattle.sequent.proofs.Forming.{start_formed}
-use Rattle.solution_rules.specs.Solutions.{valued_clause}
-use Rattle.solution_rules.proofs.Solving.{put-formed, put-truth}
+use Rattle.solution_laws.specs.Solutions.{valued_clause}
+use Rattle.solution_laws.proofs.Solving.{put-formed, put-truth}
 use Rattle.proof_tree.specs.declared.node.Conclusion.{Conclusion}
 use Rattle.proof_tree.specs.declared.node.Conclusion.TheVariants.{Solution, Nothing}
 use Rattle.proof_tree.specs.declared.run.Verdict.{Verdict}
@@ -44,7 +44,7 @@ use Rattle.proof_tree.specs.Walk.{is_same, on_some}
 use Rattle.proof_tree.proofs.Denying.{node_tight}
 use Rattle.proof_tree.proofs.Giving.{node_covers, node_formed}
 use Rattle.proof_tree.proofs.Walking.{same_so, some_cond, some_then, value-cond, value-on_some}
-use Rattle.elim_rules.proofs.Wholes.{whole_yields}
+use Rattle.elim_laws.proofs.Wholes.{whole_yields}
 
 -- ---- values put into a constraint
 -- the last values first
@@ -135,7 +135,7 @@ concluded_valid f n p (Nothing log) d vs h e =
     (sym (value-on_some (λ r. just (verdict_if (is_same r []) Invalid)) (by_whole_log (names_by_log n d) log.entries).value) ∙ a.1) in
     absurd (not_valid (is_same (b.0) []) vs b.2)
 
-none_satisfied : (n : ℕ) (d r : List (List Literal)) → is_same r [] ≡ true → (IsSatisfied d n ↔ (dnf_truth r [] ≡ true)) → (e : List ℤ) → length e ≡ n → dnf_truth d e ≡ false
+none_satisfied : (n : ℕ) (d r : List (List Literal)) → is_same r [] ≡ true → (HasSolution d n ↔ (dnf_truth r [] ≡ true)) → (e : List ℤ) → length e ≡ n → dnf_truth d e ≡ false
 none_satisfied n d r same s e l = by (dnf_truth d e) refl
   where
     by : (b : Bool) → dnf_truth d e ≡ b → b ≡ false
@@ -154,7 +154,7 @@ concluded_invalid f n p (Nothing log) d h e =
     let b = some_then (by_whole_log (names_by_log n d) log.entries).value (λ r. verdict_if (is_same r []) Invalid) Invalid
     (sym (value-on_some (λ r. just (verdict_if (is_same r []) Invalid)) (by_whole_log (names_by_log n d) log.entries).value) ∙ a.1) in
     let two = both_true (is_pure f) (is_root_rule p) a.0 in
-    let y = whole_yields (names_by_log n d) (λ r. IsSatisfied d n ↔ (dnf_truth r [] ≡ true)) (names_yield n d h) log.entries (b.0) b.1 in
+    let y = whole_yields (names_by_log n d) (λ r. HasSolution d n ↔ (dnf_truth r [] ≡ true)) (names_yield n d h) log.entries (b.0) b.1 in
     (two.0, two.1, none_satisfied n d (b.0) (invalid_is (is_same (b.0) []) b.2) y)
 
 -- ---- the root

@@ -12,7 +12,7 @@ use Rattle.purse.specs.Trace.{Traced, just, step, next, pay, note}
 use Rattle.clause_set.specs.declared.literal.Literal.{Literal}
 use Rattle.clause_set.specs.Order.{clause_cmp}
 use Rattle.clause_set.specs.Total.{clause_cmp-equal, clause_cmp-total}
-use Rattle.elim_rules.specs.Logs.{Reader, by_whole_log, reads_none, used_up}
+use Rattle.elim_laws.specs.Logs.{Reader, by_whole_log, reads_none, used_up}
 use Rattle.sequent.specs.declared.member.Pick.{Pick}
 use Rattle.sequent.specs.declared.member.Pick.TheVariants as pick
 use Rattle.sequent.specs.Rules.{applies, premises_of}

@@ -13,15 +13,15 @@ use Rattle.clause_set.proofs.Reduced.{negation-truth}
 use Rattle.clause_set.proofs.Shapes.{conjunction-formed, negation-formed}
 use Rattle.formula.specs.Form.{Form, Forms, FormTruth, equal, unequal, at_least, holds, fails, differs, conjunction as all_of, disjunction as any_of, universal, existential, no_form, and_form}
 use Rattle.formula.specs.Sizes.{depth}
-use Rattle.elim_rules.specs.Elimination.{IsEvery, IsOut}
-use Rattle.elim_rules.specs.Logs.{Reader, Yields, by_log, every_by_log, name_by_log, read_next, reads_none}
-use Rattle.elim_rules.specs.Presburger.{IsPresburger, IsTrueAt}
-use Rattle.elim_rules.specs.Whole.{IsExact}
-use Rattle.elim_rules.proofs.Always.{every_yields}
-use Rattle.elim_rules.proofs.Accepted.{log_exact, name_yields, yields_map}
-use Rattle.elim_rules.proofs.Forms.{formed-literals, top-formed}
-use Rattle.elim_rules.proofs.Replays.{yields_next, yields_none}
-use Rattle.elim_rules.proofs.Whole.{anywhere}
+use Rattle.elim_laws.specs.Elimination.{IsEvery, IsOut}
+use Rattle.elim_laws.specs.Logs.{Reader, Yields, by_log, every_by_log, name_by_log, read_next, reads_none}
+use Rattle.elim_laws.specs.Presburger.{IsPresburger, IsPresburgerTrue}
+use Rattle.elim_laws.specs.Whole.{IsExact}
+use Rattle.elim_laws.proofs.Always.{every_yields}
+use Rattle.elim_laws.proofs.Accepted.{log_exact, name_yields, yields_map}
+use Rattle.elim_laws.proofs.Forms.{formed-literals, top-formed}
+use Rattle.elim_laws.proofs.Replays.{yields_next, yields_none}
+use Rattle.elim_laws.proofs.Whole.{anywhere}
 use Rattle.sequent.specs.declared.member.Shape.{Shape}
 use Rattle.sequent.specs.declared.member.Shape.TheVariants.{Trivial, Alpha, Delta, Beta, Gamma}
 use Rattle.sequent.specs.declared.member.Pick.{Pick}

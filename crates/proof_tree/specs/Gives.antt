@@ -4,7 +4,7 @@ use Rattle.clause_set.specs.declared.literal.Literal.{Literal}
 use Rattle.clause_set.specs.Literals.{dnf_truth}
 use Rattle.sequent.specs.Sequent.{Sequent}
 use Rattle.sequent.specs.Rules.{applies, premises_of}
-use Rattle.elim_rules.specs.Logs.{by_whole_log}
+use Rattle.elim_laws.specs.Logs.{by_whole_log}
 use Rattle.proof_tree.specs.Proof.{Proof, Proofs, node, no_proof, and_proof, all_given}
 use Rattle.proof_tree.specs.Rules.{constraint_by}
 

@@ -8,11 +8,11 @@ use Rattle.purse.specs.Trace.{Traced, just, next, note, enter, each}
 use Rattle.clause_set.specs.declared.literal.Literal.{Literal}
 use Rattle.clause_set.specs.Dnfs.{tidied, top}
 use Rattle.formula.specs.Form.{Form, is_pure}
-use Rattle.elim_rules.specs.Logs.{by_whole_log, names_by_log}
+use Rattle.elim_laws.specs.Logs.{by_whole_log, names_by_log}
 use Rattle.sequent.specs.declared.member.Pick.{Pick}
 use Rattle.sequent.specs.declared.member.Pick.TheVariants as pick
 use Rattle.sequent.specs.Sequent.{Sequent, member, sequent}
-use Rattle.solution_rules.specs.Solutions.{valued_clause}
+use Rattle.solution_laws.specs.Solutions.{valued_clause}
 use Rattle.proof_tree.specs.declared.node.Conclusion.{Conclusion}
 use Rattle.proof_tree.specs.declared.node.Conclusion.TheVariants.{Solution, Nothing}
 use Rattle.proof_tree.specs.declared.run.Verdict.{Verdict}

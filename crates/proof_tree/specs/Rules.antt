@@ -5,7 +5,7 @@ use Rattle.purse.specs.Trace.{Traced, just, next}
 use Rattle.clause_set.specs.declared.literal.Literal.{Literal}
 use Rattle.clause_set.specs.Dnfs.{conjunction, top}
 use Rattle.formula.specs.Sizes.{depth}
-use Rattle.elim_rules.specs.Logs.{Reader, by_log, every_by_log, name_by_log, read_next, reads_none}
+use Rattle.elim_laws.specs.Logs.{Reader, by_log, every_by_log, name_by_log, read_next, reads_none}
 use Rattle.sequent.specs.declared.member.Pick.{Pick}
 use Rattle.sequent.specs.declared.member.Pick.TheVariants as pick
 use Rattle.sequent.specs.Sequent.{Sequent}

@@ -8,7 +8,7 @@ use Rattle.purse.specs.Trace.{Traced, just, next, pay, note, new_log, enter, bac
 use Rattle.clause_set.specs.declared.literal.Literal.{Literal}
 use Rattle.clause_set.specs.Order.{clause_cmp}
 use Rattle.formula.specs.Sizes.{size}
-use Rattle.elim_rules.specs.Logs.{by_whole_log}
+use Rattle.elim_laws.specs.Logs.{by_whole_log}
 use Rattle.sequent.specs.declared.member.Pick.{Pick}
 use Rattle.sequent.specs.declared.member.Pick.TheVariants as pick
 use Rattle.sequent.specs.Rules.{applies, place, premises_of}

@@ -11,7 +11,7 @@ ghost use Rattle.formula.specs.Reduced.{HasReducedTerms};
 ghost use Rattle.sequent.specs.declared.member.Pick.{Pick};
 ghost use Rattle.sequent.specs.Covers.{Covers, IsTight};
 ghost use Rattle.sequent.specs.Rules.{place, premises_of};
-ghost use Rattle.sequent.specs.Sequent.{Sequent, IsWellFormed};
+ghost use Rattle.sequent.specs.Sequent.{Sequent, IsFormedSequent};
 ghost use Rattle.proof_tree.specs.declared.node.Conclusion.{Conclusion};
 ghost use Rattle.proof_tree.specs.declared.run.Verdict.TheVariants.{Valid, Invalid};
 ghost use Rattle.proof_tree.specs.Gives.{Gives, truths};
@@ -21,6 +21,7 @@ ghost use Rattle.proof_tree.specs.Reduced.{IsReducedSequent};
 ghost use Rattle.proof_tree.specs.Says.{IsConstraint};
 ghost use Rattle.proof_tree.specs.Tight.{IsSaturated};
 ghost use Rattle.proof_tree.specs.Walk.{walked};
+ghost use Rattle.solution_laws.specs.Solutions.{IsGiven};
 
 /// The premises of a sequent whose terms are reduced have such terms.
 pub fn reduced_law()
@@ -31,7 +32,7 @@ pub fn reduced_law()
 /// would build, with logs that no elimination would write. Its constraint is in form, and says of the premises' constraints
 /// what the rule wants, both ways.
 pub fn node_law()
-    ensures covers { (w : Meaning) (s : Sequent) (n : Proof) → IsWellFormed s → IsReducedSequent s → Gives s n → Covers w (dnf_truth (given n)) s }
+    ensures covers { (w : Meaning) (s : Sequent) (n : Proof) → IsFormedSequent s → IsReducedSequent s → Gives s n → Covers w (dnf_truth (given n)) s }
     ensures constraint { (s : Sequent) (p : Pick) (ns : Proofs) (log : List Entry) (d : List (List Literal)) → IsReducedSequent s → Gives s (node p ns log d)
         → IsConstraint s (place p) (truths (all_given ns)) d }
 {}
@@ -39,7 +40,7 @@ pub fn node_law()
 /// Where each leaf that is closed is saturated, the tree is tight: wherever its constraint is false, an interpretation makes
 /// every member of its sequent false.
 pub fn tight_law()
-    ensures { (s : Sequent) (n : Proof) → IsWellFormed s → IsReducedSequent s → Gives s n → IsSaturated s n → IsTight (dnf_truth (given n)) s }
+    ensures { (s : Sequent) (n : Proof) → IsFormedSequent s → IsReducedSequent s → Gives s n → IsSaturated s n → IsTight (dnf_truth (given n)) s }
 {}
 
 /// The walk over a tree, which a checker makes, ends with a constraint exactly where the tree gives that constraint.
@@ -63,4 +64,10 @@ pub fn proof_law()
         → (length vs ≡ n) × (dnf_truth (given x) vs ≡ true) }
     ensures invalid { (f : Form) (n : ℕ) (x : Proof) (c : Conclusion) (charges : ℕ) → IsFormOver n f → HasReducedTerms f → Proves f n x c charges Invalid
         → (w : Meaning) (e : List ℤ) → length e ≡ n → ¬ (FormTruth w f e) }
+{}
+
+/// The constraint of a tree that gives it is in form, and speaks of the constants of its sequent alone: also of a tree that no
+/// search would build, with logs that no elimination would write.
+pub fn names_law()
+    ensures { (s : Sequent) (x : Proof) → IsFormedSequent s → IsReducedSequent s → Gives s x → IsGiven s.count (given x) }
 {}

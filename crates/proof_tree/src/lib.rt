@@ -8,7 +8,7 @@ mod node;
 mod reduced;
 mod run;
 
-pub use laws::{node_law, proof_law, reduced_law, root_law, tight_law, walk_law};
+pub use laws::{names_law, node_law, proof_law, reduced_law, root_law, tight_law, walk_law};
 pub use node::{Conclusion, Node, Tree, copy_clauses};
 pub use reduced::know_reduced;
 pub use run::{Run, Verdict, Why};

@@ -32,7 +32,7 @@ abbrev pub fails_next : MemorySink → Bool
 fails_next s = list_any (λ n. nat_eq n (calls_of s)) (failing_of s) || nat_eq (space_of s) 0
 
 -- the sink was told this, took nothing yet and had no fault
-pub record IsFresh (s : MemorySink) (room most : ℕ) (failing : List ℕ) : Type 0 where
+pub record IsFreshSink (s : MemorySink) (room most : ℕ) (failing : List ℕ) : Type 0 where
   pub empty : bytes_of s ≡ []
   pub space : space_of s ≡ room
   pub piece : most_of s ≡ most
@@ -41,7 +41,7 @@ pub record IsFresh (s : MemorySink) (room most : ℕ) (failing : List ℕ) : Typ
   pub faults : faults_of s ≡ 0
 
 -- a call is counted, and what the sink was told stays
-pub record Counts (old new : MemorySink) : Type 0 where
+pub record SinkCounts (old new : MemorySink) : Type 0 where
   pub calls : calls_of new ≡ min (calls_of old + 1) (2 ^ 64 - 1)
   pub fails : failing_of new ≡ failing_of old
   pub piece : most_of new ≡ most_of old

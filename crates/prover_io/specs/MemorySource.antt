@@ -57,13 +57,13 @@ abbrev pub begin_fails : MemorySource → List ℕ → Bool
 begin_fails s name = fails_next s || is_none (bytes_of s name)
 
 -- a call is counted, and what the source was told stays
-pub record Counts (old new : MemorySource) : Type 0 where
+pub record SourceCounts (old new : MemorySource) : Type 0 where
   pub calls : calls_of new ≡ min (calls_of old + 1) (2 ^ 64 - 1)
   pub fails : failing_of new ≡ failing_of old
   pub piece : most_of new ≡ most_of old
 
 -- the source has these files, fails at these calls, gives as much as is asked for, and was not called yet
-pub record IsFresh (s : MemorySource) (files : List (String Global × Vec ℕ Global)) (failing : List ℕ) : Type 0 where
+pub record IsFreshSource (s : MemorySource) (files : List (String Global × Vec ℕ Global)) (failing : List ℕ) : Type 0 where
   pub bytes : (name : List ℕ) → bytes_of s name ≡ content_of files name
   pub fails : failing_of s ≡ failing
   pub piece : most_of s ≡ 2 ^ 64 - 1

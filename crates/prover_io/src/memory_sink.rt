@@ -21,7 +21,7 @@ pub struct MemorySink {
 }
 
 impl MemorySink {
-    ghost use Rattle.prover_io.specs.MemorySink.{bytes_of, IsFresh};
+    ghost use Rattle.prover_io.specs.MemorySink.{bytes_of, IsFreshSink};
 
     /// A sink with the memory for `room` bytes, which takes at most `most` bytes a call. It fails at the calls with the
     /// numbers in `failing`, counted from 0, and where no room is left.
@@ -32,7 +32,7 @@ impl MemorySink {
         failing: Vec<u64>,
     ) -> Result<MemorySink, AllocError>
         requires { 0 < most }
-        ensures { IfOk result (λ sink. IsFresh sink room most failing.items) }
+        ensures { IfOk result (λ sink. IsFreshSink sink room most failing.items) }
     {
         Ok(MemorySink {
             bytes: Vec::with_capacity(alloc, room)?,
@@ -53,7 +53,7 @@ impl MemorySink {
 }
 
 impl Sink for MemorySink {
-    ghost use Rattle.prover_io.specs.MemorySink.{bytes_of, fails_next, faults_of, most_of, space_of, Counts};
+    ghost use Rattle.prover_io.specs.MemorySink.{bytes_of, fails_next, faults_of, most_of, space_of, SinkCounts};
 
     ghost taken = { λ s. Some (bytes_of s) };
 
@@ -70,7 +70,7 @@ impl Sink for MemorySink {
         ensures fault { OnErr result (faults_of self.new ≡ min (faults_of self.old + 1) (2 ^ 64 - 1)) }
         ensures no_fault { OnOk result (faults_of self.new ≡ faults_of self.old) }
         ensures later { faults_of self.old ≤ faults_of self.new }
-        ensures counted { Counts self.old self.new }
+        ensures counted { SinkCounts self.old self.new }
     {
         let fails = self.failing.contains(&self.calls) || self.bytes.len() == self.room;
         self.calls = self.calls.saturating_add(1);

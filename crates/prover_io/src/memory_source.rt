@@ -27,13 +27,13 @@ pub struct MemorySource {
 }
 
 impl MemorySource {
-    ghost use Rattle.prover_io.specs.MemorySource.{bytes_of, fails_next, IsFresh, Limits};
+    ghost use Rattle.prover_io.specs.MemorySource.{bytes_of, fails_next, IsFreshSource, Limits};
 
     /// A source of these files; of two with one name the first counts. It fails at the calls of `begin` and `read` with
     /// the numbers in `failing`, counted from 0, and where a name is begun that it does not have. A read gives as much as
     /// its buffer has room for.
     pub fn new(files: Vec<(String, Vec<u8>)>, failing: Vec<u64>) -> MemorySource
-        ensures { IsFresh result files.items failing.items }
+        ensures { IsFreshSource result files.items failing.items }
     {
         let content = Vec::new(*files.allocator());
         let names = Items::new(*files.allocator());
@@ -103,7 +103,7 @@ fn find_file<'a>(files: &'a [(String, Vec<u8>)], name: &str) -> Option<&'a (Stri
 }
 
 impl Source for MemorySource {
-    ghost use Rattle.prover_io.specs.MemorySource.{begin_fails, bytes_of, fails_next, faults_of, is_broken, most_of, moved_of, name_of, names_of, rest_of, Counts};
+    ghost use Rattle.prover_io.specs.MemorySource.{begin_fails, bytes_of, fails_next, faults_of, is_broken, most_of, moved_of, name_of, names_of, rest_of, SourceCounts};
     ghost use Rattle.prover_io.specs.Outside.{Begun, Broke, Moves};
 
     ghost bytes_of = { λ s name. bytes_of s name };
@@ -132,8 +132,8 @@ impl Source for MemorySource {
         ensures later { faults_of self.old ≤ faults_of self.new }
         ensures listed { ¬ (IsErrOf result BeginFault.Memory) → names_of self.new ≡ names_of self.old ++ name.now ∷ [] }
         ensures unmoved { moved_of self.new ≡ moved_of self.old }
-        ensures counted { OnOk result (Counts self.old self.new) }
-        ensures counted_too { IsErrOf result BeginFault.Failed → Counts self.old self.new }
+        ensures counted { OnOk result (SourceCounts self.old self.new) }
+        ensures counted_too { IsErrOf result BeginFault.Failed → SourceCounts self.old self.new }
         ensures same { (n : List ℕ) → bytes_of self.new n ≡ bytes_of self.old n }
     {
         let alloc = *self.files.allocator();
@@ -177,7 +177,7 @@ impl Source for MemorySource {
         ensures moved { IfOk result (λ n. moved_of self.new ≡ min (moved_of self.old + n) (2 ^ 64 - 1)) }
         ensures unmoved { OnErr result (moved_of self.new ≡ moved_of self.old) }
         ensures more { moved_of self.old ≤ moved_of self.new }
-        ensures counted { Counts self.old self.new }
+        ensures counted { SourceCounts self.old self.new }
         ensures same { (n : List ℕ) → bytes_of self.new n ≡ bytes_of self.old n }
     {
         let fails = self.fails_next();

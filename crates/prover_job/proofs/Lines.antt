@@ -4,7 +4,7 @@ use Rattle.std.specs.List.{AllByRecursion, join_with_byte, list_all, onto_first}
 use Rattle.std.proofs.lemmas.List.Splits.{join_with_byte-slice_split}
 use Rattle.pri_tokens.proofs.Tests.{left_true, right_true}
 use Rattle.answers.specs.Answer.{line}
-use Rattle.proof_lines.specs.Body.{behind_marker, body, is_marker, lines_of}
+use Rattle.proof_file.specs.Body.{behind_marker, body, is_marker, lines_of}
 
 -- no byte is a line feed
 abbrev pub IsInner : ℕ → Type 0

@@ -6,8 +6,8 @@ use Rattle.purse.specs.Trace.{At, Funds}
 use Rattle.proof_tree.specs.Proof.{Proof}
 use Rattle.proof_tree.specs.declared.run.Verdict.{Verdict}
 use Rattle.proof_tree.specs.declared.run.Verdict.TheVariants.{Valid, Invalid}
-use Rattle.proof_lines.specs.Body.{body}
-use Rattle.tree_text.specs.Shaped.{Holds}
+use Rattle.proof_file.specs.Body.{body}
+use Rattle.proof_grammar.specs.Shaped.{IsTextOfProof}
 use Rattle.clause_set.specs.declared.literal.Literal.{Literal}
 use Rattle.pri_typing.specs.declared.problem.Problem.{Problem}
 use Rattle.pri_typing.specs.WellFormed.{HasIdentifiers}
@@ -16,14 +16,14 @@ use Rattle.constraint_text.specs.Constraint.{IsTextOf}
 use Rattle.constraint_lines.specs.Lines.{solution_line, valued_lines}
 use Rattle.pri_printer.specs.Printed.{solution_text}
 use Rattle.cut_sides.specs.Sides.{Case, arithmetic, first_itself, second_denied, none}
-use Rattle.interpolant_lines.specs.Blocks.{AreLines, IsSeamLine, IsTextBy, found, unknown}
-use Rattle.interpolant_lines.specs.Ends.{Cause, steps as steps_cause, overflow as overflow_cause, symbols, branch as branch_cause, large as large_cause, plain, cause_text, formula_by, seam_case, seam_run}
-use Rattle.interpolant_lines.specs.Seams.{Seam, seams}
+use Rattle.solve_job.specs.Blocks.{AreLines, IsSeamLine, IsTextBy, found, unknown}
+use Rattle.solve_job.specs.Ends.{Cause, steps as steps_cause, overflow as overflow_cause, symbols, branch as branch_cause, large as large_cause, plain, cause_text, formula_by, seam_case, seam_run}
+use Rattle.solve_job.specs.Seams.{Seam, seams}
 use Rattle.problem_file.specs.Answers.{Poses, PosesOne, refused, posed}
 use Rattle.problem_file.specs.Encoded.{large, leaves, runs}
 use Rattle.problem_file.proofs.Bytes.{reads_identifiers}
 use Rattle.search.specs.Run as run
-use Rattle.search.specs.Run.{ends_with}
+use Rattle.purse.specs.Ending.{ends_with}
 use Rattle.solve_job.specs.Explained.{AnswersSaturated}
 use Rattle.solve_job.specs.Proved.{IsImpure, IsParted, IsSolvedAs, PrintsProofOf, ProvesInvalid}
 use Rattle.answers.specs.declared.form.ProofForm.{ProofForm}
@@ -133,7 +133,7 @@ whole_accepted form bytes text part v lines h b is =
       conclusion = h.conclusion;
       charges = h.charges;
       verdict = v;
-      holds = subst (λ t. Holds t h.charges h.tree h.conclusion) (sym same) printed.holds;
+      holds = subst (λ t. IsTextOfProof t h.charges h.tree h.conclusion) (sym same) printed.holds;
       proves = h.proves;
     })
 

@@ -14,7 +14,7 @@ use Rattle.pri_tokens.specs.Written.{IsIdentifier}
 use Rattle.pri_typing.specs.declared.problem.Problem.{Problem}
 use Rattle.pri_typing.specs.declared.problem.Symbol.{Symbol}
 use Rattle.pri_typing.specs.WellFormed.{HasIdentifiers, names_of_symbols}
-use Rattle.pri_printer.specs.Summands.{Summand, alone, times, Signed, summands}
+use Rattle.pri_printer.specs.Summands.{Summand, alone, times, SignedSummand, summands}
 use Rattle.pri_printer.specs.Quotient.{quotient_name, quotient_number}
 use Rattle.pri_printer.specs.Printed.{constants_of, dnf_text, solution_text}
 use Rattle.pri_printer.specs.Text.{added_texts, adding_text, behind_each, clause_text, divides_text, later_text, listed_text, literal_text, normal_form_text, sum_text, summand_text, term_text, value_text, value_texts}
@@ -98,13 +98,13 @@ adding_inner : (v : Bool) → AreInner (adding_text v)
 adding_inner true = inner_word (adding_text true) refl
 adding_inner false = inner_word (adding_text false) refl
 
-added_inner : (names : List (List ℕ)) (us : List Signed) → AreNames names → AreInner (added_texts (map (later_text names) us))
+added_inner : (names : List (List ℕ)) (us : List SignedSummand) → AreNames names → AreInner (added_texts (map (later_text names) us))
 added_inner names [] h = tt
 added_inner names (u ∷ us) h =
     inner_append (adding_text u.0) (summand_text names u.1 ++ added_texts (map (later_text names) us)) (adding_inner u.0)
     (inner_append (summand_text names u.1) (added_texts (map (later_text names) us)) (summand_inner names u.1 h) (added_inner names us h))
 
-sum_inner : (names : List (List ℕ)) (us : List Signed) → AreNames names → AreInner (sum_text names us)
+sum_inner : (names : List (List ℕ)) (us : List SignedSummand) → AreNames names → AreInner (sum_text names us)
 sum_inner names [] h = tt
 sum_inner names (u ∷ us) h =
     inner_append (cond u.0 (codes "-" ++ summand_text names u.1) (summand_text names u.1)) (added_texts (map (later_text names) us))

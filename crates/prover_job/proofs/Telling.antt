@@ -30,7 +30,7 @@ use Rattle.solve_job.proofs.Causing as solve_causing
 use Rattle.solve_job.proofs.Grounded.{ground_enough}
 use Rattle.solve_job.proofs.Exactly.{solved_status}
 use Rattle.solve_job.proofs.Meaning.{headline}
-use Rattle.drill_job.specs.Drilled.{IsDrilled}
+use Rattle.solve_job.specs.Drilled.{IsDrilled}
 use Rattle.elim_job.specs.Eliminated.{IsEliminated}
 use Rattle.elim_job.specs.Meaning.{ElimMeans}
 use Rattle.elim_job.proofs.Causing as elim_causing
@@ -46,7 +46,7 @@ use Rattle.least_job.proofs.Deciding as least_deciding
 use Rattle.least_job.proofs.Exactly.{least_status}
 use Rattle.least_job.proofs.Meaning as least_meaning
 use Rattle.prover_job.specs.declared.tasks.Stop.{Stop}
-use Rattle.prover_job.specs.Runs.{AnswersTask, AnswersWithProof, IsWithin, SaysChecked, SaysConstraint, SaysLeast, SaysNowhere, SaysScript, SaysValid, SaysRefuted, IsSolveCaused, IsSolveCausedAs, IsElimCaused, IsLeastCaused, IsCheckCaused, IsDrillCaused}
+use Rattle.prover_job.specs.Runs.{AnswersTask, AnswersWithProof, IsSmallTask, SaysChecked, SaysConstraint, SaysLeast, SaysNowhere, SaysScript, SaysValid, SaysRefuted, IsSolveCaused, IsSolveCausedAs, IsElimCaused, IsLeastCaused, IsCheckCaused, IsDrillCaused}
 
 -- ---- files
 
@@ -309,7 +309,7 @@ least_caused w term budget told ends before after met = meets_more _ _ ends befo
 pub check_caused : (proof told : Option (List ℕ)) (ends : ℕ) (before after : Option (List ℕ)) → Meets (AnswersSource most_of_file (AnswersWithProof proof) told) ends before after
     → Meets (AnswersSource most_of_file (IsCheckCaused proof) told) ends before after
 check_caused proof told ends before after met = meets_more _ _ ends before after (source_more most_of_file (AnswersWithProof proof) (IsCheckCaused proof)
-    (λ bytes. source_more most_of_proof (λ text. IsChecked text bytes) (λ text. check_causes.Causes text bytes) (λ text a is. check_causing.causes text bytes a is) proof) told) met
+    (λ bytes. source_more most_of_proof (λ text. IsChecked text bytes) (λ text. check_causes.CheckCauses text bytes) (λ text a is. check_causing.causes text bytes a is) proof) told) met
 
 pub drill_caused : (w : Meaning) (budget count ends : ℕ) (before after : Option (List ℕ)) → Meets (IsDrilled budget count) ends before after → Meets (IsDrillCaused w budget count) ends before after
 drill_caused w budget count ends before after met = meets_more (IsDrilled budget count) (IsDrillCaused w budget count) ends before after (λ a is. record {
@@ -327,7 +327,7 @@ budget_small (text ∷ []) n h = h.within
 budget_small (text ∷ more ∷ rest) n h = absurd h
 
 -- the numbers of a job that words name are small enough
-pub named_within : (words : List (List ℕ)) (task : Task) → NamesJob words task → IsWithin task
+pub named_within : (words : List (List ℕ)) (task : Task) → NamesJob words task → IsSmallTask task
 named_within [] task h = absurd h
 named_within (command ∷ line) (solve file budget asked) h = budget_small _ budget h.1.budget_is
 named_within (command ∷ line) (eliminate file budget) h = let small = budget_small _ budget h.1.budget_is in omega (arith, small)

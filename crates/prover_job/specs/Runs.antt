@@ -1,5 +1,6 @@
 -- What a run answers to its words over a source of named bytes, and what its end means.
 use Rattle.std.specs.Prelude.{◌≡◌, ◌⊎◌, ◌+◌, ◌≤◌, ◌<◌, ◌^◌, ℕ, Bool, List, [], ◌∷◌, ◌++◌, length, Option, Some, None, Contains}
+use Rattle.limits.specs.Limits.{most_budget, most_count}
 use Rattle.typed_formula.specs.Truth.{Meaning}
 use Rattle.typed_formula.specs.Formula.{Expression}
 use Rattle.pri_typing.specs.declared.problem.Problem.{Problem}
@@ -17,7 +18,7 @@ use Rattle.solve_job.specs.Causes as solve_causes
 use Rattle.problem_gen.specs.Drills.{drill_text}
 use Rattle.solve_job.specs.Headline.{Headline, Validates, Refutes}
 use Rattle.solve_job.specs.Ground.{IsEnough}
-use Rattle.drill_job.specs.Drilled.{IsDrilled, drill_answer}
+use Rattle.solve_job.specs.Drilled.{IsDrilled, drill_answer}
 use Rattle.elim_job.specs.Eliminated.{IsEliminated}
 use Rattle.elim_job.specs.Causes as elim_causes
 use Rattle.elim_job.specs.Meaning.{Constrained}
@@ -37,13 +38,13 @@ abbrev pub NameNoFile : List (List ℕ) → Type 0
 NameNoFile words = (task : Task) → NamesJob words task → files_of task ≡ []
 
 -- the numbers of a job are small enough for its work
-abbrev pub IsWithin : Task → Type 0
-IsWithin (solve file budget asked) = budget ≤ 1000000000
-IsWithin (eliminate file budget) = budget < 2 ^ 32
-IsWithin (run_script file budget) = budget ≤ 1000000000
-IsWithin (minimise file term budget) = budget < 2 ^ 32
-IsWithin (check file proof) = Unit {0}
-IsWithin (drill count budget) = (count ≤ 1000) × (budget ≤ 1000000000)
+abbrev pub IsSmallTask : Task → Type 0
+IsSmallTask (solve file budget asked) = budget ≤ most_budget
+IsSmallTask (eliminate file budget) = budget < 2 ^ 32
+IsSmallTask (run_script file budget) = budget ≤ most_budget
+IsSmallTask (minimise file term budget) = budget < 2 ^ 32
+IsSmallTask (check file proof) = Unit {0}
+IsSmallTask (drill count budget) = (count ≤ most_count) × (budget ≤ most_budget)
 
 -- the answer of `check` to the bytes of a problem's file, and to the proof's file of the bytes that are told
 abbrev pub AnswersWithProof : Option (List ℕ) → List ℕ → Answer → Type 0
@@ -151,8 +152,8 @@ pub record SaysScript (w : Meaning) (told before after : Option (List ℕ)) : Ty
 -- an answer of `solve` that comes exactly where its row says, and decides what it has to, with seven steps a node where
 -- a problem is one of numbers
 pub record IsSolveCaused (budget : ℕ) (bytes : List ℕ) (answer : Answer) : Type 0 where
-  pub causes : solve_causes.Causes budget bytes answer
-  pub decides : solve_causes.Decides budget bytes answer
+  pub causes : solve_causes.SolveCauses budget bytes answer
+  pub decides : solve_causes.SolveDecides budget bytes answer
   pub enough : IsEnough budget bytes
 
 -- such an answer with the proof behind it, where that is asked for
@@ -165,18 +166,18 @@ pub record IsSolveCausedAs (asked : Option ProofForm) (budget : ℕ) (bytes : Li
 
 -- the same of `elim`
 pub record IsElimCaused (budget : ℕ) (bytes : List ℕ) (answer : Answer) : Type 0 where
-  pub causes : elim_causes.Causes budget bytes answer
-  pub decides : elim_causes.Decides budget bytes answer
+  pub causes : elim_causes.ElimCauses budget bytes answer
+  pub decides : elim_causes.ElimDecides budget bytes answer
 
 -- the same of `least`; with its values in an interpretation
 pub record IsLeastCaused (w : Meaning) (term : List ℕ) (budget : ℕ) (bytes : List ℕ) (answer : Answer) : Type 0 where
-  pub causes : least_causes.Causes term budget bytes answer
-  pub decides : (p : Problem) (x : Expression) → least_decides.IsDecided term budget bytes p x → least_decides.Decides w p x answer
+  pub causes : least_causes.LeastCauses term budget bytes answer
+  pub decides : (p : Problem) (x : Expression) → least_decides.IsLeastDecided term budget bytes p x → least_decides.LeastDecides w p x answer
 
 -- an answer of `check`, to the bytes of a problem's file and the proof's file of the bytes that are told, that comes exactly where its
 -- row says
 abbrev pub IsCheckCaused : Option (List ℕ) → List ℕ → Answer → Type 0
-IsCheckCaused told bytes = AnswersSource most_of_proof (λ proof. check_causes.Causes proof bytes) told
+IsCheckCaused told bytes = AnswersSource most_of_proof (λ proof. check_causes.CheckCauses proof bytes) told
 
 -- an answer of `drill`: that of `solve` to the problem that the program makes, with its meaning and its causes
 pub record IsDrillCaused (w : Meaning) (budget count : ℕ) (answer : Answer) : Type 0 where

@@ -6,7 +6,7 @@ ghost use Rattle.answers.specs.Outside.{Meets};
 ghost use Rattle.answers.specs.declared.form.ProofForm.{ProofForm};
 ghost use Rattle.job_words.specs.Jobs.{NamesJob, Task, check, drill, eliminate, files_of, minimise, run_script, solve, task_of};
 ghost use Rattle.prover_io.specs.Outside.{BeginsFront, GrowsAtMost, Rose};
-ghost use Rattle.prover_job.specs.Runs.{AnswersTask, AreBegun, BrokeAt, IsCheckCaused, IsDrillCaused, IsElimCaused, IsJobFile, IsLeastCaused, IsSolveCausedAs, IsWithin, NameNoFile, NameNoJob, SaysChecked, SaysConstraint, SaysLeast, SaysNowhere, SaysRefuted, SaysScript, SaysValid, most_moved};
+ghost use Rattle.prover_job.specs.Runs.{AnswersTask, AreBegun, BrokeAt, IsCheckCaused, IsDrillCaused, IsElimCaused, IsJobFile, IsLeastCaused, IsSolveCausedAs, IsSmallTask, NameNoFile, NameNoJob, SaysChecked, SaysConstraint, SaysLeast, SaysNowhere, SaysRefuted, SaysScript, SaysValid, most_moved};
 ghost use Rattle.std.specs.Prelude.{◌≡◌, ◌≢◌, ◌⊎◌, ℕ, List, [], Option, map, string_bytes};
 
 use crate::tasks::{Stop, job_output};
@@ -78,7 +78,7 @@ pub fn run<S: Source, K: Sink, W: World>(
 
 // Does a job, and answers the exit status.
 fn do_job<S: Source, K: Sink>(alloc: Global, source: &mut S, sink: &mut K, job: &Job) -> u8
-    requires { IsWithin (task_of job.now) }
+    requires { IsSmallTask (task_of job.now) }
     ensures answered { Meets (AnswersTask (S.bytes_of source.old) (task_of job.now)) result (K.taken sink.old) (K.taken sink.new) }
     ensures begun { files_of (task_of job.now) ≢ [] → result ≢ 8 → IsJobFile (task_of job.now) (S.at source.new) }
     ensures listed { result ≢ 6 → result ≢ 8 → AreBegun (S.bytes_of source.old) (task_of job.now) (S.names source.old) (S.names source.new) }

@@ -5,9 +5,10 @@ ghost use Rattle.answers.specs.Files.{AnswersSource, most_of_file, most_of_proof
 ghost use Rattle.elim_job.specs.Eliminated.{IsEliminated};
 ghost use Rattle.job_words.specs.Jobs.{check, files_of, task_of};
 ghost use Rattle.least_job.specs.Leasts.{IsLeastAnswer};
+ghost use Rattle.limits.specs.Limits.{most_budget};
 ghost use Rattle.prover_io.specs.Outside.{BeginsFront, Broke, GrowsAtMost, Rose};
 ghost use Rattle.prover_io.specs.declared.whole.ReadFault.{ReadFault};
-ghost use Rattle.prover_job.specs.Runs.{AnswersTask, AnswersWithProof, AreBegun, BrokeAt, IsJobFile, IsWithin, most_moved};
+ghost use Rattle.prover_job.specs.Runs.{AnswersTask, AnswersWithProof, AreBegun, BrokeAt, IsJobFile, IsSmallTask, most_moved};
 ghost use Rattle.prover_job.specs.declared.tasks.Stop.{Stop};
 ghost use Rattle.smt_job.specs.Answered.{IsSmtAnswer};
 ghost use Rattle.solve_job.specs.Proved.{IsSolvedAs};
@@ -50,7 +51,7 @@ pub(crate) fn job_output<S: Source>(
     source: &mut S,
     job: &Job,
 ) -> Result<Output, Stop>
-    requires { IsWithin (task_of job.now) }
+    requires { IsSmallTask (task_of job.now) }
     ensures answered { IfOk result (λ output. AnswersTask (S.bytes_of source.old) (task_of job.now) (answer_of output)) }
     ensures rose { IsErrOf result Stop.Source → Rose (S.faults source.old) (S.faults source.new) }
     ensures broke { IsErrOf result Stop.Source → BrokeAt (task_of job.now) (S.at source.new) (S.broken source.new) }
@@ -76,7 +77,7 @@ pub(crate) fn job_output<S: Source>(
             term.as_str(),
             *budget,
         ),
-        Job::Drill { count, budget } => Ok(drill_job::answer(alloc, *count, *budget)?),
+        Job::Drill { count, budget } => Ok(solve_job::drilled(alloc, *count, *budget)?),
     }
 }
 
@@ -88,7 +89,7 @@ fn solve_output<S: Source>(
     budget: u64,
     asked: Option<ProofForm>,
 ) -> Result<Output, Stop>
-    requires { budget ≤ 1000000000 }
+    requires { budget ≤ most_budget }
     ensures answered { IfOk result (λ output. AnswersSource most_of_file (IsSolvedAs asked budget) (S.bytes_of source.old file.now) (answer_of output)) }
     ensures rose { IsErrOf result Stop.Source → Rose (S.faults source.old) (S.faults source.new) }
     ensures broke { IsErrOf result Stop.Source → Broke (Some file.now) (S.at source.new) (S.broken source.new) }
@@ -132,7 +133,7 @@ fn smt_output<S: Source>(
     file: &str,
     budget: u64,
 ) -> Result<Output, Stop>
-    requires { budget ≤ 1000000000 }
+    requires { budget ≤ most_budget }
     ensures answered { IfOk result (λ output. AnswersSource most_of_file (IsSmtAnswer budget) (S.bytes_of source.old file.now) (answer_of output)) }
     ensures rose { IsErrOf result Stop.Source → Rose (S.faults source.old) (S.faults source.new) }
     ensures broke { IsErrOf result Stop.Source → Broke (Some file.now) (S.at source.new) (S.broken source.new) }

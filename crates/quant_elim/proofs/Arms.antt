@@ -17,9 +17,9 @@ use Rattle.formula.specs.Duals.{dual}
 use Rattle.formula.specs.Made.{Made}
 use Rattle.formula.specs.Tree.{form, forms_of}
 use Rattle.formula.proofs.Building.{form-Pred, form-NotPred, form-NotFun, form-And, form-Or, form-Forall, form-Exists}
-use Rattle.elim_rules.specs.Elimination.{exists_name}
-use Rattle.elim_rules.specs.Whole.{all_of, any_of, eliminating}
-use Rattle.elim_rules.proofs.Duals.{dual-depth}
+use Rattle.elim_laws.specs.Elimination.{exists_name}
+use Rattle.elim_laws.specs.Whole.{all_of, any_of, eliminating}
+use Rattle.elim_laws.proofs.Duals.{dual-depth}
 use Rattle.quant_elim.proofs.Unfolded.{as_work, by_all, by_any, by_some, by_every, after_dual}
 
 -- ---- the trees of connectives and quantifiers

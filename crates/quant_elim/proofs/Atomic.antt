@@ -14,8 +14,8 @@ use Rattle.formula.specs.Form as tree
 use Rattle.formula.specs.Form.{Form, is_pure}
 use Rattle.formula.specs.Tree.{form}
 use Rattle.formula.proofs.Building.{form-Eq, form-Neq, form-Geq, form-Pred, form-NotPred, form-NotFun, form-And, form-Or, form-Forall, form-Exists}
-use Rattle.elim_rules.specs.Whole.{IsExact, eliminating, paid, two_sides}
-use Rattle.elim_rules.proofs.Whole.{eliminating-exact}
+use Rattle.elim_laws.specs.Whole.{IsExact, eliminating, paid, two_sides}
+use Rattle.elim_laws.proofs.Whole.{eliminating-exact}
 use Rattle.quant_elim.specs.Knowing.{IsKnown}
 use Rattle.quant_elim.specs.Atoms.{is_atom}
 use Rattle.quant_elim.proofs.Unfolded.{atom_anywhere}

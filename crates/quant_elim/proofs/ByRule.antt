@@ -16,9 +16,9 @@ use Rattle.purse.proofs.Tracing.{next-same, next-just, next-assoc}
 use Rattle.clause_set.specs.declared.literal.Literal.{Literal}
 use Rattle.clause_set.specs.Names.{has, is_equation, is_divisibility, is_indivisibility}
 use Rattle.clause_set.specs.Rules.{rule, first_rule, unused, measure}
-use Rattle.elim_rules.specs.Elimination.{by_first, taken_out}
-use Rattle.elim_rules.proofs.First.{first_is_rule, applies_has}
-use Rattle.elim_rules.proofs.Taking.{taken_out-rule}
+use Rattle.elim_laws.specs.Elimination.{by_first, taken_out}
+use Rattle.elim_laws.proofs.First.{first_is_rule, applies_has}
+use Rattle.elim_laws.proofs.Taking.{taken_out-rule}
 use Rattle.omega_elim.specs.Projection.{with_entry}
 use Rattle.quant_elim.specs.First.{rule_with_entry, first_row, farthest}
 

@@ -9,7 +9,7 @@ use Rattle.clause_set.specs.Names.{is_divisibility, is_indivisibility}
 use Rattle.clause_set.specs.Rules.{applies, first_rule, is_least_equation, is_bounded, is_one_sided, is_two_sided, is_exact}
 use Rattle.omega_elim.specs.Projection.{bounds_entry}
 use Rattle.omega_elim.proofs.Choice.{first_bounds}
-use Rattle.elim_rules.proofs.First.{first_is_rule}
+use Rattle.elim_laws.proofs.First.{first_is_rule}
 
 -- ---- the rule
 module _ (x : ℕ) (c : List Literal) where

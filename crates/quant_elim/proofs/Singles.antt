@@ -8,10 +8,10 @@ use Rattle.purse.proofs.Charging.{then_ok, then_err, then_just, no_memory}
 use Rattle.purse.proofs.Tracing.{just-next, next-assoc, next-same, next-just}
 use Rattle.clause_set.specs.declared.literal.Literal.{Literal}
 use Rattle.clause_set.specs.Clauses.{found}
-use Rattle.performed_rules.specs.Answers.{first, with_first}
-use Rattle.performed_rules.proofs.Calls.{IsSingle}
-use Rattle.performed_rules.proofs.AtEquation.{equation_single}
-use Rattle.performed_rules.proofs.AtDivisibilities.{merge_single, shift_single}
+use Rattle.rule_code.specs.Answers.{first, with_first}
+use Rattle.rule_code.proofs.Calls.{IsSingle}
+use Rattle.rule_code.proofs.AtEquation.{equation_single}
+use Rattle.rule_code.proofs.AtDivisibilities.{merge_single, shift_single}
 
 -- the work again, from its first clause
 again : (w : Traced (List (List Literal))) → IsSingle w.value → next (with_first w) (λ o. just (found o)) ≡ w

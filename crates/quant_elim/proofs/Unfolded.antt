@@ -12,12 +12,12 @@ use Rattle.formula.specs.Form.{Form, Forms, IsFormOver}
 use Rattle.formula.specs.Sizes.{size, depth, depths}
 use Rattle.formula.specs.Duals.{dual}
 use Rattle.formula.specs.Tree.{form, forms_of}
-use Rattle.elim_rules.specs.Elimination.{exists_name}
-use Rattle.elim_rules.specs.Presburger.{IsPresburger}
-use Rattle.elim_rules.specs.Whole.{AreOver, all_of, any_of, eliminated, eliminating}
-use Rattle.elim_rules.proofs.Depth.{all_same, any_same, eliminated-same}
-use Rattle.elim_rules.proofs.Duals.{dual-depth}
-use Rattle.elim_rules.proofs.Over.{eliminated-over}
+use Rattle.elim_laws.specs.Elimination.{exists_name}
+use Rattle.elim_laws.specs.Presburger.{IsPresburger}
+use Rattle.elim_laws.specs.Whole.{AreOver, all_of, any_of, eliminated, eliminating}
+use Rattle.elim_laws.proofs.Depth.{all_same, any_same, eliminated-same}
+use Rattle.elim_laws.proofs.Duals.{dual-depth}
+use Rattle.elim_laws.proofs.Over.{eliminated-over}
 use Rattle.quant_elim.specs.Atoms.{is_atom}
 
 pub atom_anywhere : (n : ℕ) (f : Form) → is_atom f ≡ true → eliminating 0 f ≡ eliminating n f

@@ -1,6 +1,6 @@
 // The disjunctions of atoms.
 
-ghost use Rattle.elim_rules.specs.Whole.{IsExact, eliminating};
+ghost use Rattle.elim_laws.specs.Whole.{IsExact, eliminating};
 ghost use Rattle.formula.specs.Tree.{form};
 ghost use Rattle.purse.specs.Work.{Charged};
 ghost use Rattle.quant_elim.specs.Atoms.{is_atom};
@@ -8,7 +8,7 @@ ghost use Rattle.std.specs.Prelude.{◌≡◌, IfOk, true, ℕ};
 
 use super::knowing::know_terms;
 use clause_set::{Dnf, Literal};
-use elim_rules::{of_literal, of_unequal};
+use elim_laws::{of_literal, of_unequal};
 use formula::Core;
 use purse::{Purse, StepFault};
 use std::alloc::Global;

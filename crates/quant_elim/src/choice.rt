@@ -9,7 +9,7 @@ ghost use Rattle.std.specs.Prelude.{◌≡◌, ◌<◌, ◌+◌, ◌&&◌, drop,
 
 use clause_set::{Clause, Literal};
 use omega_elim::is_bounded;
-use rule_steps::{is_divisibility, is_equation, is_indivisibility};
+use step_code::{is_divisibility, is_equation, is_indivisibility};
 
 /// The rule that comes first, with the places of its literals in the clause.
 #[derive(Clone, Copy, Debug, PartialEq, Eq)]

@@ -65,7 +65,7 @@ fn shift_clauses(
 }
 
 /// The rule of the equation at i, with its entry.
-#[tactic(auto, using(purse::proofs::Charging::charging, elim_rules::proofs::Positions::equation_paid))]
+#[tactic(auto, using(purse::proofs::Charging::charging, elim_laws::proofs::Positions::equation_paid))]
 fn equation_row(
     alloc: Global,
     c: &Clause,
@@ -82,7 +82,7 @@ fn equation_row(
 }
 
 /// The rule of the negated divisibility at i, with its entry.
-#[tactic(auto, using(purse::proofs::Charging::charging, elim_rules::proofs::Positions::apart_paid))]
+#[tactic(auto, using(purse::proofs::Charging::charging, elim_laws::proofs::Positions::apart_paid))]
 fn apart_row(
     alloc: Global,
     c: &Clause,
@@ -100,7 +100,7 @@ fn apart_row(
 }
 
 /// The rule of the divisibilities at i and j, with its entry.
-#[tactic(auto, using(purse::proofs::Charging::charging, elim_rules::proofs::Positions::merge_paid))]
+#[tactic(auto, using(purse::proofs::Charging::charging, elim_laws::proofs::Positions::merge_paid))]
 fn merge_row(
     alloc: Global,
     c: &Clause,
@@ -118,7 +118,7 @@ fn merge_row(
 }
 
 /// The rule of the only divisibility, at i, with its entry.
-#[tactic(auto, using(purse::proofs::Charging::charging, elim_rules::proofs::Positions::shift_paid))]
+#[tactic(auto, using(purse::proofs::Charging::charging, elim_laws::proofs::Positions::shift_paid))]
 fn shift_row(
     alloc: Global,
     c: &Clause,

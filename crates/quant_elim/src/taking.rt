@@ -1,6 +1,6 @@
 // A name out of clauses, by the rules that come first.
 
-ghost use Rattle.elim_rules.specs.Elimination.{IsEvery, IsOut, exists_name, for_all_name, taken_out};
+ghost use Rattle.elim_laws.specs.Elimination.{IsEvery, IsOut, exists_name, for_all_name, taken_out};
 ghost use Rattle.clause_set.specs.Rules.{unused};
 ghost use Rattle.purse.specs.Trace.{at, each};
 ghost use Rattle.purse.specs.Work.{Charged, ChargedAt, Logged, marks_of};
@@ -9,7 +9,7 @@ ghost use Rattle.std.specs.Prelude.{◌≡◌, IfOk, [], ◌<◌, ◌-◌, ◌^�
 
 use super::rows::first_row;
 use clause_set::{Clause, Dnf, not};
-use elim_rules::know_formed;
+use elim_laws::know_formed;
 use purse::{ElimFault, ElimLog, Purse, StepFault};
 use sqlite_items::Items;
 use std::alloc::Global;

@@ -1,7 +1,7 @@
 // All quantifiers out of a formula.
 
 ghost use Rattle.clause_set.specs.Dnfs.{top};
-ghost use Rattle.elim_rules.specs.Whole.{AreOver, IsExact, all_of, any_of, eliminating};
+ghost use Rattle.elim_laws.specs.Whole.{AreOver, IsExact, all_of, any_of, eliminating};
 ghost use Rattle.formula.specs.Form.{IsFormOver, existential, is_pure, universal};
 ghost use Rattle.formula.specs.Sizes.{depth, depths};
 ghost use Rattle.formula.specs.Tree.{form, forms_of};

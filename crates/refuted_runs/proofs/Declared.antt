@@ -13,7 +13,7 @@ use Rattle.pri_typing.specs.declared.problem.Symbol.{Symbol}
 use Rattle.pri_typing.specs.Everywhere.{Everywhere, AllEverywhere, TermEverywhere, TermsEverywhere}
 use Rattle.pri_typing.specs.WellFormed.{IsFunctionDeclared, IsPredicateDeclared, IsWellFormed, HasArity, is_numeric, of_formulas, of_terms, size}
 use Rattle.formula.specs.Form.{Form, Forms, holds, fails, no_form, forms}
-use Rattle.encoding.specs.Encoding.{Bound, least, greatest, bounds, limits, restricted, named, multiple, related, signed_relation, product_of, junction, quantified, cases, encoded, all_encoded, with_value, with_values, with_sum, with_more}
+use Rattle.encoding.specs.Encoding.{SortBound, least, greatest, bounds, limits, restricted, named, multiple, related, signed_relation, product_of, junction, quantified, cases, encoded, all_encoded, with_value, with_values, with_sum, with_more}
 use Rattle.encoding.specs.Root.{conditions, for_last, names_from}
 use Rattle.encoding.specs.Problems.{body, constants, problem_root}
 use Rattle.open_trees.specs.Symbols.{AllSpeakIn, SpeaksIn, Vocabulary}
@@ -27,7 +27,7 @@ quantified_speaks : (y : Vocabulary) (b : Bool) (g : Form) → SpeaksIn y g → 
 quantified_speaks y true g h = h
 quantified_speaks y false g h = h
 
-limits_speak : (y : Vocabulary) (all : Bool) (x : ℕ) (bs : List Bound) (gs : List Form) → AllSpeakIn y (forms gs) → AllSpeakIn y (forms ((limits all x bs).value ++ gs))
+limits_speak : (y : Vocabulary) (all : Bool) (x : ℕ) (bs : List SortBound) (gs : List Form) → AllSpeakIn y (forms gs) → AllSpeakIn y (forms ((limits all x bs).value ++ gs))
 unfolding next step just
 limits_speak y all x [] gs h = h
 limits_speak y true x (least n ∷ bs) gs h = (tt, limits_speak y true x bs gs h)

@@ -12,7 +12,7 @@ use Rattle.pri_typing.specs.declared.problem.Problem.{Problem}
 use Rattle.pri_typing.specs.Problems.{IsUniversal, IsUniversalAt, AreUniversalAt, IsTermUniversal, AreTermsUniversal, IsWithoutApplication, Sign, plus, minus_sign, both, turned}
 use Rattle.pri_typing.specs.WellFormed.{is_numeric}
 use Rattle.formula.specs.Form.{Form, Forms, is_pure, holds, fails, no_form, forms}
-use Rattle.encoding.specs.Encoding.{Bound, least, greatest, bounds, limits, restricted, named, multiple, related, signed_relation, product_of, junction, quantified, cases, encoded, all_encoded, with_value, with_values, with_sum, with_more}
+use Rattle.encoding.specs.Encoding.{SortBound, least, greatest, bounds, limits, restricted, named, multiple, related, signed_relation, product_of, junction, quantified, cases, encoded, all_encoded, with_value, with_values, with_sum, with_more}
 use Rattle.encoding.specs.Root.{conditions, for_last, names_from}
 use Rattle.encoding.specs.Problems.{body, constants, problem_root}
 use Rattle.encoding.proofs.Frees.{free_is, everywhere_free}
@@ -70,7 +70,7 @@ some_somes s true f g fit (inl p) pure k = absurd (subst (λ z. Fits z true) p f
 some_somes s true f g fit (inr w) pure k = pure w
 
 -- ---- the bounds of a type
-limits_somes : (all : Bool) (x : ℕ) (bs : List Bound) (gs : List Form) → HavePureSomes (forms gs) → HavePureSomes (forms ((limits all x bs).value ++ gs))
+limits_somes : (all : Bool) (x : ℕ) (bs : List SortBound) (gs : List Form) → HavePureSomes (forms gs) → HavePureSomes (forms ((limits all x bs).value ++ gs))
 unfolding next step just
 limits_somes all x [] gs h = h
 limits_somes true x (least n ∷ bs) gs h = (tt, limits_somes true x bs gs h)
@@ -83,14 +83,14 @@ restricted_somes all [] g h = h.0
 restricted_somes true (f ∷ hs) g h = h
 restricted_somes false (f ∷ hs) g h = h
 
-bound_somes : (all : Bool) (n : ℕ) (bs : List Bound) (g : Form) → HasPureSomes g → HasPureSomes (restricted all (limits all n bs).value g)
+bound_somes : (all : Bool) (n : ℕ) (bs : List SortBound) (g : Form) → HasPureSomes g → HasPureSomes (restricted all (limits all n bs).value g)
 bound_somes all n bs g h = restricted_somes all (limits all n bs).value g (limits_somes all n bs (g ∷ []) (h, tt))
 
 only_pure : (b : Bool) → (b && true) ≡ b
 only_pure true = refl
 only_pure false = refl
 
-bound_pure : (all : Bool) (n : ℕ) (bs : List Bound) (g : Form) → is_pure (restricted all (limits all n bs).value g) ≡ is_pure g
+bound_pure : (all : Bool) (n : ℕ) (bs : List SortBound) (g : Form) → is_pure (restricted all (limits all n bs).value g) ≡ is_pure g
 unfolding next just
 bound_pure all n [] g = refl
 bound_pure true n (b ∷ bs) g = pure-limits true n (b ∷ bs) (g ∷ []) ∙ only_pure (is_pure g)

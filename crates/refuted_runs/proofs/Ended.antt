@@ -2,33 +2,34 @@
 use Rattle.std.proofs.Common.{◌≡◌, ℕ, zero, suc, ℤ, Bool, true, false, cond, List, [], Option, Some, None, refl, subst}
 use Rattle.purse.specs.Trace.{Funds, At, at, End, done, refused, out_of_range, cut, Traced, just, step, next}
 use Rattle.purse.specs.declared.log.Entry.{Entry}
-use Rattle.elim_rules.specs.Logs.{entries_of}
-use Rattle.elim_rules.specs.Whole.{names_out}
+use Rattle.elim_laws.specs.Logs.{entries_of}
+use Rattle.elim_laws.specs.Whole.{names_out}
 use Rattle.formula.specs.Form.{Form, IsFormOver, is_pure}
 use Rattle.formula.specs.Reduced.{HasReducedTerms}
 use Rattle.sequent.proofs.Forming.{start_formed}
-use Rattle.solution_rules.specs.Solutions.{IsGiven, solving}
-use Rattle.solution_rules.proofs.Solving.{solving-none}
-use Rattle.node_steps.specs.Within.{branch_limit}
+use Rattle.solution_laws.specs.Solutions.{IsGiven, solving}
+use Rattle.solution_laws.proofs.Solving.{solving-none}
+use Rattle.limits.specs.Limits.{branch_limit}
 use Rattle.proof_tree.specs.Proof.{Proof, given}
 use Rattle.proof_tree.specs.Proves.{start}
 use Rattle.search.specs.Building.{built}
-use Rattle.search.specs.Run.{Answer, valid, invalid, saturated, too_long, canonical_run, concluded, ended, ending, ends_with, has_open_leaf, judged, one_round, or_further, rounds}
+use Rattle.purse.specs.Ending.{ended, ending, ends_with}
+use Rattle.search.specs.Run.{RunAnswer, valid, invalid, saturated, too_long, canonical_run, concluded, has_open_leaf, judged, one_round, or_further, rounds}
 use Rattle.search.proofs.Given.{built-given}
 use Rattle.search.proofs.Retracing.{retraced}
 use Rattle.open_trees.specs.Levels.{HasLevels}
-use Rattle.open_trees.specs.Open.{IsSaturated}
+use Rattle.open_trees.specs.Open.{IsSaturatedTree}
 use Rattle.refuted_runs.proofs.Levels.{built_levels}
 use Rattle.refuted_runs.proofs.Picked.{built_open}
 
 -- what is said of an answer, and of a round
-abbrev Says : Form → ℕ → Answer → Type 0
+abbrev Says : Form → ℕ → RunAnswer → Type 0
 Says f n (valid vs x) = Unit {0}
 Says f n (invalid log x) = Unit {0}
-Says f n (saturated log x) = IsSaturated f n x × HasLevels branch_limit x
+Says f n (saturated log x) = IsSaturatedTree f n x × HasLevels branch_limit x
 Says f n too_long = Unit {0}
 
-abbrev RoundSays : Form → ℕ → Option Answer → Type 0
+abbrev RoundSays : Form → ℕ → Option RunAnswer → Type 0
 RoundSays f n None = Unit {0}
 RoundSays f n (Some a) = Says f n a
 
@@ -43,7 +44,7 @@ concluded_says f n k x over red e None is = by (is_pure f) (has_open_leaf (start
     by false false p q =
         let g = (retraced k branch_limit 0 (start f n) x e).gives in
         let i : IsGiven n (given x) = built-given k branch_limit 0 (start f n) x (start_formed f n over) (red, tt) e in
-        let sat : IsSaturated f n x = record { tree = record { gives = g; is = built_open k branch_limit 0 (start f n) x e q }; application = p; nowhere = λ u len. (solving-none n (given x) i).0 is u len } in
+        let sat : IsSaturatedTree f n x = record { tree = record { gives = g; is = built_open k branch_limit 0 (start f n) x e q }; application = p; nowhere = λ u len. (solving-none n (given x) i).0 is u len } in
         (sat, built_levels k branch_limit 0 (start f n) x e)
 
 judged_says : (f : Form) (n k : ℕ) → IsFormOver n f → HasReducedTerms f → (o : Option Proof) → (built k branch_limit 0 (start f n)).value ≡ o → RoundSays f n (judged f n o).value
@@ -55,7 +56,7 @@ round_says : (f : Form) (n k : ℕ) → IsFormOver n f → HasReducedTerms f →
 unfolding next just step
 round_says f n k over red = judged_says f n k over red (built k branch_limit 0 (start f n)).value refl
 
-further_says : (f : Form) (n : ℕ) (further : Traced Answer) (o : Option Answer) → RoundSays f n o → Says f n further.value → Says f n (or_further further o).value
+further_says : (f : Form) (n : ℕ) (further : Traced RunAnswer) (o : Option RunAnswer) → RoundSays f n o → Says f n further.value → Says f n (or_further further o).value
 unfolding just
 further_says f n further (Some a) h k = h
 further_says f n further None h k = k
@@ -75,6 +76,6 @@ ended_value v a (refused c) b h = absurd (cc)
 ended_value v a (out_of_range ps c) b h = absurd (cc)
 
 -- what is so of the tree of a run that ends saturated
-pub saturated_says : (f : Form) (n : ℕ) (g : Funds) (log : List Entry) (x : Proof) (b : At) → IsFormOver n f → HasReducedTerms f → ending (canonical_run f n g.budget) (at g []) ≡ ends_with (saturated log x) b → IsSaturated f n x × HasLevels branch_limit x
+pub saturated_says : (f : Form) (n : ℕ) (g : Funds) (log : List Entry) (x : Proof) (b : At) → IsFormOver n f → HasReducedTerms f → ending (canonical_run f n g.budget) (at g []) ≡ ends_with (saturated log x) b → IsSaturatedTree f n x × HasLevels branch_limit x
 saturated_says f n g log x b over red h =
     subst (Says f n) (ended_value (canonical_run f n g.budget).value (saturated log x) (cut (canonical_run f n g.budget).events (at g [])) b h) (run_says f n g.budget over red)

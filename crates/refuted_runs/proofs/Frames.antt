@@ -16,9 +16,9 @@ use Rattle.sequent.specs.declared.member.Shape.{Shape}
 use Rattle.sequent.specs.declared.member.Shape.TheVariants.{Trivial, Alpha, Delta, Beta, Gamma}
 use Rattle.sequent.specs.Leaf.{is_leaf}
 use Rattle.sequent.specs.Rules.{is_shape, new_members, premises_at, premises_of, shape, shape_of}
-use Rattle.sequent.specs.Sequent.{Member, Sequent, member, sequent, AreFalse, IsMemberTrue, IsWellFormed}
+use Rattle.sequent.specs.Sequent.{Member, Sequent, member, sequent, AreFalse, IsMemberTrue, IsFormedSequent}
 use Rattle.sequent.proofs.Members.{all_append, all_right}
-use Rattle.solution_rules.specs.Solutions.{IsGiven}
+use Rattle.solution_laws.specs.Solutions.{IsGiven}
 use Rattle.proof_tree.specs.Gives.{AreGiven, Gives, truths}
 use Rattle.proof_tree.specs.Proof.{Proof, Proofs, node, no_proof, and_proof, given, all_given}
 use Rattle.proof_tree.specs.Reduced.{IsReducedSequent}
@@ -27,13 +27,13 @@ use Rattle.proof_tree.specs.Says.{FalsityAt}
 use Rattle.proof_tree.specs.Walk.{on_some}
 use Rattle.proof_tree.proofs.Giving.{constraint_is, formed_by}
 use Rattle.proof_tree.proofs.Premises.{reduced_by}
-use Rattle.tree_names.proofs.Given.{node_given}
-use Rattle.encoding.specs.Encoding.{Bound, least, greatest, bounds, limits, restricted}
+use Rattle.proof_tree.proofs.Given.{node_given}
+use Rattle.encoding.specs.Encoding.{SortBound, least, greatest, bounds, limits, restricted}
 use Rattle.encoding.specs.Root.{for_last}
 use Rattle.encoding.proofs.Conditions.{for_last_pure}
 use Rattle.encoding.proofs.Types.{bound_at, pure-limits}
 use Rattle.open_trees.specs.Open.{AreOpen, IsOpen}
-use Rattle.open_trees.specs.Refutes.{Refutes}
+use Rattle.open_trees.specs.Refutes.{RefutesSequent}
 use Rattle.open_trees.specs.Rows.{meaning_of, table_at}
 use Rattle.open_trees.specs.Walk.{Stop, denied, walk, walk_first}
 use Rattle.open_trees.proofs.Finding.{denied_finds}
@@ -46,7 +46,7 @@ use Rattle.refuted_runs.proofs.Staying.{brought_stays, members_append, members_o
 pub record IsAt (s : Sequent) (x : Proof) (v : List ℤ) : Type 0 where
   pub gives : Gives s x
   pub opens : IsOpen s x
-  pub formed : IsWellFormed s
+  pub formed : IsFormedSequent s
   pub reduced : IsReducedSequent s
   pub long : length v ≡ s.count
   pub bad : dnf_truth (given x) v ≡ false
@@ -57,7 +57,7 @@ pub record GoesOn (s : Sequent) (x : Proof) (v : List ℤ) (t : Sequent) (u : Li
   pub there : IsAt t child u
   pub same : (walk s x v).value ≡ (walk t child u).value
 
-pub at_refutes : (s : Sequent) (x : Proof) (v : List ℤ) → IsAt s x v → Refutes s v (walk s x v)
+pub at_refutes : (s : Sequent) (x : Proof) (v : List ℤ) → IsAt s x v → RefutesSequent s v (walk s x v)
 at_refutes s x v h = walk_refutes s x v h.formed h.reduced h.gives h.opens h.long h.bad
 
 -- where the walk ends, its table makes the sequent false at v
@@ -174,7 +174,7 @@ delta_by s i f n t y log d v count after at one h =
     let ns = and_proof y no_proof in
     let gives = subst (λ ss. AreGiven ss ns) one (h.gives).1 in
     let opens = subst (λ ss. AreOpen ss ns) one (h.opens).1 in
-    let formed = subst (AllByRecursion IsWellFormed) one (formed_by s (Some i) h.formed) in
+    let formed = subst (AllByRecursion IsFormedSequent) one (formed_by s (Some i) h.formed) in
     let reduced = subst (AllByRecursion IsReducedSequent) one (reduced_by s (Some i) h.reduced) in
     let falsity = subst (λ o. FalsityAt o (truths (all_given ns)) v) at ((constraint_is s (pick.Delta i) ns log d h.reduced h.gives).no v h.long h.bad) in
     let child_given : IsGiven (suc n) (given y) = subst (λ k. IsGiven k (given y)) after (node_given t y formed.0 reduced.0 gives.0) in
@@ -220,7 +220,7 @@ alpha_by s i fs n t y log d v after at one h =
     let ns = and_proof y no_proof in
     let gives = subst (λ ss. AreGiven ss ns) one (h.gives).1 in
     let opens = subst (λ ss. AreOpen ss ns) one (h.opens).1 in
-    let formed = subst (AllByRecursion IsWellFormed) one (formed_by s (Some i) h.formed) in
+    let formed = subst (AllByRecursion IsFormedSequent) one (formed_by s (Some i) h.formed) in
     let reduced = subst (AllByRecursion IsReducedSequent) one (reduced_by s (Some i) h.reduced) in
     let falsity = subst (λ o. FalsityAt o (truths (all_given ns)) v) at ((constraint_is s (pick.Alpha i) ns log d h.reduced h.gives).no v h.long h.bad) in
     record {
@@ -253,7 +253,7 @@ alpha_on ms hs g n (node (pick.Gamma i) ns log d) v atoms app h = absurd (h.open
 alpha_on ms hs g n (node pick.Close ns log d) v atoms app h = absurd (not_closed ms (member (disjunction (forms (hs ++ g ∷ []))) n 0) app (h.opens).0)
 
 -- ---- below the bounds of a type
-limits_atoms : (x : ℕ) (bs : List Bound) → AreAtoms (limits true x bs).value
+limits_atoms : (x : ℕ) (bs : List SortBound) → AreAtoms (limits true x bs).value
 unfolding next step just
 limits_atoms x [] = tt
 limits_atoms x (least n ∷ bs) = (tt, limits_atoms x bs)
@@ -289,7 +289,7 @@ only_pure : (b : Bool) → (b && true) ≡ b
 only_pure true = refl
 only_pure false = refl
 
-impure_limits : (x : ℕ) (bs : List Bound) (g : Form) → is_pure g ≡ false → are_pure (forms ((limits true x bs).value ++ g ∷ [])) ≡ false
+impure_limits : (x : ℕ) (bs : List SortBound) (g : Form) → is_pure g ≡ false → are_pure (forms ((limits true x bs).value ++ g ∷ [])) ≡ false
 impure_limits x bs g app = pure-limits true x bs (g ∷ []) ∙ only_pure (is_pure g) ∙ app
 
 pub last_false : (w : Meaning) (ms : List Member) (f : Form) (n : ℕ) (v : List ℤ) → length v ≡ n → AreFalse w v (ms ++ member f n 0 ∷ []) → ¬ (FormTruth w f v)

@@ -1,7 +1,7 @@
 -- A canonical tree has no more levels than its branches may have nodes.
 use Rattle.std.proofs.Common.{◌≡◌, ℕ, suc, zero, ◌+◌, List, [], ◌∷◌, ◌++◌, map, sym, ◌∙◌, subst, Option, Some, None}
 use Rattle.purse.specs.Trace.{Traced, just, next}
-use Rattle.elim_rules.specs.Logs.{entries_of}
+use Rattle.elim_laws.specs.Logs.{entries_of}
 use Rattle.sequent.specs.Rules.{picked, premises_of}
 use Rattle.sequent.specs.Sequent.{Sequent}
 use Rattle.proof_tree.specs.Proof.{Proof, node, given, proofs}

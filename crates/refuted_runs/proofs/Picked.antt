@@ -5,7 +5,7 @@ use Rattle.std.proofs.lemmas.List.{append-nil}
 use Rattle.purse.specs.Trace.{Traced, just, next}
 use Rattle.purse.specs.declared.log.Entry.{Entry}
 use Rattle.clause_set.specs.declared.literal.Literal.{Literal}
-use Rattle.elim_rules.specs.Logs.{entries_of}
+use Rattle.elim_laws.specs.Logs.{entries_of}
 use Rattle.formula.specs.Form.{Form, is_pure, equal, unequal, at_least, holds, fails, differs, conjunction, disjunction, universal, existential, no_form, and_form}
 use Rattle.sequent.specs.declared.member.Shape.{Shape}
 use Rattle.sequent.specs.declared.member.Shape.TheVariants.{Trivial, Alpha, Delta, Beta, Gamma}

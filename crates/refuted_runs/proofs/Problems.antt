@@ -14,7 +14,7 @@ use Rattle.pri_typing.specs.WellFormed.{IsWellFormed}
 use Rattle.encoding.specs.Problems.{constants, problem_root}
 use Rattle.encoding.proofs.Conditions.{values_length}
 use Rattle.encoding.proofs.Problems.{over_constants_is}
-use Rattle.open_trees.specs.Open.{IsOpenTree, IsSaturated}
+use Rattle.open_trees.specs.Open.{IsOpenTree, IsSaturatedTree}
 use Rattle.open_trees.specs.Rows.{table_at}
 use Rattle.open_trees.proofs.Speaking.{stop_speaks, table_speaks}
 use Rattle.open_trees.proofs.Tables.{table_sorted}
@@ -66,7 +66,7 @@ explained p x e formed red app tree len typed bad =
     record { stop = f.stop; is = f.is; shows = subst (λ u. IsCounterexample p e ((table_at f.stop).value, u)) (sym is) shows }
 
 -- a problem whose run ends saturated is refuted
-pub refuted : (p : Problem) (x : Proof) → IsWellFormed p → HasReducedTerms (problem_root p).value → IsSaturated (problem_root p).value (length p.existentials) x → IsRefuted p
+pub refuted : (p : Problem) (x : Proof) → IsWellFormed p → HasReducedTerms (problem_root p).value → IsSaturatedTree (problem_root p).value (length p.existentials) x → IsRefuted p
 refuted p x formed red s = λ e len typed.
     let i = explained p x e formed red s.application s.tree len typed (s.nowhere e len) in
     let c = i.shows in

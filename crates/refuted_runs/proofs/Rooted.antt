@@ -11,7 +11,7 @@ use Rattle.formula.specs.Reduced.{HasReducedTerms}
 use Rattle.sequent.specs.declared.member.Pick.TheVariants as pick
 use Rattle.sequent.specs.Covers.{IsOneFalse}
 use Rattle.sequent.specs.Rules.{premises_of}
-use Rattle.sequent.specs.Sequent.{member, IsWellFormed}
+use Rattle.sequent.specs.Sequent.{member, IsFormedSequent}
 use Rattle.sequent.proofs.Forming.{start_formed}
 use Rattle.proof_tree.specs.Gives.{AreGiven, truths}
 use Rattle.proof_tree.specs.Proof.{Proof, Proofs, node, no_proof, and_proof, given, all_given}
@@ -19,7 +19,7 @@ use Rattle.proof_tree.specs.Proves.{start}
 use Rattle.proof_tree.specs.Reduced.{IsReducedSequent}
 use Rattle.proof_tree.proofs.Giving.{constraint_is, formed_by}
 use Rattle.proof_tree.proofs.Premises.{reduced_by}
-use Rattle.tree_names.proofs.Given.{node_given}
+use Rattle.proof_tree.proofs.Given.{node_given}
 use Rattle.pri_typing.specs.declared.problem.Problem.{Problem}
 use Rattle.pri_typing.specs.WellFormed as problem
 use Rattle.encoding.specs.Encoding.{restricted}
@@ -47,7 +47,7 @@ abbrev AllTrue : List Form → List ℤ → Type 0
 AllTrue hs e = (w : Meaning) → AreFormsTrue w (forms hs) e
 
 passes : (n : ℕ) (hs : List Form) (g : Form) (ns : Proofs) (e : List ℤ) → AllTrue hs e → length e ≡ n → AreGiven (starts n (hs ++ g ∷ [])) ns → AreOpen (starts n (hs ++ g ∷ [])) ns
-    → AllByRecursion IsWellFormed (starts n (hs ++ g ∷ [])) → AllByRecursion IsReducedSequent (starts n (hs ++ g ∷ [])) → IsOneFalse (truths (all_given ns)) e → Passed n hs g ns e
+    → AllByRecursion IsFormedSequent (starts n (hs ++ g ∷ [])) → AllByRecursion IsReducedSequent (starts n (hs ++ g ∷ [])) → IsOneFalse (truths (all_given ns)) e → Passed n hs g ns e
 unfolding next
 passes n [] g no_proof e true_all long gives opens formed reduced one = absurd gives
 passes n [] g (and_proof y (and_proof z zs)) e true_all long gives opens formed reduced one = absurd gives.1
@@ -89,7 +89,7 @@ conditions_on (f ∷ hs) g n (node (pick.Beta zero) ns log d) e true_all app h =
     let one = beta_premises n f hs g in
     let falsity = (constraint_is s (pick.Beta 0) ns log d h.reduced h.gives).no e h.long h.bad in
     let p = passes n (f ∷ hs) g ns e true_all h.long (subst (λ ss. AreGiven ss ns) one (h.gives).1) (subst (λ ss. AreOpen ss ns) one (h.opens).1)
-    (subst (AllByRecursion IsWellFormed) one (formed_by s (Some 0) h.formed)) (subst (AllByRecursion IsReducedSequent) one (reduced_by s (Some 0) h.reduced)) falsity in
+    (subst (AllByRecursion IsFormedSequent) one (formed_by s (Some 0) h.formed)) (subst (AllByRecursion IsReducedSequent) one (reduced_by s (Some 0) h.reduced)) falsity in
     record { child = p.child; there = p.there; same = ap (λ ss. (walk_false n ss ns e).value) one ∙ p.same }
 conditions_on (f ∷ hs) g n (node (pick.Beta (suc i)) ns log d) e true_all app h = absurd (let z : false ≡ true = (h.gives).0 in cc)
 conditions_on (f ∷ hs) g n (node (pick.Trivial zero) ns log d) e true_all app h = absurd (let z : false ≡ true = (h.gives).0 in cc)

@@ -13,13 +13,13 @@ use Rattle.sequent.specs.Leaf.{is_open}
 use Rattle.sequent.specs.Rules.{brought, new_members, one_each, place, premises_at, premises_by, premises_of}
 use Rattle.sequent.specs.Sequent.{Member, Sequent, member, sequent}
 use Rattle.sequent.proofs.Members.{all_append, all_at, all_remove}
-use Rattle.solution_rules.specs.Solutions.{solving}
-use Rattle.node_steps.specs.Within.{branch_limit}
+use Rattle.solution_laws.specs.Solutions.{solving}
+use Rattle.limits.specs.Limits.{branch_limit}
 use Rattle.proof_tree.specs.Gives.{AreGiven, Gives}
 use Rattle.proof_tree.specs.Proof.{Proof, Proofs, node, no_proof, and_proof, given}
 use Rattle.proof_tree.specs.Proves.{start}
 use Rattle.search.specs.Building.{built}
-use Rattle.search.specs.Run.{Answer, concluded, has_open_leaf, have_open_leaf, judged, one_round}
+use Rattle.search.specs.Run.{RunAnswer, concluded, has_open_leaf, have_open_leaf, judged, one_round}
 use Rattle.search.proofs.Retracing.{retraced}
 use Rattle.refuted_runs.specs.Somes.{HasNoGamma, HasPureSomes, HaveNoGamma, HavePureSomes}
 use Rattle.refuted_runs.proofs.Picked.{ArePicked, IsPicked, built_picked, opens_at, picked_opens}
@@ -162,7 +162,7 @@ pub built_no_gamma : (limit left n : ℕ) (s : Sequent) (x : Proof) → AllByRec
 built_no_gamma limit left n s x h e = no_gammas limit s x h (retraced limit left n s x e).gives (built_picked limit left n s x e)
 
 -- each round has an answer
-answer_there : (b o : Bool) (a c : Answer) → o ≡ false → cond b (Some a) (cond o None (Some c)) ≡ None → ⊥
+answer_there : (b o : Bool) (a c : RunAnswer) → o ≡ false → cond b (Some a) (cond o None (Some c)) ≡ None → ⊥
 answer_there true o a c is e = absurd (cc)
 answer_there false true a c is e = absurd (cc)
 answer_there false false a c is e = absurd (cc)

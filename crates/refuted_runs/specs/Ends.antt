@@ -2,10 +2,11 @@
 use Rattle.std.specs.Prelude.{ℕ, [], length}
 use Rattle.purse.specs.Trace.{at}
 use Rattle.search.specs.Run as run
-use Rattle.search.specs.Run.{Ending, canonical_run, ending}
+use Rattle.purse.specs.Ending.{Ending, ending}
+use Rattle.search.specs.Run.{canonical_run}
 use Rattle.pri_typing.specs.declared.problem.Problem.{Problem}
 use Rattle.encoding.specs.Problems.{problem_root}
 
 -- how the canonical run on the encoded problem ends with this budget
-abbrev pub run_end : ℕ → Problem → Ending run.Answer
+abbrev pub run_end : ℕ → Problem → Ending run.RunAnswer
 run_end budget p = ending (canonical_run (problem_root p).value (length p.existentials) budget) (at (record { budget = budget; spent = 0 }) [])

@@ -4,9 +4,9 @@ ghost use Rattle.clause_set.specs.Literals.{dnf_truth};
 ghost use Rattle.encoding.specs.Problems.{problem_root};
 ghost use Rattle.formula.specs.Form.{Form, IsFormOver, is_pure};
 ghost use Rattle.formula.specs.Reduced.{HasReducedTerms};
-ghost use Rattle.node_steps.specs.Within.{branch_limit};
+ghost use Rattle.limits.specs.Limits.{branch_limit};
 ghost use Rattle.open_trees.specs.Levels.{HasLevels};
-ghost use Rattle.open_trees.specs.Open.{IsOpenTree, IsSaturated};
+ghost use Rattle.open_trees.specs.Open.{IsOpenTree, IsSaturatedTree};
 ghost use Rattle.pri_typing.specs.Problems.{IsRefuted, IsUniversal};
 ghost use Rattle.pri_typing.specs.WellFormed.{IsWellFormed};
 ghost use Rattle.pri_typing.specs.declared.problem.Problem.{Problem};
@@ -17,7 +17,8 @@ ghost use Rattle.purse.specs.declared.log.Entry.{Entry};
 ghost use Rattle.refuted_runs.specs.Refuting.{IsExplained};
 ghost use Rattle.refuted_runs.specs.Somes.{HasNoGamma, HasPureSomes};
 ghost use Rattle.search.specs.Building.{built};
-ghost use Rattle.search.specs.Run.{canonical_run, ending, ends_with, has_open_leaf, one_round, saturated};
+ghost use Rattle.purse.specs.Ending.{ending, ends_with};
+ghost use Rattle.search.specs.Run.{canonical_run, has_open_leaf, one_round, saturated};
 ghost use Rattle.typed_formula.specs.Sorts.{AreValuesOf};
 ghost use Rattle.std.specs.Prelude.{◌≡◌, ◌≢◌, false, length, List, [], None, Some, ℕ, ℤ};
 
@@ -25,14 +26,14 @@ ghost use Rattle.std.specs.Prelude.{◌≡◌, ◌≢◌, false, length, List, [
 /// levels than a branch may have nodes.
 pub fn saturated_law()
     ensures tree { (f : Form) (n : ℕ) (g : Funds) (log : List Entry) (x : Proof) (b : At) → IsFormOver n f → HasReducedTerms f
-        → ending (canonical_run f n g.budget) (at g []) ≡ ends_with (saturated log x) b → IsSaturated f n x }
+        → ending (canonical_run f n g.budget) (at g []) ≡ ends_with (saturated log x) b → IsSaturatedTree f n x }
     ensures levels { (f : Form) (n : ℕ) (g : Funds) (log : List Entry) (x : Proof) (b : At) → IsFormOver n f → HasReducedTerms f
         → ending (canonical_run f n g.budget) (at g []) ≡ ends_with (saturated log x) b → HasLevels branch_limit x }
 {}
 
 /// A problem on whose encoding a run ends saturated is refuted.
 pub fn refuted_law()
-    ensures { (p : Problem) (x : Proof) → IsWellFormed p → HasReducedTerms (problem_root p).value → IsSaturated (problem_root p).value (length p.existentials) x → IsRefuted p }
+    ensures { (p : Problem) (x : Proof) → IsWellFormed p → HasReducedTerms (problem_root p).value → IsSaturatedTree (problem_root p).value (length p.existentials) x → IsRefuted p }
 {}
 
 /// From values of the existential constants' types at which the constraint of an open tree of the encoding is false, the walk finds a

@@ -2,6 +2,8 @@
 #![tactic(auto)]
 
 #[cfg(test)]
+mod at_limits;
+#[cfg(test)]
 mod changes;
 #[cfg(test)]
 mod decided;
@@ -11,8 +13,6 @@ mod faults;
 mod interpolants;
 #[cfg(test)]
 mod least;
-#[cfg(test)]
-mod limits;
 #[cfg(test)]
 mod proofs;
 #[cfg(test)]

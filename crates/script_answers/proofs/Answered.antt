@@ -3,7 +3,7 @@ use Rattle.std.proofs.Common.{◌≡◌, ℕ, Bool, true, false, [], length, ref
 use Rattle.typed_formula.specs.Truth.{Meaning}
 use Rattle.proof_tree.specs.Proof.{given}
 use Rattle.search.specs.Run as run
-use Rattle.search.specs.Run.{Ending, ends_with, out_of_steps, overflows}
+use Rattle.purse.specs.Ending.{Ending, ends_with, out_of_steps, overflows}
 use Rattle.encoding.specs.Problems.{problem_root}
 use Rattle.encoding.proofs.Problems.{root_over}
 use Rattle.pri_typing.specs.declared.problem.Problem.{Problem}
@@ -37,7 +37,7 @@ pub unsat_holds : (w : Meaning) (budget : ℕ) (p : Problem) → IsWellFormed p 
 unsat_holds w budget p formed none (leaves l e) = absurd cc
 unsat_holds w budget p formed none (ends f e) = by (run_end budget p) refl e
   where
-    by : (end : Ending run.Answer) → run_end budget p ≡ end → Unsat ≡ told end → Holds w p []
+    by : (end : Ending run.RunAnswer) → run_end budget p ≡ end → Unsat ≡ told end → Holds w p []
     by (ends_with (run.valid vs x) stands) is e =
         let found = answer_tells (problem_root p).value (length p.existentials) (record { budget = budget; spent = 0 }) _ stands (root_over p formed) (problem_reduced p) is in
         closed_holds w p (given x) vs formed (record { over = found.over; covers = found.covers; many = found.best.names; satisfies = found.best.satisfies }) none
@@ -51,7 +51,7 @@ pub sat_refuted : (budget : ℕ) (p : Problem) → IsWellFormed p → IsCheckAns
 sat_refuted budget p formed (leaves l e) = absurd cc
 sat_refuted budget p formed (ends f e) = by (run_end budget p) refl e
   where
-    by : (end : Ending run.Answer) → run_end budget p ≡ end → Sat ≡ told end → IsRefuted p
+    by : (end : Ending run.RunAnswer) → run_end budget p ≡ end → Sat ≡ told end → IsRefuted p
     by (ends_with (run.valid vs x) stands) is e = absurd cc
     by (ends_with (run.invalid log x) stands) is e = let lost = answer_tells (problem_root p).value (length p.existentials) (record { budget = budget; spent = 0 }) _ stands (root_over p formed) (problem_reduced p) is in lost_refuted p formed lost.pure lost.fails
     by (ends_with (run.saturated log x) stands) is e =

@@ -9,7 +9,8 @@ use Rattle.search.specs.declared.judge.Outcome.{Outcome}
 use Rattle.search.specs.declared.judge.Outcome.TheVariants.{Valid, Invalid, Saturated, Unknown}
 use Rattle.search.specs.Outcomes.{DecidesAs, EndsAs, bare}
 use Rattle.search.specs.Run as run
-use Rattle.search.specs.Run.{Ending, ending, canonical_run}
+use Rattle.purse.specs.Ending.{Ending, ending}
+use Rattle.search.specs.Run.{canonical_run}
 use Rattle.encoding.specs.Problems.{problem_root}
 use Rattle.function_encoding.specs.declared.answer.Encoded.{Encoded}
 use Rattle.pri_typing.specs.declared.problem.Problem.{Problem}
@@ -34,6 +35,6 @@ decision_told f n old new d (Err m, k, e) = absurd cc
 
 pub decided_told : (budget : ℕ) (p : Problem) (e : Encoded) → IsEncoded p e → (old new : Funds) (d : Decided) → old ≡ start budget → DecidesAs (form e.root) e.constants old (Ok d) new → told_of d ≡ told (run_end budget p)
 decided_told budget p e h old new d from k =
-    let end : Form → ℕ → Ending run.Answer = λ f n. ending (canonical_run f n budget) (at (start budget) []) in
+    let end : Form → ℕ → Ending run.RunAnswer = λ f n. ending (canonical_run f n budget) (at (start budget) []) in
     decision_told (form e.root) e.constants (start budget) new d (subst (λ z. DecidesAs (form e.root) e.constants z (Ok d) new) from k)
     ∙ ap (λ f. told (end f e.constants)) h.root ∙ ap (λ n. told (end (problem_root p).value n)) h.constants

@@ -8,7 +8,7 @@ use Rattle.answers.specs.Answer.{answer_of, refused_answer}
 use Rattle.answers.specs.declared.output.Output.{Output}
 use Rattle.script_answers.specs.declared.answering.CheckAnswer.{CheckAnswer}
 use Rattle.script_answers.specs.declared.answering.CheckAnswer.TheVariants.{Unsat, Sat, Unknown}
-use Rattle.script_answers.specs.Lines.{AreLines, raised}
+use Rattle.script_answers.specs.Lines.{AreCheckLines, raised}
 use Rattle.script_answers.specs.Answers.{AnswersChecks, AreCheckAnswers, IsCheckAnswer, is_unknown, large, lines, lines_answer, word}
 
 -- the status behind many answers
@@ -60,9 +60,9 @@ among ps slice i p is lt read = subst (λ qs. Contains qs p) is (i, lt, sym read
 
 -- ---- the whole answer
 
-pub lines_told : (budget : ℕ) (ps : List Problem) (out : Output) → AreLines budget ps (Some out) → AnswersChecks budget ps (answer_of out)
+pub lines_told : (budget : ℕ) (ps : List Problem) (out : Output) → AreCheckLines budget ps (Some out) → AnswersChecks budget ps (answer_of out)
 lines_told budget ps out h = lines h.0 h.1 h.2
 
-pub large_told : (budget : ℕ) (ps : List Problem) (r : Result Output Memory) → AreLines budget ps None → IfOk r (λ out. answer_of out ≡ refused_answer (codes "Large")) → IfOk r (λ out. AnswersChecks budget ps (answer_of out))
+pub large_told : (budget : ℕ) (ps : List Problem) (r : Result Output Memory) → AreCheckLines budget ps None → IfOk r (λ out. answer_of out ≡ refused_answer (codes "Large")) → IfOk r (λ out. AnswersChecks budget ps (answer_of out))
 large_told budget ps (Ok out) h is = large h.0 h.1 h.2 is
 large_told budget ps (Err m) h is = tt

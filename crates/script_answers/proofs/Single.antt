@@ -4,7 +4,8 @@ use Rattle.purse.specs.Trace.{at}
 use Rattle.purse.specs.Runs.{raw_stay}
 use Rattle.formula.specs.Form.{Form}
 use Rattle.search.specs.Run as run
-use Rattle.search.specs.Run.{Ending, canonical_run, ending}
+use Rattle.purse.specs.Ending.{Ending, ending}
+use Rattle.search.specs.Run.{canonical_run}
 use Rattle.pri_typing.specs.declared.problem.Problem.{Problem}
 use Rattle.encoding.specs.Problems.{is_large, problem_root}
 use Rattle.problem_file.specs.Encoded.{Fits, IsLarge, LeavesRange}
@@ -17,7 +18,7 @@ use Rattle.script_answers.specs.Answers.{IsCheckAnswer, ends, leaves, told}
 -- their runs end alike
 end_same : (budget : ℕ) (p q : Problem) → AreSame p q → run_end budget p ≡ run_end budget q
 end_same budget p q same =
-    let from : Form → ℕ → Ending run.Answer = λ f n. ending (canonical_run f n budget) (at (record { budget = budget; spent = 0 }) []) in
+    let from : Form → ℕ → Ending run.RunAnswer = λ f n. ending (canonical_run f n budget) (at (record { budget = budget; spent = 0 }) []) in
     ap (λ w. from w.value (length p.existentials)) (root_same p q same) ∙ ap (λ names. from (problem_root q).value (length names)) same.existentials
 
 large_same : (p q : Problem) → AreSame p q → is_large (problem_root p).value ≡ is_large (problem_root q).value

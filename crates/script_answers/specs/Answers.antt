@@ -5,7 +5,7 @@ use Rattle.search.specs.declared.judge.Decided.{Decided}
 use Rattle.search.specs.declared.judge.Decided.TheVariants.{Valid, Invalid, Saturated}
 use Rattle.search.specs.declared.judge.Decided.TheVariants as decided
 use Rattle.search.specs.Run as run
-use Rattle.search.specs.Run.{Ending, ends_with, out_of_steps, overflows}
+use Rattle.purse.specs.Ending.{Ending, ends_with, out_of_steps, overflows}
 use Rattle.pri_typing.specs.declared.problem.Problem.{Problem}
 use Rattle.answers.specs.Answer.{Answer, refused_answer}
 use Rattle.problem_file.specs.Encoded.{Fits, IsLarge, LeavesRange}
@@ -14,7 +14,7 @@ use Rattle.script_answers.specs.declared.answering.CheckAnswer.{CheckAnswer}
 use Rattle.script_answers.specs.declared.answering.CheckAnswer.TheVariants.{Unsat, Sat, Unknown}
 
 -- what the end of a run says of a check: its problem is the negation of what is asserted
-abbrev pub told : Ending run.Answer → CheckAnswer
+abbrev pub told : Ending run.RunAnswer → CheckAnswer
 told (ends_with (run.valid vs x) stands) = Unsat
 told (ends_with (run.invalid log x) stands) = Sat
 told (ends_with (run.saturated log x) stands) = Sat
@@ -28,9 +28,9 @@ pub data IsCheckAnswer (budget : ℕ) (p : Problem) (a : CheckAnswer) : Type 0 w
   ends : Fits p → a ≡ told (run_end budget p) → IsCheckAnswer budget p a
 
 -- what comes of a check: no answer where its encoding is too large
-abbrev pub IsChecked : ℕ → Problem → Option CheckAnswer → Type 0
-IsChecked budget p None = IsLarge p
-IsChecked budget p (Some a) = IsCheckAnswer budget p a
+abbrev pub IsCheckOutcome : ℕ → Problem → Option CheckAnswer → Type 0
+IsCheckOutcome budget p None = IsLarge p
+IsCheckOutcome budget p (Some a) = IsCheckAnswer budget p a
 
 -- ---- the answer to all checks
 

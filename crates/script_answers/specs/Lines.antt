@@ -10,9 +10,9 @@ use Rattle.script_answers.specs.declared.answering.CheckAnswer.TheVariants.{Unsa
 use Rattle.script_answers.specs.Answers.{AreCheckAnswers, lines_answer}
 
 -- all lines, or none where the encoding of some problem is too large
-abbrev pub AreLines : ℕ → List Problem → Option Output → Type 0
-AreLines budget ps None = (p : Problem) × Contains ps p × IsLarge p
-AreLines budget ps (Some output) = (xs : List CheckAnswer) × AreCheckAnswers budget ps xs × (answer_of output ≡ lines_answer xs)
+abbrev pub AreCheckLines : ℕ → List Problem → Option Output → Type 0
+AreCheckLines budget ps None = (p : Problem) × Contains ps p × IsLarge p
+AreCheckLines budget ps (Some output) = (xs : List CheckAnswer) × AreCheckAnswers budget ps xs × (answer_of output ≡ lines_answer xs)
 
 -- the status behind a further answer
 abbrev pub raised : ℕ → CheckAnswer → ℕ

@@ -1,8 +1,9 @@
 // The answer to a check.
 
+ghost use Rattle.limits.specs.Limits.{most_budget};
 ghost use Rattle.pri_typing.specs.WellFormed.{IsWellFormed};
 ghost use Rattle.problem_file.specs.Encoded.{IsEncoded};
-ghost use Rattle.script_answers.specs.Answers.{IsChecked, told, told_of};
+ghost use Rattle.script_answers.specs.Answers.{IsCheckOutcome, told, told_of};
 ghost use Rattle.refuted_runs.specs.Ends.{run_end};
 ghost use Rattle.std.specs.Prelude.{◌≡◌, ◌≤◌, IfOk};
 
@@ -29,8 +30,8 @@ pub enum CheckAnswer {
 /// the encoding of the problem has more than 1,000,000 nodes or more than 2,000 levels. The one error is want of memory.
 pub fn check(alloc: Global, p: &Problem, budget: u64) -> Result<Option<CheckAnswer>, Memory>
     requires formed { IsWellFormed p.now }
-    requires budget { budget ≤ 1000000000 }
-    ensures { IfOk result (IsChecked budget p.now) }
+    requires budget { budget ≤ most_budget }
+    ensures { IfOk result (IsCheckOutcome budget p.now) }
 {
     match encode_problem(alloc, p) {
         Ok(encoded) => {
@@ -47,7 +48,7 @@ pub fn check(alloc: Global, p: &Problem, budget: u64) -> Result<Option<CheckAnsw
 fn run(alloc: Global, p: &Problem, encoded: &Encoded, budget: u64) -> Result<CheckAnswer, Memory>
     requires formed { IsWellFormed p.now }
     requires encoded { IsEncoded p.now encoded.now }
-    requires budget { budget ≤ 1000000000 }
+    requires budget { budget ≤ most_budget }
     ensures { IfOk result (λ a. a ≡ told (run_end budget p.now)) }
 {
     let mut purse = Purse::new(budget);

@@ -1,9 +1,10 @@
 // The lines of the answers to checks.
 
 ghost use Rattle.answers.specs.Answer.{answer_of};
+ghost use Rattle.limits.specs.Limits.{most_budget};
 ghost use Rattle.pri_typing.specs.WellFormed.{IsWellFormed};
 ghost use Rattle.script_answers.specs.Answers.{AnswersChecks, word};
-ghost use Rattle.script_answers.specs.Lines.{AreLines, raised};
+ghost use Rattle.script_answers.specs.Lines.{AreCheckLines, raised};
 ghost use Rattle.std.specs.List.{All};
 ghost use Rattle.std.specs.Prelude.{◌≡◌, ◌≤◌, IfOk};
 
@@ -18,7 +19,7 @@ use std::alloc::Global;
 /// `unknown` and 0 elsewhere; `refused: Large` where the encoding of one is too large. The one error is want of memory.
 pub fn answer_checks(alloc: Global, problems: &[Problem], budget: u64) -> Result<Output, Memory>
     requires formed { All IsWellFormed problems.now }
-    requires budget { budget ≤ 1000000000 }
+    requires budget { budget ≤ most_budget }
     ensures { IfOk result (λ output. AnswersChecks budget problems.now (answer_of output)) }
 {
     match lines(alloc, problems, budget)? {
@@ -30,8 +31,8 @@ pub fn answer_checks(alloc: Global, problems: &[Problem], budget: u64) -> Result
 // The lines of the checks with these problems, if the encoding of none is too large.
 fn lines(alloc: Global, problems: &[Problem], budget: u64) -> Result<Option<Output>, Memory>
     requires formed { All IsWellFormed problems.now }
-    requires budget { budget ≤ 1000000000 }
-    ensures { IfOk result (AreLines budget problems.now) }
+    requires budget { budget ≤ most_budget }
+    ensures { IfOk result (AreCheckLines budget problems.now) }
 {
     let mut text = Vec::new(alloc);
     let mut status = VALID;

@@ -28,7 +28,7 @@ use Rattle.script_typing.specs.Faults as typing
 use Rattle.script_typing.specs.Faults.{kind_faults, names_in, term_faults}
 use Rattle.script_typing.specs.Reading.{phrase_of}
 use Rattle.script_checks.specs.Commands.{commands_of, script_terms, with_form}
-use Rattle.script_checks.specs.Formed.{IsFormed, IsRanged, Sound, symbol, symbols}
+use Rattle.script_checks.specs.Formed.{IsFormedCheck, IsRanged, Sound, symbol, symbols}
 use Rattle.script_checks.proofs.Sound.{AllSound, IsSaid, all_everywhere, formula_of}
 use Rattle.script_checks.proofs.Faultless.{needed_is, none_both}
 use Rattle.script_checks.proofs.Terms.{IsRangedPhrase, formed, none}
@@ -166,7 +166,7 @@ claims_sound : (c : ℕ) (fs ps : List Symbol) (claims : List Claim) → AllByRe
 claims_sound c fs ps [] h = tt
 claims_sound c fs ps (x ∷ xs) h = (claim_sound c fs ps x h.0, claims_sound c fs ps xs h.1)
 
-check_formed : (g : List Entry) (s : State) → StateFormed g s → IsFormed s
+check_formed : (g : List Entry) (s : State) → StateFormed g s → IsFormedCheck s
 check_formed g s f =
     let Q = Sound (length s.constants) (symbols s.functions) (symbols s.predicates) in
     record {
@@ -191,15 +191,15 @@ later_none (Some x) later e = absurd (cc)
 
 -- what the commands behind come to
 abbrev Goes : List Expr → Type 0
-Goes es = (g : List Entry) (s : State) → StateFormed g s → refusal_from script_terms g es ≡ None → All IsFormed (checks_from s (commands_of es))
+Goes es = (g : List Entry) (s : State) → StateFormed g s → refusal_from script_terms g es ≡ None → All IsFormedCheck (checks_from s (commands_of es))
 
-no_checks : All IsFormed []
+no_checks : All IsFormedCheck []
 no_checks i d h = absurd (omega (arith, h))
 
 definition_on : (es : List Expr) → Goes es → (g : List Entry) (s : State) (at : ℕ) (f : Named) (arguments : List Expr) (st t : Expr) → StateFormed g s → IsRanged t → length arguments ≡ length (names_in arguments)
     → least (definition_faults g f arguments st ++ body_faults script_terms g at f.text arguments (sort_of st) t) ≡ None
     → refusal_from script_terms (behind g (Some (form.define f arguments st t))) es ≡ None
-    → All IsFormed (checks_from (record s { globals = (f.text, defined_by (names_in arguments) (phrase_of t)) ∷ s.globals }) (commands_of es))
+    → All IsFormedCheck (checks_from (record s { globals = (f.text, defined_by (names_in arguments) (phrase_of t)) ∷ s.globals }) (commands_of es))
 definition_on es go g s at f arguments st t h ranged many fits later =
     let own = definition_faults g f arguments st in
     let body = body_faults script_terms g at f.text arguments (sort_of st) t in
@@ -211,7 +211,7 @@ definition_on es go g s at f arguments st t h ranged many fits later =
     (subst (λ z. term_faults g (variables (names_in arguments) []) z (phrase_of t) ≡ []) sorted fine)) later
 
 command_on : (es : List Expr) → Goes es → (g : List Entry) (s : State) (at : ℕ) (f : Option Form) → StateFormed g s → IsRangedForm f → least (command_faults script_terms g at f) ≡ None
-    → unless_exit f (refusal_from script_terms (behind g f) es) ≡ None → All IsFormed (checks_from s (with_form f (commands_of es)))
+    → unless_exit f (refusal_from script_terms (behind g f) es) ≡ None → All IsFormedCheck (checks_from s (with_form f (commands_of es)))
 command_on es go g s at None h r e later = absurd (cc)
 command_on es go g s at (Some form.skip) h r e later = go g s h later
 command_on es go g s at (Some (form.declare x sorts st)) h r e later =
@@ -227,7 +227,7 @@ command_on es go g s at (Some (form.assert t)) h r e later =
       few = h.few;
       claims = one_claim_more _ _ _ s.claims claim h.claims (record { table = g; linked = h.linked; ranged = phrase_ranged t r; none = fine });
     }) later
-command_on es go g s at (Some form.check_sat) h r e later = All-cons IsFormed s (checks_from s (commands_of es)) (check_formed g s h) (go g s h later)
+command_on es go g s at (Some form.check_sat) h r e later = All-cons IsFormedCheck s (checks_from s (commands_of es)) (check_formed g s h) (go g s h later)
 command_on es go g s at (Some form.exit) h r e later = no_checks
 
 checks_on : (es : List Expr) → AllByRecursion IsRanged es → Goes es
@@ -240,5 +240,5 @@ checks_on (x ∷ es) r g s h e =
 start_formed : StateFormed [] start
 start_formed = record { linked = nothing refl refl; counted = refl; few = omega arith; claims = tt }
 
-pub checks_formed : (es : List Expr) → AllByRecursion IsRanged es → refusal_of script_terms es ≡ None → All IsFormed (checks (commands_of es))
+pub checks_formed : (es : List Expr) → AllByRecursion IsRanged es → refusal_of script_terms es ≡ None → All IsFormedCheck (checks (commands_of es))
 checks_formed es r e = checks_on es r [] start start_formed e

@@ -16,7 +16,7 @@ use Rattle.script_terms.specs.declared.operator.Operator.{Operator}
 use Rattle.script_terms.specs.declared.operator.Operator.TheVariants as op
 use Rattle.script_terms.specs.declared.term.Name.{Name}
 use Rattle.script_terms.specs.declared.term.Variable.{Variable}
-use Rattle.script_terms.specs.Term.{Phrase, Phrases, Bindings, Bound, bindings, number, large, used, let_in, quantified, annotated, ill, no_phrase, and_phrase, no_binding, and_binding, count, first_byte}
+use Rattle.script_terms.specs.Term.{Phrase, Phrases, Bindings, BoundTerm, bindings, number, large, used, let_in, quantified, annotated, ill, no_phrase, and_phrase, no_binding, and_binding, count, first_byte}
 use Rattle.script_terms.specs.Operators.{found, operator_of}
 use Rattle.script_terms.specs.Evaluation.{names_of, texts_of, with_names}
 use Rattle.script_typing.specs.declared.forms.Head.{Head}
@@ -79,11 +79,11 @@ module _ (P : ℕ → Type 0) where
 
   -- Reading.
 
-  abbrev ReadAt : Option (List Bound) → Type 0
+  abbrev ReadAt : Option (List BoundTerm) → Type 0
   ReadAt None = Unit {0}
   ReadAt (Some bs) = BindingsAt (bindings bs)
 
-  abbrev OneAt : Option Bound → Type 0
+  abbrev OneAt : Option BoundTerm → Type 0
   OneAt None = Unit {0}
   OneAt (Some b) = PhraseAt b.term
 
@@ -95,7 +95,7 @@ module _ (P : ℕ → Type 0) where
   OptionAt None = Unit {0}
   OptionAt (Some xs) = VariablesAt xs
 
-  let_at : (at : ℕ) (bs : Option (List Bound)) (t : Phrase) → P at → ReadAt bs → PhraseAt t → PhraseAt (let_phrase at bs t)
+  let_at : (at : ℕ) (bs : Option (List BoundTerm)) (t : Phrase) → P at → ReadAt bs → PhraseAt t → PhraseAt (let_phrase at bs t)
   let_at at None t p h l = p
   let_at at (Some bs) t p h l = by (are_proper bs)
     where
@@ -103,7 +103,7 @@ module _ (P : ℕ → Type 0) where
       by true = (p, h, l)
       by false = p
 
-  before_at : (b : Option Bound) (bs : Option (List Bound)) → OneAt b → ReadAt bs → ReadAt (before b bs)
+  before_at : (b : Option BoundTerm) (bs : Option (List BoundTerm)) → OneAt b → ReadAt bs → ReadAt (before b bs)
   before_at None bs h l = tt
   before_at (Some b) None h l = tt
   before_at (Some b) (Some bs) h l = (h, l)

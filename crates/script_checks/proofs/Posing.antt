@@ -12,8 +12,8 @@ use Rattle.pri_typing.specs.Files.{all_int}
 use Rattle.pri_typing.specs.WellFormed.{HasMember, IsBinderRanged, IsDivision, IsFunctionDeclared, IsLinear, IsNameBelow, IsNumberRanged, IsPartBelow, IsPredicateDeclared, IsWellFormed, of_formulas, of_terms}
 use Rattle.pri_typing.proofs.Everywhere.{everywhere_more}
 use Rattle.script_terms.specs.Scripts.{State}
-use Rattle.script_checks.specs.Formed.{IsFormed, Sound, symbol, symbols}
-use Rattle.script_checks.specs.Posed.{IsPosed}
+use Rattle.script_checks.specs.Formed.{IsFormedCheck, Sound, symbol, symbols}
+use Rattle.script_checks.specs.Posed.{IsCheckPosed}
 
 module _ (c : ℕ) (fs ps : List Symbol) (f : Formula) (h : Everywhere (Sound c fs ps) 0 f) where
   numbers : Everywhere (of_terms IsNumberRanged) 0 f
@@ -52,7 +52,7 @@ as_many : (xs : List (List ℕ)) → length (all_int xs) ≡ length xs
 as_many [] = refl
 as_many (x ∷ xs) = ap suc (as_many xs)
 
-pub well_formed : (s : State) (p : Problem) → IsFormed s → IsPosed s p → IsWellFormed p
+pub well_formed : (s : State) (p : Problem) → IsFormedCheck s → IsCheckPosed s p → IsWellFormed p
 well_formed s p h e =
     let c = length s.constants in
     let fs = symbols s.functions in

@@ -13,7 +13,7 @@ use Rattle.script_commands.specs.Words.{word_of}
 use Rattle.script_commands.specs.Faults as faults
 use Rattle.script_commands.specs.Faults.{form_in}
 use Rattle.script_terms.specs.declared.term.Variable.{Variable}
-use Rattle.script_terms.specs.Term.{Phrase, Phrases, Bound, bindings, let_in, ill}
+use Rattle.script_terms.specs.Term.{Phrase, Phrases, BoundTerm, bindings, let_in, ill}
 use Rattle.script_typing.specs.declared.forms.Head.{Head}
 use Rattle.script_typing.specs.declared.forms.Head.TheVariants as head
 use Rattle.script_typing.specs.Reading.{are_attributes, are_proper, atom_phrase, before, bindings_in, bound_by, bound_read, head_of, let_of, let_phrase, note_of, phrase_of, phrases_in, quantified_of, quantified_phrase, use_of, ill_by, variable_by, variable_of, variables_of}
@@ -24,15 +24,15 @@ use Rattle.script_checks.proofs.Faultless.{left_true, right_true}
 use Rattle.script_checks.proofs.Terms.{AreRangedBindings, AreRangedPhrases, IsRangedPhrase}
 
 -- bindings that were read
-abbrev AreRead : Option (List Bound) → Type 0
+abbrev AreRead : Option (List BoundTerm) → Type 0
 AreRead None = Unit {0}
 AreRead (Some bs) = AreRangedBindings (bindings bs)
 
-abbrev IsRead : Option Bound → Type 0
+abbrev IsRead : Option BoundTerm → Type 0
 IsRead None = Unit {0}
 IsRead (Some b) = IsRangedPhrase b.term
 
-let_ranged : (at : ℕ) (bs : Option (List Bound)) (t : Phrase) → AreRead bs → IsRangedPhrase t → IsRangedPhrase (let_phrase at bs t)
+let_ranged : (at : ℕ) (bs : Option (List BoundTerm)) (t : Phrase) → AreRead bs → IsRangedPhrase t → IsRangedPhrase (let_phrase at bs t)
 let_ranged at None t h l = tt
 let_ranged at (Some bs) t h l = by (are_proper bs)
   where
@@ -40,7 +40,7 @@ let_ranged at (Some bs) t h l = by (are_proper bs)
     by true = (h, l)
     by false = tt
 
-before_ranged : (b : Option Bound) (bs : Option (List Bound)) → IsRead b → AreRead bs → AreRead (before b bs)
+before_ranged : (b : Option BoundTerm) (bs : Option (List BoundTerm)) → IsRead b → AreRead bs → AreRead (before b bs)
 before_ranged None bs h l = tt
 before_ranged (Some b) None h l = tt
 before_ranged (Some b) (Some bs) h l = (h, l)

@@ -12,7 +12,7 @@ use Rattle.script_commands.specs.Symbols.{entry_of, is_known}
 use Rattle.script_terms.specs.declared.operator.Sort.TheVariants as sort
 use Rattle.script_terms.specs.Term.{first_byte}
 use Rattle.script_terms.specs.Evaluation.{Globals, Meant, constant_of, function_of, predicate_of, defined_by, with_names}
-use Rattle.script_terms.specs.Translation.{a_formula, a_term, term_in, Standing, Names, Writer, at_depth, said, meant_said, symbol_said}
+use Rattle.script_terms.specs.Translation.{a_formula, a_term, term_in, Standing, Replacements, Writer, at_depth, said, meant_said, symbol_said}
 use Rattle.script_typing.specs.Sorts.{Sorts, term_sort, variables}
 use Rattle.script_typing.specs.Faults.{faults, kind_faults, term_faults}
 use Rattle.script_checks.specs.Formed.{Sound}
@@ -71,7 +71,7 @@ module _ (c : ℕ) (functions predicates : List Symbol) where
         → all ≡ g ++ e ∷ [] → globals ≡ (e.text, m) ∷ gs → Linked all globals
 
   -- the arguments of a definition
-  arguments_formed : (m : ℕ) (xs : List (List ℕ)) (ss : List Standing) (b : Sorts) (ns : Names) → length ss ≡ length xs → AreGood c functions predicates m sort.Int ss → AreFormed c functions predicates m b ns
+  arguments_formed : (m : ℕ) (xs : List (List ℕ)) (ss : List Standing) (b : Sorts) (ns : Replacements) → length ss ≡ length xs → AreGood c functions predicates m sort.Int ss → AreFormed c functions predicates m b ns
       → AreFormed c functions predicates m (variables xs b) (with_names xs ss ns)
   arguments_formed m [] ss b ns e g f = f
   arguments_formed m (x ∷ xs) [] b ns e g f = absurd (omega arith)

@@ -16,7 +16,7 @@ use Rattle.script_commands.specs.Faults.{refusal_of}
 use Rattle.script_terms.specs.Scripts.{checks}
 use Rattle.script_checks.specs.Commands.{commands_of, script_terms}
 use Rattle.script_checks.proofs.Checks.{checks_formed}
-use Rattle.script_checks.specs.Formed.{AreRanged, IsFormed, IsRanged, IsRangedAtom}
+use Rattle.script_checks.specs.Formed.{AreRanged, IsFormedCheck, IsRanged, IsRangedAtom}
 
 numeral_by : (n : ℕ) (b : Bool) → nat_lt n (2 ^ 127) ≡ b → IsRangedAtom (if b then k.Numeral (pos n) else k.LargeNumeral)
 numeral_by n true e = grind (arith, nat_tests)
@@ -60,5 +60,5 @@ mutual
 pub text_ranged : (bytes : List ℕ) (lists : List Sexp) → IsScriptText bytes lists → AllByRecursion IsRanged (map expr lists)
 text_ranged bytes lists h = all_ranged bytes 200 lists _ h.said
 
-pub text_checks : (bytes : List ℕ) (lists : List Sexp) → IsScriptText bytes lists → refusal_of script_terms (map expr lists) ≡ None → All IsFormed (checks (commands_of (map expr lists)))
+pub text_checks : (bytes : List ℕ) (lists : List Sexp) → IsScriptText bytes lists → refusal_of script_terms (map expr lists) ≡ None → All IsFormedCheck (checks (commands_of (map expr lists)))
 text_checks bytes lists h e = checks_formed (map expr lists) (text_ranged bytes lists h) e

@@ -6,7 +6,7 @@ use Rattle.sexpr.specs.declared.tree.AtomKind.TheVariants as k
 use Rattle.sexpr.specs.Expressions.{Expr, Exprs, atom, list, no_expr, and_expr}
 use Rattle.pri_typing.specs.declared.problem.Symbol.{Symbol}
 use Rattle.pri_typing.specs.Everywhere.{Property, Everywhere}
-use Rattle.pri_typing.specs.Files.{most_symbols}
+use Rattle.limits.specs.Limits.{most_symbols}
 use Rattle.pri_typing.specs.WellFormed.{HasMember, IsBinderRanged, IsFunctionDeclared, IsLinear, IsNameBelow, IsNumberRanged, IsPartBelow, IsPredicateDeclared}
 use Rattle.script_terms.specs.Scripts.{Declared, State, refutation}
 
@@ -25,7 +25,7 @@ abbrev pub symbols : List Declared → List Symbol
 symbols = map symbol
 
 -- a check declares few symbols, and its formula is sound everywhere
-pub record IsFormed (s : State) : Type 0 where
+pub record IsFormedCheck (s : State) : Type 0 where
   pub few : length s.constants + length s.functions + length s.predicates ≤ most_symbols
   pub sound : Everywhere (Sound (length s.constants) (symbols s.functions) (symbols s.predicates)) 0 (refutation s)
 

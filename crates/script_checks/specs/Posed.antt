@@ -12,7 +12,7 @@ use Rattle.script_checks.specs.Formed.{symbols}
 
 -- Its universal constants are the Int constants of the check, its functions and predicates the other symbols, and its formula
 -- is the negation of the conjunction of all assertions; all else is empty.
-pub record IsPosed (s : State) (p : Problem) : Type 0 where
+pub record IsCheckPosed (s : State) (p : Problem) : Type 0 where
   pub existentials : p.existentials ≡ []
   pub existential_types : p.existential_types ≡ []
   pub universals : p.universals ≡ s.constants
@@ -26,7 +26,7 @@ pub record IsPosed (s : State) (p : Problem) : Type 0 where
 
 -- where it holds in an interpretation, no integers of the constants satisfy the assertions there
 abbrev pub MeansUnsatisfiable : List Command → Problem → Type 0
-MeansUnsatisfiable cs p = (s : State) → Contains (checks cs) s → IsPosed s p → (w : Meaning) → Holds w p [] → (u : List ℤ) → length u ≡ length s.constants → ¬ (IsSatisfied w u s)
+MeansUnsatisfiable cs p = (s : State) → Contains (checks cs) s → IsCheckPosed s p → (w : Meaning) → Holds w p [] → (u : List ℤ) → length u ≡ length s.constants → ¬ (IsSatisfied w u s)
 
 -- a finite interpretation and integers of the constants that satisfy the assertions
 pub record IsSatisfiable (s : State) : Type 0 where
@@ -37,4 +37,4 @@ pub record IsSatisfiable (s : State) : Type 0 where
 
 -- where it is refuted, there are such
 abbrev pub MeansSatisfiable : List Command → Problem → Type 0
-MeansSatisfiable cs p = (s : State) → Contains (checks cs) s → IsPosed s p → IsRefuted p → IsSatisfiable s
+MeansSatisfiable cs p = (s : State) → Contains (checks cs) s → IsCheckPosed s p → IsRefuted p → IsSatisfiable s

@@ -3,9 +3,9 @@
 ghost use Rattle.pri_typing.specs.WellFormed.{IsWellFormed};
 ghost use Rattle.pri_typing.specs.declared.problem.Problem.{Problem};
 ghost use Rattle.script_checks.specs.Commands.{HasFew, commands_of, script_terms};
-ghost use Rattle.script_checks.specs.Formed.{IsFormed};
+ghost use Rattle.script_checks.specs.Formed.{IsFormedCheck};
 ghost use Rattle.script_checks.specs.Order.{all_faults};
-ghost use Rattle.script_checks.specs.Posed.{IsPosed, MeansSatisfiable, MeansUnsatisfiable};
+ghost use Rattle.script_checks.specs.Posed.{IsCheckPosed, MeansSatisfiable, MeansUnsatisfiable};
 ghost use Rattle.script_commands.specs.Faults.{refusal_of};
 ghost use Rattle.script_commands.specs.Least.{least};
 ghost use Rattle.script_lists.specs.Grammar.{IsScriptText};
@@ -20,7 +20,7 @@ ghost use Rattle.std.specs.Prelude.{◌≡◌, List, [], ℕ, None, All, length,
 #[tactic(auto, using(crate::proofs::Texts::text_checks))]
 pub fn checks_law()
     ensures { (bytes : List ℕ) (lists : List Sexp) → IsScriptText bytes lists → refusal_of script_terms (map expr lists) ≡ None
-        → All IsFormed (checks (commands_of (map expr lists))) }
+        → All IsFormedCheck (checks (commands_of (map expr lists))) }
 {}
 
 /// A declared or defined symbol of a script has no more arguments than the text has bytes.
@@ -38,7 +38,7 @@ pub fn refusal_law()
 
 /// The problem of a check with few symbols and a sound formula is well formed.
 pub fn problem_law()
-    ensures { (s : State) (p : Problem) → IsFormed s → IsPosed s p → IsWellFormed p }
+    ensures { (s : State) (p : Problem) → IsFormedCheck s → IsCheckPosed s p → IsWellFormed p }
 {}
 
 /// Where the problem of a check holds in an interpretation, no integers of the Int constants satisfy its assertions there;

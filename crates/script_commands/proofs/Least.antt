@@ -2,7 +2,7 @@
 use Rattle.std.proofs.Common.{ℕ, ◌≡◌, ◌&&◌, ◌||◌, ◌⊎◌, inl, inr, Bool, true, false, List, [], ◌∷◌, ◌++◌, All, Contains, refl, sym, ap, subst, ◌∙◌, Option, Some, None, if◌then◌else◌, nat_eq, nat_lt, arith}
 use Rattle.std.proofs.lemmas.List.Elements.{Contains-get_or, Contains-append_right, All-cons}
 use Rattle.script_commands.specs.declared.refusal.ScriptRefusal.{ScriptRefusal}
-use Rattle.script_commands.specs.Least.{IsLeast, is_before, least, least_from, number_of, place_in, sooner}
+use Rattle.script_commands.specs.Least.{IsLeastFault, is_before, least, least_from, number_of, place_in, sooner}
 
 pub least_from-append : (found : Option ScriptRefusal) (xs ys : List ScriptRefusal) → least_from found (xs ++ ys) ≡ least_from (least_from found xs) ys
 least_from-append found [] ys = refl
@@ -94,5 +94,5 @@ from_first found (x ∷ xs) r e =
     let here = sooner_follows found x r later.0 in
     (here.0, All-cons (λ s. is_before s r ≡ false) x xs here.1 later.1)
 
-pub least_is : (xs : List ScriptRefusal) (r : ScriptRefusal) → least xs ≡ Some r → IsLeast r xs
+pub least_is : (xs : List ScriptRefusal) (r : ScriptRefusal) → least xs ≡ Some r → IsLeastFault r xs
 least_is xs r e = record { among = among xs r (from_among None xs r e); first = (from_first None xs r e).1 }

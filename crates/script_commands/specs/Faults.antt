@@ -1,6 +1,7 @@
 -- What keeps a script from being taken, but for its tokens and its size.
 use Rattle.std.specs.Prelude.{ℕ, Bool, true, false, List, [], ◌∷◌, ◌++◌, Option, Some, None, nat_le, if◌then◌else◌}
 use Rattle.std.specs.List.{flat_map}
+use Rattle.limits.specs.Limits.{most_symbols}
 use Rattle.sexpr.specs.Expressions.{Expr, place_of}
 use Rattle.script_commands.specs.declared.refusal.ScriptRefusal.{ScriptRefusal}
 use Rattle.script_commands.specs.declared.refusal.ScriptRefusal.TheVariants as r
@@ -45,7 +46,7 @@ name_faults table x = if is_taken x.text table then r.Redeclared x.at ∷ [] els
 
 -- the fault of one declared symbol too many
 abbrev pub many_faults : List Entry → Symbol → List ScriptRefusal
-many_faults table x = if nat_le 1000 (declared_number table) then r.Many x.at ∷ [] else []
+many_faults table x = if nat_le most_symbols (declared_number table) then r.Many x.at ∷ [] else []
 
 -- a symbol may not occur in the term that defines it
 abbrev pub use_faults : Terms → ℕ → List ℕ → List Expr → Expr → List ScriptRefusal

@@ -53,11 +53,11 @@ abbrev pub least : List ScriptRefusal → Option ScriptRefusal
 least = least_from None
 
 -- the script is refused so; want of memory says nothing
-abbrev pub IsRefused : ScriptRefusal → Option ScriptRefusal → Type 0
-IsRefused r.Memory found = Unit {0}
-IsRefused e found = found ≡ Some e
+abbrev pub IsScriptRefused : ScriptRefusal → Option ScriptRefusal → Type 0
+IsScriptRefused r.Memory found = Unit {0}
+IsScriptRefused e found = found ≡ Some e
 
 -- the fault is one of these, and no other one of them comes before it
-pub record IsLeast (e : ScriptRefusal) (faults : List ScriptRefusal) : Type 0 where
+pub record IsLeastFault (e : ScriptRefusal) (faults : List ScriptRefusal) : Type 0 where
   pub among : Contains faults e
   pub first : All (λ other. is_before other e ≡ false) faults

@@ -1,7 +1,7 @@
 // The faults of declarations and of definitions, but for those of a term that defines a symbol.
 
 ghost use Rattle.script_commands.specs.Faults.{argument_faults, declaration_faults, definition_faults, many_faults, name_faults, sort_faults};
-ghost use Rattle.script_commands.specs.Least.{IsRefused, least, least_from};
+ghost use Rattle.script_commands.specs.Least.{IsScriptRefused, least, least_from};
 ghost use Rattle.script_commands.specs.Symbols.{after, or_int, sort_of};
 ghost use Rattle.script_commands.specs.Views.{symbol_is};
 ghost use Rattle.sexpr.specs.Expressions.{expr, place_of};
@@ -14,12 +14,13 @@ use crate::operators::is_reserved;
 use crate::order::sooner;
 use crate::refusal::ScriptRefusal;
 use crate::table::Table;
+use limits::MOST_SYMBOLS;
 use script_terms::Sort;
 use sexpr::Sexp;
 use std::alloc::Global;
 
 /// How many symbols may be declared.
-const MOST: u64 = 1000;
+const MOST: u64 = MOST_SYMBOLS as u64;
 
 /// The first fault of a declaration behind these symbols; none where it may be made.
 pub fn declaration_refusal(
@@ -46,7 +47,7 @@ pub fn declare(
 ) -> Result<Table, ScriptRefusal>
     ensures found { IfOk result (λ t. t.entries ≡ after table.entries (declare (symbol_is name.entry) (map expr sorts.now) (expr sort.now))) }
     ensures fits { IfOk result (λ t. least (declaration_faults table.entries (symbol_is name.entry) (map expr sorts.now) (expr sort.now)) ≡ None) }
-    ensures refused { IfErr result (λ e. IsRefused e (least (declaration_faults table.entries (symbol_is name.entry) (map expr sorts.now) (expr sort.now)))) }
+    ensures refused { IfErr result (λ e. IsScriptRefused e (least (declaration_faults table.entries (symbol_is name.entry) (map expr sorts.now) (expr sort.now)))) }
 {
     if let Some(e) = declaration_refusal(&table, name, sorts, sort) {
         return Err(e);

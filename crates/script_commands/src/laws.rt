@@ -1,6 +1,6 @@
 // What the definition of the fault that counts means.
 
-ghost use Rattle.script_commands.specs.Least.{IsLeast, least};
+ghost use Rattle.script_commands.specs.Least.{IsLeastFault, least};
 ghost use Rattle.script_commands.specs.declared.refusal.ScriptRefusal.{ScriptRefusal};
 ghost use Rattle.std.specs.Prelude.{◌≡◌, [], List, None, Some};
 
@@ -8,6 +8,6 @@ ghost use Rattle.std.specs.Prelude.{◌≡◌, [], List, None, Some};
 /// exactly where there is none.
 #[tactic(auto, using(crate::proofs::Least::least_is, crate::proofs::Least::none_found))]
 pub fn least_law()
-    ensures least { (faults : List ScriptRefusal) (e : ScriptRefusal) → least faults ≡ Some e → IsLeast e faults }
+    ensures least { (faults : List ScriptRefusal) (e : ScriptRefusal) → least faults ≡ Some e → IsLeastFault e faults }
     ensures none { (faults : List ScriptRefusal) → least faults ≡ None → faults ≡ [] }
 {}

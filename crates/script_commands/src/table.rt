@@ -1,5 +1,6 @@
 // The symbols that the commands of a script declare and define.
 
+ghost use Rattle.limits.specs.Limits.{most_symbols};
 ghost use Rattle.script_commands.specs.Symbols.{declared_number, entry_of, is_known, texts_of};
 ghost use Rattle.std.specs.Prelude.{◌≡◌, ◌<◌, ◌∷◌, ◌++◌, [], false, true, IfOk, option_copied};
 
@@ -71,7 +72,7 @@ impl Table {
         sort: Sort,
     ) -> Result<Table, Memory>
         requires new { is_known text.now self.entries ≡ false }
-        requires few { declared_number self.entries < 1000 }
+        requires few { declared_number self.entries < most_symbols }
         ensures { IfOk result (λ t. t.entries ≡ self.entries ++ record { text = text.now; arity = arity; sort = sort; defined = false } ∷ []) }
     {
         let Table {

@@ -15,33 +15,33 @@ use Rattle.script_extents.specs.Weights.{Weighed}
 use Rattle.script_extents.specs.Linear.{Sum, sum, kinds, weights, combined, value, added_to, as_kind}
 use Rattle.script_extents.specs.Operators.{operator_sum}
 use Rattle.script_extents.specs.Shapes.{Weighing, term_of, shape_weighed, shapes_weighed, bound_weighed, with_variables}
-use Rattle.script_extents.specs.Walking.{Adds}
+use Rattle.script_extents.specs.Walking.{AddsWeight}
 use Rattle.script_extents.proofs.Algebra.{plus-regrouped, times-settled, times-plus, times-none, times-unit, times-regrouped, none-times, none-none}
 use Rattle.script_extents.proofs.Names.{and-value, node-value, last-value}
 use Rattle.script_extents.proofs.Scopes.{bound-more}
 use Rattle.script_extents.proofs.Parts.{parts, all_parts}
 
 pub adds-made : (bs : List Bool) (f g : Linear) (W : List Weighed → Weight) → length g.uses.items ≡ length f.uses.items
-    → ((ws : List Weighed) → bs ≡ kinds ws → length f.uses.items ≡ length ws → value (sum g) (weights ws) ≡ plus (value (sum f) (weights ws)) (W ws)) → Adds bs f g W
-unfolding Adds
+    → ((ws : List Weighed) → bs ≡ kinds ws → length f.uses.items ≡ length ws → value (sum g) (weights ws) ≡ plus (value (sum f) (weights ws)) (W ws)) → AddsWeight bs f g W
+unfolding AddsWeight
 adds-made bs f g W h k = (h, k)
 
-pub adds-count : (bs : List Bool) (f g : Linear) (W : List Weighed → Weight) → Adds bs f g W → length g.uses.items ≡ length f.uses.items
-unfolding Adds
+pub adds-count : (bs : List Bool) (f g : Linear) (W : List Weighed → Weight) → AddsWeight bs f g W → length g.uses.items ≡ length f.uses.items
+unfolding AddsWeight
 adds-count bs f g W h = h.0
 
-pub adds-value : (bs : List Bool) (f g : Linear) (W : List Weighed → Weight) → Adds bs f g W
+pub adds-value : (bs : List Bool) (f g : Linear) (W : List Weighed → Weight) → AddsWeight bs f g W
     → (ws : List Weighed) → bs ≡ kinds ws → length f.uses.items ≡ length ws → value (sum g) (weights ws) ≡ plus (value (sum f) (weights ws)) (W ws)
-unfolding Adds
+unfolding AddsWeight
 adds-value bs f g W h = h.1
 
-pub adds-as : (bs ds : List Bool) (f g : Linear) (W V : List Weighed → Weight) → Adds ds f g W → ds ≡ bs → ((ws : List Weighed) → bs ≡ kinds ws → W ws ≡ V ws) → Adds bs f g V
-unfolding Adds
+pub adds-as : (bs ds : List Bool) (f g : Linear) (W V : List Weighed → Weight) → AddsWeight ds f g W → ds ≡ bs → ((ws : List Weighed) → bs ≡ kinds ws → W ws ≡ V ws) → AddsWeight bs f g V
+unfolding AddsWeight
 adds-as bs ds f g W V h is same = (h.0, λ ws k long. h.1 ws (is ∙ k) long ∙ ap (plus (value (sum f) (weights ws))) (same ws k))
 
 -- A single node.
 pub adds-node : (bs : List Bool) (f g : Linear) (k w : Weight) (W : List Weighed → Weighed) → sum g ≡ added_to k (sum f) → k ≡ times w node → ((ws : List Weighed) → (W ws).weight ≡ node)
-    → Adds bs f g (λ ws. times w (W ws).weight)
+    → AddsWeight bs f g (λ ws. times w (W ws).weight)
 adds-node bs f g k w W ig ik iw =
     adds-made bs f g (λ ws. times w (W ws).weight) (ap (λ s. length s.uses) ig) (λ ws h long. node-value (sum f) (sum g) k w (weights ws) (W ws) ig ik (iw ws))
 

@@ -7,6 +7,6 @@ use Rattle.script_extents.specs.Weights.{Weighed}
 use Rattle.script_extents.specs.Linear.{sum, value, kinds, weights}
 
 -- What is written is more by W, whatever replaces the bound names of these kinds.
-unfoldable pub Adds : List Bool → Linear → Linear → (List Weighed → Weight) → Type 0
-Adds bs f g W = (length g.uses.items ≡ length f.uses.items)
+unfoldable pub AddsWeight : List Bool → Linear → Linear → (List Weighed → Weight) → Type 0
+AddsWeight bs f g W = (length g.uses.items ≡ length f.uses.items)
     × ((ws : List Weighed) → bs ≡ kinds ws → length f.uses.items ≡ length ws → value (sum g) (weights ws) ≡ plus (value (sum f) (weights ws)) (W ws))

@@ -6,7 +6,7 @@ ghost use Rattle.script_extents.specs.Linear as linear;
 ghost use Rattle.script_extents.specs.Linear.{as_kind, sum, value};
 ghost use Rattle.script_extents.specs.Shapes.{AreForms, bound_weighed, raised, shape_weighed, shapes_weighed, weighing_of};
 ghost use Rattle.script_extents.specs.Shapes as shapes;
-ghost use Rattle.script_extents.specs.Walking.{Adds};
+ghost use Rattle.script_extents.specs.Walking.{AddsWeight};
 ghost use Rattle.script_extents.specs.Weight as weights;
 ghost use Rattle.script_extents.specs.Weights.{Weighed};
 ghost use Rattle.script_extents.specs.declared.weight.Weight as declared;
@@ -91,7 +91,7 @@ pub(crate) fn walk(
     body: &Body,
 ) -> Result<Linear, Memory>
     ensures same { IfOk result (λ _. scope.new.items ≡ scope.old.items) }
-    ensures adds { IfOk result (λ l. AreForms defined.now.forms.now defined.now.bodies.now → Adds scope.old.items all l (λ ws. weights.times weight (shape_weighed (weighing_of defined.now.bodies.now) ws (shape body.now)).weight)) }
+    ensures adds { IfOk result (λ l. AreForms defined.now.forms.now defined.now.bodies.now → AddsWeight scope.old.items all l (λ ws. weights.times weight (shape_weighed (weighing_of defined.now.bodies.now) ws (shape body.now)).weight)) }
 {
     match body {
         Body::Leaf(leaf) => Ok(and_leaf(all, weight, *leaf)),
@@ -137,7 +137,7 @@ fn walk_each(
     bodies: &[Body],
 ) -> Result<Linear, Memory>
     ensures same { IfOk result (λ _. scope.new.items ≡ scope.old.items) }
-    ensures adds { IfOk result (λ l. AreForms defined.now.forms.now defined.now.bodies.now → Adds scope.old.items all l
+    ensures adds { IfOk result (λ l. AreForms defined.now.forms.now defined.now.bodies.now → AddsWeight scope.old.items all l
         (λ ws. weights.times weight (value (sum factors.now) (linear.weights (shapes_weighed (weighing_of defined.now.bodies.now) ws (shapes_of bodies.now)))))) }
 {
     let mut out = and(all, times(weight, factors.constant));
@@ -161,7 +161,7 @@ fn walk_applied(
     bodies: &[Body],
 ) -> Result<Linear, Memory>
     ensures same { IfOk result (λ _. scope.new.items ≡ scope.old.items) }
-    ensures adds { IfOk result (λ l. AreForms defined.now.forms.now defined.now.bodies.now → Adds scope.old.items all l (λ ws. let xs = shapes_weighed (weighing_of defined.now.bodies.now) ws (shapes_of bodies.now) in
+    ensures adds { IfOk result (λ l. AreForms defined.now.forms.now defined.now.bodies.now → AddsWeight scope.old.items all l (λ ws. let xs = shapes_weighed (weighing_of defined.now.bodies.now) ws (shapes_of bodies.now) in
         weights.times weight (value (shapes.applied (linear.kinds xs)) (linear.weights xs)))) }
 {
     let found = all_kinds(alloc, &*defined, &mut *scope, &*bodies)?;
@@ -190,7 +190,7 @@ fn walk_call(
     bodies: &[Body],
 ) -> Result<Linear, Memory>
     ensures same { IfOk result (λ _. scope.new.items ≡ scope.old.items) }
-    ensures adds { IfOk result (λ l. AreForms defined.now.forms.now defined.now.bodies.now → Adds scope.old.items all l
+    ensures adds { IfOk result (λ l. AreForms defined.now.forms.now defined.now.bodies.now → AddsWeight scope.old.items all l
         (λ ws. weights.times weight (weighing_of defined.now.bodies.now k (shapes_weighed (weighing_of defined.now.bodies.now) ws (shapes_of bodies.now))).weight)) }
 {
     let definitions = defined.bodies;
@@ -241,7 +241,7 @@ fn walk_let(
     inner: &Body,
 ) -> Result<Linear, Memory>
     ensures same { IfOk result (λ _. scope.new.items ≡ scope.old.items) }
-    ensures adds { IfOk result (λ l. AreForms defined.now.forms.now defined.now.bodies.now → Adds scope.old.items all l
+    ensures adds { IfOk result (λ l. AreForms defined.now.forms.now defined.now.bodies.now → AddsWeight scope.old.items all l
         (λ ws. weights.times weight (shape_weighed (weighing_of defined.now.bodies.now) (bound_weighed (weighing_of defined.now.bodies.now) ws (shapes_of bodies.now)) (shape inner.now)).weight)) }
 {
     let opened = open_names(alloc, &*defined, &mut *scope, all, &*bodies)?;
@@ -261,7 +261,7 @@ fn walk_quantified(
     inner: &Body,
 ) -> Result<Linear, Memory>
     ensures same { IfOk result (λ _. scope.new.items ≡ scope.old.items) }
-    ensures adds { IfOk result (λ l. AreForms defined.now.forms.now defined.now.bodies.now → Adds scope.old.items all l
+    ensures adds { IfOk result (λ l. AreForms defined.now.forms.now defined.now.bodies.now → AddsWeight scope.old.items all l
         (λ ws. weights.times weight (raised count (as_kind true (shape_weighed (weighing_of defined.now.bodies.now) (shapes.with_variables count ws) (shape inner.now)))))) }
 {
     let names = variables(alloc, count)?;

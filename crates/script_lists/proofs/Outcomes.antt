@@ -11,7 +11,7 @@ use Rattle.script_lists.specs.declared.reading.Outer.{Outer}
 use Rattle.script_lists.specs.Atoms.{is_atom, atom_of}
 use Rattle.script_lists.specs.Grammar.{IsScript, nothing}
 use Rattle.script_lists.specs.First.{BeginsScript, is_unfinished, place}
-use Rattle.script_lists.specs.Machine.{run, Means}
+use Rattle.script_lists.specs.Machine.{run, MeansLists}
 use Rattle.script_lists.proofs.Steps.{run_open, run_deep, run_close, run_surplus, run_bad, run_unfinished, run_atom, run_alone, run_end, run_short, Class, opens, closes, an_atom, no_token, no_end, class_of}
 use Rattle.script_lists.proofs.Complete.{script_read}
 use Rattle.script_lists.proofs.Reached.{Reached, atom_reached, open_reached, close_reached, begun, wider_reached}
@@ -38,8 +38,8 @@ none_on b end n os es front x e a m most h k stops begins =
 -- the next token is refused in this state
 refused_on : (b : List ℕ) (end n : ℕ) (os : List Outer) (es : List Sexp) (front tokens : List Lexeme) (x : Lexeme) (at : ℕ) → At b end n os es front
     → place end (x ∷ tokens) ≡ at → ((most : ℕ) (rest : List Lexeme) → run b most end (x ∷ rest) os es ≡ Err (refusal.Syntax at))
-    → Means b end (front ++ x ∷ tokens) (run b 200 end (x ∷ tokens) os es)
-refused_on b end n os es front tokens x at a here stops = subst (Means b end (front ++ x ∷ tokens)) (sym (stops 200 tokens)) (record {
+    → MeansLists b end (front ++ x ∷ tokens) (run b 200 end (x ∷ tokens) os es)
+refused_on b end n os es front tokens x at a here stops = subst (MeansLists b end (front ++ x ∷ tokens)) (sym (stops 200 tokens)) (record {
   front = front;
   back = x ∷ tokens;
   parts = refl;
@@ -53,11 +53,11 @@ refused_on b end n os es front tokens x at a here stops = subst (Means b end (fr
 
 -- one list too many is opened
 deep_on : (b : List ℕ) (end : ℕ) (os : List Outer) (es : List Sexp) (front tokens : List Lexeme) (x : Lexeme) → At b end zero os es front → x.terminal ≡ t.Open
-    → Means b end (front ++ x ∷ tokens) (run b 200 end (x ∷ tokens) os es)
+    → MeansLists b end (front ++ x ∷ tokens) (run b 200 end (x ∷ tokens) os es)
 deep_on b end os es front tokens x a o =
     let full : 200 ≤ length os = omega (arith, a.levels) in
     let one_more : 201 ≡ length {A = Outer} (record { at = x.at; before = es } ∷ os) + 0 = omega (arith, a.levels) in
-    subst (Means b end (front ++ x ∷ tokens)) (sym (run_deep b 200 end x tokens os es o full)) (record {
+    subst (MeansLists b end (front ++ x ∷ tokens)) (sym (run_deep b 200 end x tokens os es o full)) (record {
       front = front;
       x = x;
       back = tokens;
@@ -71,8 +71,8 @@ deep_on b end os es front tokens x a o =
 
 -- the text ends in a list
 short_on : (b : List ℕ) (end n : ℕ) (o : Outer) (os : List Outer) (es : List Sexp) (front : List Lexeme) → At b end n (o ∷ os) es front
-    → Means b end (front ++ []) (run b 200 end [] (o ∷ os) es)
-short_on b end n o os es front a = subst (Means b end (front ++ [])) (sym (run_short b 200 end o os es)) (record {
+    → MeansLists b end (front ++ []) (run b 200 end [] (o ∷ os) es)
+short_on b end n o os es front a = subst (MeansLists b end (front ++ [])) (sym (run_short b 200 end o os es)) (record {
   front = front;
   back = [];
   parts = refl;
@@ -107,16 +107,16 @@ here_end end x tokens e = ap (λ z. if is_unfinished z then end else x.at) e
 
 -- what comes of the tokens behind the next one
 abbrev Goes : List ℕ → ℕ → List Lexeme → Type 0
-Goes b end tokens = (front : List Lexeme) (n : ℕ) (os : List Outer) (es : List Sexp) → At b end n os es front → Means b end (front ++ tokens) (run b 200 end tokens os es)
+Goes b end tokens = (front : List Lexeme) (n : ℕ) (os : List Outer) (es : List Sexp) → At b end n os es front → MeansLists b end (front ++ tokens) (run b 200 end tokens os es)
 
 -- the next token leads on
 leads : (b : List ℕ) (end n : ℕ) (os : List Outer) (es : List Sexp) (front tokens : List Lexeme) (x : Lexeme) (old : Result (List Sexp) ReadRefusal) → Goes b end tokens → At b end n os es (front ++ x ∷ [])
-    → old ≡ run b 200 end tokens os es → Means b end (front ++ x ∷ tokens) old
+    → old ≡ run b 200 end tokens os es → MeansLists b end (front ++ x ∷ tokens) old
 leads b end n os es front tokens x old go a e =
-    subst (λ z. Means b end z old) (append_assoc front (x ∷ []) tokens) (subst (Means b end ((front ++ x ∷ []) ++ tokens)) (sym e) (go (front ++ x ∷ []) n os es a))
+    subst (λ z. MeansLists b end z old) (append_assoc front (x ∷ []) tokens) (subst (MeansLists b end ((front ++ x ∷ []) ++ tokens)) (sym e) (go (front ++ x ∷ []) n os es a))
 
 open_on : (b : List ℕ) (end n : ℕ) (os : List Outer) (es : List Sexp) (front tokens : List Lexeme) (x : Lexeme) → Goes b end tokens → At b end n os es front → x.terminal ≡ t.Open
-    → Means b end (front ++ x ∷ tokens) (run b 200 end (x ∷ tokens) os es)
+    → MeansLists b end (front ++ x ∷ tokens) (run b 200 end (x ∷ tokens) os es)
 open_on b end zero os es front tokens x go a o = deep_on b end os es front tokens x a o
 open_on b end (suc n) os es front tokens x go a o =
     let new : Outer = record { at = x.at; before = es } in
@@ -128,7 +128,7 @@ open_on b end (suc n) os es front tokens x go a o =
     }) (run_open b 200 end x tokens os es o room)
 
 close_on : (b : List ℕ) (end n : ℕ) (os : List Outer) (es : List Sexp) (front tokens : List Lexeme) (x : Lexeme) → Goes b end tokens → At b end n os es front → x.terminal ≡ t.Close
-    → Means b end (front ++ x ∷ tokens) (run b 200 end (x ∷ tokens) os es)
+    → MeansLists b end (front ++ x ∷ tokens) (run b 200 end (x ∷ tokens) os es)
 close_on b end n [] es front tokens x go a c =
     refused_on b end n [] es front tokens x x.at a (here_at end x tokens false (ap is_unfinished c) refl) (λ most rest. run_surplus b most end x rest es c)
 close_on b end n (o ∷ os) es front tokens x go a c =
@@ -139,7 +139,7 @@ close_on b end n (o ∷ os) es front tokens x go a c =
     }) (run_close b 200 end x tokens o os es c)
 
 atom_on : (b : List ℕ) (end n : ℕ) (os : List Outer) (es : List Sexp) (front tokens : List Lexeme) (x : Lexeme) → Goes b end tokens → At b end n os es front → is_atom x.terminal ≡ true
-    → Means b end (front ++ x ∷ tokens) (run b 200 end (x ∷ tokens) os es)
+    → MeansLists b end (front ++ x ∷ tokens) (run b 200 end (x ∷ tokens) os es)
 atom_on b end n [] es front tokens x go a c =
     refused_on b end n [] es front tokens x x.at a (here_at end x tokens (is_unfinished x.terminal) refl (no_end_is x.terminal c)) (λ most rest. run_alone b most end x rest es c)
 atom_on b end n (o ∷ os) es front tokens x go a c =
@@ -150,7 +150,7 @@ atom_on b end n (o ∷ os) es front tokens x go a c =
     }) (run_atom b 200 end x tokens o os es c)
 
 token_on : (b : List ℕ) (end n : ℕ) (os : List Outer) (es : List Sexp) (front tokens : List Lexeme) (x : Lexeme) → Goes b end tokens → At b end n os es front → Class x.terminal
-    → Means b end (front ++ x ∷ tokens) (run b 200 end (x ∷ tokens) os es)
+    → MeansLists b end (front ++ x ∷ tokens) (run b 200 end (x ∷ tokens) os es)
 token_on b end n os es front tokens x go a (opens c) = open_on b end n os es front tokens x go a c
 token_on b end n os es front tokens x go a (closes c) = close_on b end n os es front tokens x go a c
 token_on b end n os es front tokens x go a (an_atom c) = atom_on b end n os es front tokens x go a c
@@ -159,10 +159,10 @@ token_on b end n os es front tokens x go a (no_token c) =
 token_on b end n os es front tokens x go a (no_end c) =
     refused_on b end n os es front tokens x end a (here_end end x tokens c) (λ most rest. run_unfinished b most end x rest os es c)
 
-end_on : (b : List ℕ) (end n : ℕ) (os : List Outer) (es : List Sexp) (front : List Lexeme) → At b end n os es front → Means b end (front ++ []) (run b 200 end [] os es)
+end_on : (b : List ℕ) (end n : ℕ) (os : List Outer) (es : List Sexp) (front : List Lexeme) → At b end n os es front → MeansLists b end (front ++ []) (run b 200 end [] os es)
 end_on b end n [] es front a =
     let same : n ≡ 200 = omega (arith, a.levels) in
-    subst (Means b end (front ++ [])) (sym (run_end b 200 end es)) (subst (λ z. IsScript b z es (front ++ [])) same (subst (λ z. IsScript b n es z) (sym (append-nil front)) a.reached))
+    subst (MeansLists b end (front ++ [])) (sym (run_end b 200 end es)) (subst (λ z. IsScript b z es (front ++ [])) same (subst (λ z. IsScript b n es z) (sym (append-nil front)) a.reached))
 end_on b end n (o ∷ os) es front a = short_on b end n o os es front a
 
 follows : (b : List ℕ) (end : ℕ) (tokens : List Lexeme) → Goes b end tokens
@@ -170,7 +170,7 @@ follows b end [] front n os es a = end_on b end n os es front a
 follows b end (x ∷ tokens) front n os es a = token_on b end n os es front tokens x (follows b end tokens) a (class_of x.terminal)
 
 -- the outcome of all tokens
-pub outcome : (b : List ℕ) (end : ℕ) (tokens : List Lexeme) → Means b end tokens (run b 200 end tokens [] [])
+pub outcome : (b : List ℕ) (end : ℕ) (tokens : List Lexeme) → MeansLists b end tokens (run b 200 end tokens [] [])
 outcome b end tokens = follows b end tokens [] 200 [] [] (record {
   reached = record { said = nothing refl refl; lists = tt };
   levels = refl;

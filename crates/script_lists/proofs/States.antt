@@ -9,7 +9,7 @@ use Rattle.script_lists.specs.declared.refusal.ReadRefusal.TheVariants as refusa
 use Rattle.script_lists.specs.declared.reading.Outer.{Outer}
 use Rattle.script_lists.specs.declared.reading.State.{State}
 use Rattle.script_lists.specs.Atoms.{is_atom, atom_of}
-use Rattle.script_lists.specs.Machine.{run, run_in, Leads, Stops}
+use Rattle.script_lists.specs.Machine.{run, run_in, LeadsLists, StopsLists}
 use Rattle.script_lists.proofs.Steps.{run_open, run_deep, run_close, run_surplus, run_bad, run_unfinished, run_atom, run_alone, run_end, run_short}
 
 -- the last list is the first from behind
@@ -17,7 +17,7 @@ last_first : (os : List Outer) (o : Outer) → reverse (os ++ o ∷ []) ≡ o �
 last_first os o = reverse-append os (o ∷ [])
 
 pub open_leads : (b : List ℕ) (end at : ℕ) (x : Lexeme) (old new : State) → x.terminal ≡ t.Open → x.at ≡ at → length old.outer < 200
-    → new.outer ≡ old.outer ++ record { at = at; before = old.members } ∷ [] → new.members ≡ [] → Leads b end x old new
+    → new.outer ≡ old.outer ++ record { at = at; before = old.members } ∷ [] → new.members ≡ [] → LeadsLists b end x old new
 open_leads b end at x old new o here room outer members = record {
   run = λ tokens.
       let fits : length (reverse old.outer) < 200 = rw length-reverse room in
@@ -27,7 +27,7 @@ open_leads b end at x old new o here room outer members = record {
       ∙ ap (run b 200 end tokens (reverse new.outer)) (sym members);
 }
 
-pub open_stops : (b : List ℕ) (end at : ℕ) (x : Lexeme) (old : State) → x.terminal ≡ t.Open → x.at ≡ at → 200 ≤ length old.outer → Stops b end x old (refusal.Deep at)
+pub open_stops : (b : List ℕ) (end at : ℕ) (x : Lexeme) (old : State) → x.terminal ≡ t.Open → x.at ≡ at → 200 ≤ length old.outer → StopsLists b end x old (refusal.Deep at)
 open_stops b end at x old o here full = record {
   run = λ tokens.
       let fits : 200 ≤ length (reverse old.outer) = rw length-reverse full in
@@ -35,7 +35,7 @@ open_stops b end at x old o here full = record {
 }
 
 pub close_leads : (b : List ℕ) (end : ℕ) (x : Lexeme) (old new : State) (o : Outer) → x.terminal ≡ t.Close
-    → old.outer ≡ new.outer ++ o ∷ [] → new.members ≡ o.before ++ s.List o.at old.members ∷ [] → Leads b end x old new
+    → old.outer ≡ new.outer ++ o ∷ [] → new.members ≡ o.before ++ s.List o.at old.members ∷ [] → LeadsLists b end x old new
 close_leads b end x old new o c outer members = record {
   run = λ tokens.
       ap (λ z. run b 200 end (x ∷ tokens) z old.members) (ap reverse outer ∙ last_first new.outer o)
@@ -43,17 +43,17 @@ close_leads b end x old new o c outer members = record {
       ∙ ap (run b 200 end tokens (reverse new.outer)) (sym members);
 }
 
-pub close_stops : (b : List ℕ) (end at : ℕ) (x : Lexeme) (old : State) → x.terminal ≡ t.Close → x.at ≡ at → old.outer ≡ [] → Stops b end x old (refusal.Syntax at)
+pub close_stops : (b : List ℕ) (end at : ℕ) (x : Lexeme) (old : State) → x.terminal ≡ t.Close → x.at ≡ at → old.outer ≡ [] → StopsLists b end x old (refusal.Syntax at)
 close_stops b end at x old c here none = record {
   run = λ tokens.
       ap (λ z. run b 200 end (x ∷ tokens) z old.members) (ap reverse none)
       ∙ run_surplus b 200 end x tokens old.members c ∙ ap (λ z. Err (refusal.Syntax z)) here;
 }
 
-pub bad_stops : (b : List ℕ) (end at : ℕ) (x : Lexeme) (old : State) → x.terminal ≡ t.Bad → x.at ≡ at → Stops b end x old (refusal.Syntax at)
+pub bad_stops : (b : List ℕ) (end at : ℕ) (x : Lexeme) (old : State) → x.terminal ≡ t.Bad → x.at ≡ at → StopsLists b end x old (refusal.Syntax at)
 bad_stops b end at x old e here = record { run = λ tokens. run_bad b 200 end x tokens (reverse old.outer) old.members e ∙ ap (λ z. Err (refusal.Syntax z)) here }
 
-pub unfinished_stops : (b : List ℕ) (end : ℕ) (x : Lexeme) (old : State) → x.terminal ≡ t.Unfinished → Stops b end x old (refusal.Syntax end)
+pub unfinished_stops : (b : List ℕ) (end : ℕ) (x : Lexeme) (old : State) → x.terminal ≡ t.Unfinished → StopsLists b end x old (refusal.Syntax end)
 unfinished_stops b end x old e = record { run = λ tokens. run_unfinished b 200 end x tokens (reverse old.outer) old.members e }
 
 -- a list that is not empty has a last item
@@ -67,7 +67,7 @@ reverse_some [] n e = n refl
 reverse_some (o ∷ os) n e = let h = sym (length-reverse (o ∷ os)) ∙ ap length e in omega (arith, h)
 
 pub atom_leads : (b : List ℕ) (end : ℕ) (x : Lexeme) (old new : State) → is_atom x.terminal ≡ true → (old.outer ≡ [] → ⊥)
-    → new.outer ≡ old.outer → new.members ≡ old.members ++ s.Atom (atom_of b x) ∷ [] → Leads b end x old new
+    → new.outer ≡ old.outer → new.members ≡ old.members ++ s.Atom (atom_of b x) ∷ [] → LeadsLists b end x old new
 atom_leads b end x old new a some outer members = record {
   run = λ tokens.
       atom_by b end x tokens (reverse old.outer) old.members a (reverse_some old.outer some)
@@ -75,7 +75,7 @@ atom_leads b end x old new a some outer members = record {
       ∙ ap (run b 200 end tokens (reverse new.outer)) (sym members);
 }
 
-pub atom_stops : (b : List ℕ) (end at : ℕ) (x : Lexeme) (old : State) → is_atom x.terminal ≡ true → x.at ≡ at → old.outer ≡ [] → Stops b end x old (refusal.Syntax at)
+pub atom_stops : (b : List ℕ) (end at : ℕ) (x : Lexeme) (old : State) → is_atom x.terminal ≡ true → x.at ≡ at → old.outer ≡ [] → StopsLists b end x old (refusal.Syntax at)
 atom_stops b end at x old a here none = record {
   run = λ tokens.
       ap (λ z. run b 200 end (x ∷ tokens) z old.members) (ap reverse none)

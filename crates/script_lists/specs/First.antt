@@ -27,7 +27,7 @@ place end (x ∷ tokens) = if is_unfinished x.terminal then end else x.at
 
 -- What is before this offset begins a script of at most 200 levels; no script, of any number of levels, goes on with the
 -- token there; and where no token is left, what came is no script.
-pub record SyntaxAt (b : List ℕ) (end : ℕ) (tokens : List Lexeme) (at : ℕ) : Type 0 where
+pub record ListsSyntaxAt (b : List ℕ) (end : ℕ) (tokens : List Lexeme) (at : ℕ) : Type 0 where
   pub front : List Lexeme
   pub back : List Lexeme
   pub parts : tokens ≡ front ++ back
@@ -38,7 +38,7 @@ pub record SyntaxAt (b : List ℕ) (end : ℕ) (tokens : List Lexeme) (at : ℕ)
 
 -- What is before this offset begins a script of at most 200 levels, and together with the `(` there one of 201 levels, but
 -- none of 200.
-pub record DeepAt (b : List ℕ) (tokens : List Lexeme) (at : ℕ) : Type 0 where
+pub record ListsDeepAt (b : List ℕ) (tokens : List Lexeme) (at : ℕ) : Type 0 where
   pub front : List Lexeme
   pub x : Lexeme
   pub back : List Lexeme
@@ -51,16 +51,16 @@ pub record DeepAt (b : List ℕ) (tokens : List Lexeme) (at : ℕ) : Type 0 wher
 
 -- the tokens of a text that ends at this offset are refused first so; want of memory says nothing
 abbrev pub IsFirst : List ℕ → ℕ → List Lexeme → ReadRefusal → Type 0
-IsFirst b end tokens (refusal.Syntax at) = SyntaxAt b end tokens at
-IsFirst b end tokens (refusal.Deep at) = DeepAt b tokens at
+IsFirst b end tokens (refusal.Syntax at) = ListsSyntaxAt b end tokens at
+IsFirst b end tokens (refusal.Deep at) = ListsDeepAt b tokens at
 IsFirst b end tokens refusal.Memory = Unit {0}
 
 -- the text is refused first so
-abbrev pub IsFirstRefusal : List ℕ → ReadRefusal → Type 0
-IsFirstRefusal bytes e = IsFirst bytes (length bytes) (lexemes_of bytes) e
+abbrev pub IsFirstListRefusal : List ℕ → ReadRefusal → Type 0
+IsFirstListRefusal bytes e = IsFirst bytes (length bytes) (lexemes_of bytes) e
 
 -- the answer is these lists, unless memory is wanted
-abbrev pub Answers : List Sexp → Result (List Sexp) ReadRefusal → Type 0
-Answers es (Ok found) = found ≡ es
-Answers es (Err refusal.Memory) = Unit {0}
-Answers es (Err _) = ⊥
+abbrev pub GivesLists : List Sexp → Result (List Sexp) ReadRefusal → Type 0
+GivesLists es (Ok found) = found ≡ es
+GivesLists es (Err refusal.Memory) = Unit {0}
+GivesLists es (Err _) = ⊥

@@ -51,20 +51,20 @@ abbrev pub run_in : List ℕ → ℕ → List Lexeme → State → Result (List 
 run_in b end tokens state = run b 200 end tokens (reverse state.outer) state.members
 
 -- what an outcome says of tokens: they are the script, or they are refused first so
-abbrev pub Means : List ℕ → ℕ → List Lexeme → Result (List Sexp) ReadRefusal → Type 0
-Means b end tokens (Ok es) = IsScript b 200 es tokens
-Means b end tokens (Err e) = IsFirst b end tokens e
+abbrev pub MeansLists : List ℕ → ℕ → List Lexeme → Result (List Sexp) ReadRefusal → Type 0
+MeansLists b end tokens (Ok es) = IsScript b 200 es tokens
+MeansLists b end tokens (Err e) = IsFirst b end tokens e
 
 -- the text is refused so; want of memory says nothing
-abbrev pub FailsWith : ReadRefusal → Result (List Sexp) ReadRefusal → Type 0
-FailsWith refusal.Memory outcome = Unit {0}
-FailsWith (refusal.Syntax at) outcome = outcome ≡ Err (refusal.Syntax at)
-FailsWith (refusal.Deep at) outcome = outcome ≡ Err (refusal.Deep at)
+abbrev pub ListsFailWith : ReadRefusal → Result (List Sexp) ReadRefusal → Type 0
+ListsFailWith refusal.Memory outcome = Unit {0}
+ListsFailWith (refusal.Syntax at) outcome = outcome ≡ Err (refusal.Syntax at)
+ListsFailWith (refusal.Deep at) outcome = outcome ≡ Err (refusal.Deep at)
 
 -- this next token leads to a state
-pub record Leads (b : List ℕ) (end : ℕ) (x : Lexeme) (old new : State) : Type 0 where
+pub record LeadsLists (b : List ℕ) (end : ℕ) (x : Lexeme) (old new : State) : Type 0 where
   pub run : (tokens : List Lexeme) → run_in b end (x ∷ tokens) old ≡ run_in b end tokens new
 
 -- this next token is refused so
-pub record Stops (b : List ℕ) (end : ℕ) (x : Lexeme) (old : State) (e : ReadRefusal) : Type 0 where
-  pub run : (tokens : List Lexeme) → FailsWith e (run_in b end (x ∷ tokens) old)
+pub record StopsLists (b : List ℕ) (end : ℕ) (x : Lexeme) (old : State) (e : ReadRefusal) : Type 0 where
+  pub run : (tokens : List Lexeme) → ListsFailWith e (run_in b end (x ∷ tokens) old)

@@ -1,9 +1,9 @@
 // A script read as its lists, by one walk over its tokens. The lists that are open stand in a list of their own, so the walk
 // takes no stack however they nest.
 
-ghost use Rattle.script_lists.specs.First.{Answers, IsFirstRefusal};
+ghost use Rattle.script_lists.specs.First.{GivesLists, IsFirstListRefusal};
 ghost use Rattle.script_lists.specs.Grammar.{IsScriptText};
-ghost use Rattle.script_lists.specs.Machine.{FailsWith, Leads, Stops, run, run_in};
+ghost use Rattle.script_lists.specs.Machine.{ListsFailWith, LeadsLists, StopsLists, run, run_in};
 ghost use Rattle.script_lists.specs.Atoms.{is_atom};
 ghost use Rattle.std.specs.Prelude.{◌≡◌, ◌∷◌, [], List, ℕ, Ok, true, length, IfErr, IfOk, MatchResult};
 ghost use Rattle.script_tokens.specs.declared.terminals.Terminal.TheVariants as t;
@@ -37,8 +37,8 @@ struct State {
 /// The lists of a script, in order.
 pub fn lists(alloc: Global, bytes: &[u8]) -> Result<Items<Sexp>, ReadRefusal>
     ensures found { IfOk result (λ es. IsScriptText bytes.now es) }
-    ensures only { (es : List Sexp) → IsScriptText bytes.now es → Answers es result }
-    ensures first { IfErr result (λ e. IsFirstRefusal bytes.now e) }
+    ensures only { (es : List Sexp) → IsScriptText bytes.now es → GivesLists es result }
+    ensures first { IfErr result (λ e. IsFirstListRefusal bytes.now e) }
 {
     let tokens = lexemes(alloc, bytes)?;
     read(alloc, bytes, tokens.as_slice())
@@ -46,7 +46,7 @@ pub fn lists(alloc: Global, bytes: &[u8]) -> Result<Items<Sexp>, ReadRefusal>
 
 /// The lists that these tokens of a text are.
 fn read(alloc: Global, bytes: &[u8], tokens: &[Lexeme]) -> Result<Items<Sexp>, ReadRefusal>
-    ensures runs { MatchResult result (λ es. run bytes.now 200 (length bytes.now) tokens.now [] [] ≡ Ok es) (λ e. FailsWith e (run bytes.now 200 (length bytes.now) tokens.now [] [])) }
+    ensures runs { MatchResult result (λ es. run bytes.now 200 (length bytes.now) tokens.now [] [] ≡ Ok es) (λ e. ListsFailWith e (run bytes.now 200 (length bytes.now) tokens.now [] [])) }
 {
     let mut state = State {
         outer: Items::new(alloc),
@@ -61,7 +61,7 @@ fn read(alloc: Global, bytes: &[u8], tokens: &[Lexeme]) -> Result<Items<Sexp>, R
 /// The state behind one more token.
 #[tactic(auto, using(crate::proofs::States::bad_stops, crate::proofs::States::unfinished_stops))]
 fn step(alloc: Global, bytes: &[u8], x: Lexeme, state: State) -> Result<State, ReadRefusal>
-    ensures runs { MatchResult result (λ new. Leads bytes.now (length bytes.now) x state new) (λ e. Stops bytes.now (length bytes.now) x state e) }
+    ensures runs { MatchResult result (λ new. LeadsLists bytes.now (length bytes.now) x state new) (λ e. StopsLists bytes.now (length bytes.now) x state e) }
 {
     match x.terminal {
         Terminal::Open => opened(alloc, x.at, state),
@@ -81,7 +81,7 @@ fn step(alloc: Global, bytes: &[u8], x: Lexeme, state: State) -> Result<State, R
 /// The state behind a `(` at this offset.
 #[tactic(auto, using(crate::proofs::States::open_leads, crate::proofs::States::open_stops))]
 fn opened(alloc: Global, at: u64, state: State) -> Result<State, ReadRefusal>
-    ensures runs { (bytes : List ℕ) (x : Lexeme) → x.at ≡ at → x.terminal ≡ t.Open → MatchResult result (λ new. Leads bytes (length bytes) x state new) (λ e. Stops bytes (length bytes) x state e) }
+    ensures runs { (bytes : List ℕ) (x : Lexeme) → x.at ≡ at → x.terminal ≡ t.Open → MatchResult result (λ new. LeadsLists bytes (length bytes) x state new) (λ e. StopsLists bytes (length bytes) x state e) }
 {
     let State { mut outer, members } = state;
     if outer.len() >= LEVELS {
@@ -100,7 +100,7 @@ fn opened(alloc: Global, at: u64, state: State) -> Result<State, ReadRefusal>
 /// The state behind a `)` at this offset.
 #[tactic(auto, using(crate::proofs::States::close_leads, crate::proofs::States::close_stops))]
 fn closed(at: u64, state: State) -> Result<State, ReadRefusal>
-    ensures runs { (bytes : List ℕ) (x : Lexeme) → x.at ≡ at → x.terminal ≡ t.Close → MatchResult result (λ new. Leads bytes (length bytes) x state new) (λ e. Stops bytes (length bytes) x state e) }
+    ensures runs { (bytes : List ℕ) (x : Lexeme) → x.at ≡ at → x.terminal ≡ t.Close → MatchResult result (λ new. LeadsLists bytes (length bytes) x state new) (λ e. StopsLists bytes (length bytes) x state e) }
 {
     let State { mut outer, members } = state;
     let Some(innermost) = outer.pop() else {
@@ -118,7 +118,7 @@ fn closed(at: u64, state: State) -> Result<State, ReadRefusal>
 #[tactic(auto, using(crate::proofs::States::atom_leads, crate::proofs::States::atom_stops))]
 fn named(alloc: Global, bytes: &[u8], x: Lexeme, state: State) -> Result<State, ReadRefusal>
     requires { is_atom x.terminal ≡ true }
-    ensures runs { MatchResult result (λ new. Leads bytes.now (length bytes.now) x state new) (λ e. Stops bytes.now (length bytes.now) x state e) }
+    ensures runs { MatchResult result (λ new. LeadsLists bytes.now (length bytes.now) x state new) (λ e. StopsLists bytes.now (length bytes.now) x state e) }
 {
     let State { outer, mut members } = state;
     if outer.is_empty() {
@@ -131,7 +131,7 @@ fn named(alloc: Global, bytes: &[u8], x: Lexeme, state: State) -> Result<State, 
 /// The lists of a script that ends at this offset in this state.
 #[tactic(auto, using(crate::proofs::States::end_reads, crate::proofs::States::end_stops))]
 fn ended(end: u64, state: State) -> Result<Items<Sexp>, ReadRefusal>
-    ensures runs { (bytes : List ℕ) → MatchResult result (λ es. run_in bytes end [] state ≡ Ok es) (λ e. FailsWith e (run_in bytes end [] state)) }
+    ensures runs { (bytes : List ℕ) → MatchResult result (λ es. run_in bytes end [] state ≡ Ok es) (λ e. ListsFailWith e (run_in bytes end [] state)) }
 {
     let State { outer, members } = state;
     if !outer.is_empty() {

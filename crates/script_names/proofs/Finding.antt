@@ -7,9 +7,9 @@ use Rattle.script_names.specs.declared.body.Leaf.{Leaf}
 use Rattle.script_names.specs.declared.scope.Named.{Named}
 use Rattle.script_names.specs.declared.scope.Scope.{Scope}
 use Rattle.script_names.specs.declared.scope.Scope.TheViews as view
-use Rattle.script_names.specs.Scopes.{Leaves, named_onto, leaves_at, or_else, last_named}
+use Rattle.script_names.specs.Scopes.{BoundNames, named_onto, leaves_at, or_else, last_named}
 
-found-named_onto : (t : List ℕ) (xs : List Named) (outer : Leaves) → found t (named_onto xs outer) ≡ or_else (last_named t xs) (found t outer)
+found-named_onto : (t : List ℕ) (xs : List Named) (outer : BoundNames) → found t (named_onto xs outer) ≡ or_else (last_named t xs) (found t outer)
 found-named_onto t [] outer = refl
 found-named_onto t (x ∷ xs) outer = found-named_onto t xs ((x.text.now, x.leaf) ∷ outer) ∙ by (last_named t xs) (is_text t x.text.now)
   where

@@ -18,16 +18,16 @@ use Rattle.script_names.specs.declared.known.Declared.TheVariants as d
 use Rattle.script_names.specs.Known.{declared_as, kept_as}
 use Rattle.script_names.specs.Body.{shape}
 use Rattle.script_names.specs.Saying.{Calls, nothing, shape_said, leaf_said, calls_of}
-use Rattle.script_names.specs.Scopes.{Leaves, named_onto, names_in}
+use Rattle.script_names.specs.Scopes.{BoundNames, named_onto, names_in}
 use Rattle.script_names.specs.Slots.{slots_onto}
-use Rattle.script_names.specs.Symbols.{paired, looked_up, meant_as, IsMeantWithin, AreMeantWithin, Stands}
+use Rattle.script_names.specs.Symbols.{paired, looked_up, meant_as, IsMeantWithin, AreMeantWithin, StandsFor}
 use Rattle.script_names.proofs.Saying.{calls-there, calls-before}
 use Rattle.script_names.proofs.Behind.{leaf-here, leaf-left}
 use Rattle.script_names.proofs.Reading.{onto-append, slots-append}
 use Rattle.script_names.proofs.Tables.{with-symbol}
 
 -- one name more
-pub next-text : (names more : List Named) (x : Named) (k i : ℕ) (ts : List (List ℕ)) (d : List ℕ) (outer : Leaves) → i < length ts → more ≡ names ++ x ∷ []
+pub next-text : (names more : List Named) (x : Named) (k i : ℕ) (ts : List (List ℕ)) (d : List ℕ) (outer : BoundNames) → i < length ts → more ≡ names ++ x ∷ []
     → x.text.now ≡ get_or ts i d → x.leaf ≡ l.Slot (k + i) → named_onto names outer ≡ slots_onto k (take i ts) outer → named_onto more outer ≡ slots_onto k (take (i + 1) ts) outer
 next-text names more x k i ts d outer h is text leaf so_far =
     let many : length (take i ts) ≡ i = length-take-le i ts (omega arith) in
@@ -51,10 +51,10 @@ all-up n k (x ∷ ms) le h = (meant-up n k x le h.0, all-up n k ms le h.1)
 
 -- One symbol more.
 
-pub agrees-more : (gs : Globals) (s s' : Symbols) (ds : List Body) (x : List ℕ) (M : evaluation.Meant) (w : Meant) → Stands gs s ds → is_among x s.texts ≡ false
+pub agrees-more : (gs : Globals) (s s' : Symbols) (ds : List Body) (x : List ℕ) (M : evaluation.Meant) (w : Meant) → StandsFor gs s ds → is_among x s.texts ≡ false
     → s'.texts ≡ s.texts ++ x ∷ [] → s'.meant.items ≡ s.meant.items ++ w ∷ [] → IsMeantWithin (length ds) w
     → ((ss : List Standing) (n : ℕ) → meant_said (symbol_said gs) M ss n ≡ meant_as (calls_of ds) (Some w) ss n)
-    → Stands ((x, M) ∷ gs) s' ds
+    → StandsFor ((x, M) ∷ gs) s' ds
 agrees-more gs s s' ds x M w agrees new texts all low same = (
   ap length texts ∙ length-append s.texts (x ∷ []) ∙ ap (λ z. z + 1) agrees.0 ∙ sym (ap length all ∙ length-append s.meant.items (w ∷ [])),
   subst (AreMeantWithin (length ds)) (sym all) (within-one (length ds) s.meant.items w agrees.1 low),
@@ -100,21 +100,21 @@ looked-more ds b y (t ∷ ts) (x ∷ ms) ss n h = by (is_text y t) (looked-more 
     by true k = meant-more ds b x ss n h.0
     by false k = k
 
-agrees-later : (gs : Globals) (s : Symbols) (ds : List Body) (b : Body) → Stands gs s ds → Stands gs s (ds ++ b ∷ [])
+agrees-later : (gs : Globals) (s : Symbols) (ds : List Body) (b : Body) → StandsFor gs s ds → StandsFor gs s (ds ++ b ∷ [])
 agrees-later gs s ds b agrees = (
   agrees.0,
   all-up (length ds) (length (ds ++ b ∷ [])) s.meant.items (omega (arith, length-append ds (b ∷ []))) agrees.1,
   λ y ss n. agrees.2 y ss n ∙ sym (looked-more ds b y s.texts s.meant.items ss n agrees.1),
 )
 
-slots-names : (front ss : List Standing) (xs : List (List ℕ)) (ls : Leaves) → length ss ≡ length xs
+slots-names : (front ss : List Standing) (xs : List (List ℕ)) (ls : BoundNames) → length ss ≡ length xs
     → names_in (front ++ ss) (slots_onto (length front) xs ls) ≡ with_names xs ss (names_in (front ++ ss) ls)
 slots-names front [] [] ls h = refl
 slots-names front [] (x ∷ xs) ls h = absurd (omega (arith, h))
 slots-names front (s ∷ ss) [] ls h = absurd (omega (arith, h))
 slots-names front (s ∷ ss) (x ∷ xs) ls h =
     let more = front ++ s ∷ [] in
-    let slots : Leaves = (x, l.Slot (length front)) ∷ ls in
+    let slots : BoundNames = (x, l.Slot (length front)) ∷ ls in
     let parts : more ++ ss ≡ front ++ (s ∷ ss) = append_assoc front (s ∷ []) ss in
     let longer : length more ≡ suc (length front) = omega (arith, length-append front (s ∷ [])) in
     let here : leaf_said (more ++ ss) (l.Slot (length front)) ≡ s = leaf-left more ss (l.Slot (length front)) (omega (arith, longer)) ∙ leaf-here front s in
@@ -128,12 +128,12 @@ there ds b ss n =
     ∙ ap (λ z. shape_said (calls_of z) ss (shape (get_or (ds ++ b ∷ []) (length ds) b)) n) (taken-all ds (b ∷ []))
     ∙ ap (λ z. shape_said (calls_of ds) ss (shape z) n) (got-last ds b b)
 
-pub agrees-define : (gs : Globals) (s s' : Symbols) (ds ds' : List Body) (b : Body) (x : List ℕ) (xs : List (List ℕ)) (t : Phrase) (k arity : ℕ) → Stands gs s ds → is_among x s.texts ≡ false
+pub agrees-define : (gs : Globals) (s s' : Symbols) (ds ds' : List Body) (b : Body) (x : List ℕ) (xs : List (List ℕ)) (t : Phrase) (k arity : ℕ) → StandsFor gs s ds → is_among x s.texts ≡ false
     → s'.texts ≡ s.texts ++ x ∷ [] → s'.meant.items ≡ s.meant.items ++ m.Defined k arity ∷ [] → ds' ≡ ds ++ b ∷ [] → k ≡ length ds → arity ≡ length xs
     → ((e : List Standing) → length e ≡ length xs → shape_said (calls_of ds) e (shape b) ≡ said (symbol_said gs) (names_in e (slots_onto 0 xs [])) t)
-    → Stands ((x, defined_by xs t) ∷ gs) s' ds'
+    → StandsFor ((x, defined_by xs t) ∷ gs) s' ds'
 agrees-define gs s s' ds ds' b x xs t k arity agrees new texts all longer place many is =
-    subst (Stands ((x, defined_by xs t) ∷ gs) s') (sym longer)
+    subst (StandsFor ((x, defined_by xs t) ∷ gs) s') (sym longer)
     (agrees-more gs s s' (ds ++ b ∷ []) x (defined_by xs t) (m.Defined k arity) (agrees-later gs s ds b agrees) new texts all
     (omega (arith, place, length-append ds (b ∷ []))) (λ ss n.
     by ss n (nat_eq (length ss) (length xs)) refl
@@ -161,7 +161,7 @@ declared-same gs D (d.Predicate k) ss n = refl
 
 -- No symbol.
 
-pub agrees-new : (s : Symbols) (ds : List Body) → s.texts ≡ [] → s.meant.items ≡ [] → Stands [] s ds
+pub agrees-new : (s : Symbols) (ds : List Body) → s.texts ≡ [] → s.meant.items ≡ [] → StandsFor [] s ds
 agrees-new s ds texts all = (
   ap length texts ∙ sym (ap length all),
   subst (AreMeantWithin (length ds)) (sym all) tt,

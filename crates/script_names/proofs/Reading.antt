@@ -7,7 +7,7 @@ use Rattle.typed_formula.specs.Formula.{Formula}
 use Rattle.script_terms.specs.Term.{Phrase}
 use Rattle.script_terms.specs.declared.term.Variable.{Variable}
 use Rattle.script_terms.specs.Evaluation.{texts_of, with_names}
-use Rattle.script_terms.specs.Translation.{Said, a_formula, formula_in, Standing, Names, Writer, variable, said}
+use Rattle.script_terms.specs.Translation.{Said, a_formula, formula_in, Standing, Replacements, Writer, variable, said}
 use Rattle.script_terms.specs.Translation as translation
 use Rattle.script_names.specs.declared.body.Leaf.{Leaf}
 use Rattle.script_names.specs.declared.body.Leaf.TheVariants as l
@@ -16,7 +16,7 @@ use Rattle.script_names.specs.declared.body.Body.{Body}
 use Rattle.script_names.specs.declared.body.Body.TheVariants as b
 use Rattle.script_names.specs.Body.{Shape, shape, shapes_of}
 use Rattle.script_names.specs.Saying.{Calls, leaf_said, shape_said, bound_said, quantified_by, quantified_over, with_variables}
-use Rattle.script_names.specs.Scopes.{Leaves, named_onto, names_in, IsLeafWithin, AreWithin, AreLeavesWithin}
+use Rattle.script_names.specs.Scopes.{BoundNames, named_onto, names_in, IsLeafWithin, AreWithin, AreLeavesWithin}
 use Rattle.script_names.specs.Slots.{slots_onto}
 use Rattle.script_names.proofs.Behind.{leaf-left, leaf-here, bound-more, bound-count}
 use Rattle.script_names.proofs.Saying.{leaf-said}
@@ -35,16 +35,16 @@ pub low-more : (n : ℕ) (xs : List Leaf) (x : Leaf) → AreLeavesWithin n xs �
 low-more n [] x h k = (k, tt)
 low-more n (y ∷ xs) x h k = (h.0, low-more n xs x h.1 k)
 
-pub within-up : (n m : ℕ) (ls : Leaves) → n ≤ m → AreWithin n ls → AreWithin m ls
+pub within-up : (n m : ℕ) (ls : BoundNames) → n ≤ m → AreWithin n ls → AreWithin m ls
 within-up n m [] le h = tt
 within-up n m (x ∷ ls) le h = (leaf-up n m x.1 le h.0, within-up n m ls le h.1)
 
-pub within-onto : (n : ℕ) (xs : List Named) (ls : Leaves) → AreLeavesWithin n (map (λ x. x.leaf) xs) → AreWithin n ls → AreWithin n (named_onto xs ls)
+pub within-onto : (n : ℕ) (xs : List Named) (ls : BoundNames) → AreLeavesWithin n (map (λ x. x.leaf) xs) → AreWithin n ls → AreWithin n (named_onto xs ls)
 within-onto n [] ls h k = k
 within-onto n (x ∷ xs) ls h k = within-onto n xs ((x.text.now, x.leaf) ∷ ls) h.1 (h.0, k)
 
 -- the same with more names behind
-pub names-left : (e more : List Standing) (ls : Leaves) → AreWithin (length e) ls → names_in (e ++ more) ls ≡ names_in e ls
+pub names-left : (e more : List Standing) (ls : BoundNames) → AreWithin (length e) ls → names_in (e ++ more) ls ≡ names_in e ls
 names-left e more [] h = refl
 names-left e more (x ∷ ls) h = ap₂ (λ s z. (x.0, s) ∷ z) (leaf-left e more x.1 h.0) (names-left e more ls h.1)
 
@@ -53,7 +53,7 @@ leaves-left e more [] h = refl
 leaves-left e more (x ∷ xs) h = ap₂ (λ s z. s ∷ z) (leaf-left e more x h.0) (leaves-left e more xs h.1)
 
 -- what a name stands for
-pub found-leaf : (e : List Standing) (t : List ℕ) (ls : Leaves) (x : Leaf) → found t ls ≡ Some x → found t (names_in e ls) ≡ Some (leaf_said e x)
+pub found-leaf : (e : List Standing) (t : List ℕ) (ls : BoundNames) (x : Leaf) → found t ls ≡ Some x → found t (names_in e ls) ≡ Some (leaf_said e x)
 found-leaf e t [] x h = absurd (let bad : None ≡ Some x = h in cc)
 found-leaf e t (y ∷ ls) x h = by (is_text t y.0) h (λ k. found-leaf e t ls x k)
   where
@@ -62,7 +62,7 @@ found-leaf e t (y ∷ ls) x h = by (is_text t y.0) h (λ k. found-leaf e t ls x 
     by true k later = let same : y.1 ≡ x = cc in ap (λ z. Some (leaf_said e z)) same
     by false k later = later k
 
-pub found-no_leaf : (e : List Standing) (t : List ℕ) (ls : Leaves) → found t ls ≡ None → found t (names_in e ls) ≡ None
+pub found-no_leaf : (e : List Standing) (t : List ℕ) (ls : BoundNames) → found t ls ≡ None → found t (names_in e ls) ≡ None
 found-no_leaf e t [] h = refl
 found-no_leaf e t (y ∷ ls) h = by (is_text t y.0) h (λ k. found-no_leaf e t ls k)
   where
@@ -73,22 +73,22 @@ found-no_leaf e t (y ∷ ls) h = by (is_text t y.0) h (λ k. found-no_leaf e t l
 
 -- Names of a list put before others.
 
-pub onto-names : (e : List Standing) (xs : List Named) (ls : Leaves)
+pub onto-names : (e : List Standing) (xs : List Named) (ls : BoundNames)
     → names_in e (named_onto xs ls) ≡ with_names (map (λ x. x.text.now) xs) (map (λ x. leaf_said e x.leaf) xs) (names_in e ls)
 onto-names e [] ls = refl
 onto-names e (x ∷ xs) ls = onto-names e xs ((x.text.now, x.leaf) ∷ ls)
 
-pub onto-append : (xs : List Named) (x : Named) (ls : Leaves) → named_onto (xs ++ x ∷ []) ls ≡ (x.text.now, x.leaf) ∷ named_onto xs ls
+pub onto-append : (xs : List Named) (x : Named) (ls : BoundNames) → named_onto (xs ++ x ∷ []) ls ≡ (x.text.now, x.leaf) ∷ named_onto xs ls
 onto-append [] x ls = refl
 onto-append (y ∷ xs) x ls = onto-append xs x ((y.text.now, y.leaf) ∷ ls)
 
-pub slots-append : (k : ℕ) (xs : List (List ℕ)) (x : List ℕ) (ls : Leaves) → slots_onto k (xs ++ x ∷ []) ls ≡ (x, l.Slot (k + length xs)) ∷ slots_onto k xs ls
+pub slots-append : (k : ℕ) (xs : List (List ℕ)) (x : List ℕ) (ls : BoundNames) → slots_onto k (xs ++ x ∷ []) ls ≡ (x, l.Slot (k + length xs)) ∷ slots_onto k xs ls
 slots-append k [] x ls = let is : k ≡ k + 0 = omega arith in ap (λ z. (x, l.Slot z) ∷ ls) is
 slots-append k (y ∷ xs) x ls =
     let is : suc k + length xs ≡ k + suc (length xs) = omega arith in
     slots-append (suc k) xs x ((y, l.Slot k) ∷ ls) ∙ ap (λ z. (x, l.Slot z) ∷ slots_onto (suc k) xs ((y, l.Slot k) ∷ ls)) is
 
-pub slots-within : (k : ℕ) (xs : List (List ℕ)) (ls : Leaves) → AreWithin k ls → AreWithin (k + length xs) (slots_onto k xs ls)
+pub slots-within : (k : ℕ) (xs : List (List ℕ)) (ls : BoundNames) → AreWithin k ls → AreWithin (k + length xs) (slots_onto k xs ls)
 slots-within k [] ls h = within-up k (k + 0) ls (omega arith) h
 slots-within k (x ∷ xs) ls h =
     subst (λ n. AreWithin n (slots_onto (suc k) xs ((x, l.Slot k) ∷ ls))) (let is : suc k + length xs ≡ k + suc (length xs) = omega arith in is)
@@ -100,12 +100,12 @@ with-names : (k : ℕ) (e : List Standing) (n : ℕ) → length (with_variables 
 with-names zero e n = omega arith
 with-names (suc k) e n = omega (arith, with-names k (e ++ variable n ∷ []) (suc n), length-append e (variable n ∷ []))
 
-one-quantifier : (all : Bool) (x : List ℕ) (xs : List (List ℕ)) (F : Names → ℕ → Formula) (c : Names) (n : ℕ)
+one-quantifier : (all : Bool) (x : List ℕ) (xs : List (List ℕ)) (F : Replacements → ℕ → Formula) (c : Replacements) (n : ℕ)
     → quantified_by all (translation.bound_said all xs F ((x, variable n) ∷ c) (suc n)) ≡ translation.bound_said all (x ∷ xs) F c n
 one-quantifier true x xs F c n = refl
 one-quantifier false x xs F c n = refl
 
-pub quantified-said : (D : Calls) (W : Writer) (all : Bool) (xs : List (List ℕ)) (t : Phrase) (s : Shape) (ls : Leaves) (e : List Standing) (n : ℕ) → AreWithin (length e) ls
+pub quantified-said : (D : Calls) (W : Writer) (all : Bool) (xs : List (List ℕ)) (t : Phrase) (s : Shape) (ls : BoundNames) (e : List Standing) (n : ℕ) → AreWithin (length e) ls
     → ((f : List Standing) → length f ≡ length e + length xs → shape_said D f s ≡ said W (names_in f (slots_onto (length e) xs ls)) t)
     → quantified_over all (length xs) (formula_in (shape_said D (with_variables (length xs) e n) s (n + length xs)))
     ≡ translation.bound_said all xs (λ c m. formula_in (said W c t m)) (names_in e ls) n
@@ -114,7 +114,7 @@ quantified-said D W all [] t s ls e n low h =
     ap (λ m. formula_in (shape_said D e s m)) is ∙ ap (λ z. formula_in (z n)) (h e (omega arith))
 quantified-said D W all (x ∷ xs) t s ls e n low h =
     let e' = e ++ variable n ∷ [] in
-    let ls' : Leaves = (x, l.Slot (length e)) ∷ ls in
+    let ls' : BoundNames = (x, l.Slot (length e)) ∷ ls in
     let longer : length e' ≡ length e + 1 = length-append e (variable n ∷ []) in
     let is : n + suc (length xs) ≡ suc n + length xs = omega arith in
     let low' : AreWithin (length e') ls' = (omega (arith, longer), within-up (length e) (length e') ls (omega (arith, longer)) low) in
@@ -128,7 +128,7 @@ quantified-said D W all (x ∷ xs) t s ls e n low h =
     ∙ one-quantifier all x xs (λ c m. formula_in (said W c t m)) (names_in e ls) n
 
 -- one variable more
-pub next-name : (names more : List Named) (x : Named) (k i : ℕ) (vs : List Variable) (d : Variable) (outer : Leaves) → i < length vs → more ≡ names ++ x ∷ []
+pub next-name : (names more : List Named) (x : Named) (k i : ℕ) (vs : List Variable) (d : Variable) (outer : BoundNames) → i < length vs → more ≡ names ++ x ∷ []
     → x.text.now ≡ (get_or vs i d).text → x.leaf ≡ l.Slot (k + i) → named_onto names outer ≡ slots_onto k (texts_of (take i vs)) outer
     → named_onto more outer ≡ slots_onto k (texts_of (take (i + 1) vs)) outer
 next-name names more x k i vs d outer h is text leaf so_far =

@@ -1,7 +1,7 @@
 -- What the bound names stand for where a term stands.
 use Rattle.std.specs.Prelude.{ℕ, ◌<◌, List, [], ◌∷◌, map, Option, Some, None, if◌then◌else◌}
 use Rattle.texts.specs.Texts.{is_text}
-use Rattle.script_terms.specs.Translation.{Standing, Names}
+use Rattle.script_terms.specs.Translation.{Standing, Replacements}
 use Rattle.script_names.specs.declared.body.Leaf.{Leaf}
 use Rattle.script_names.specs.declared.body.Leaf.TheVariants as l
 use Rattle.script_names.specs.declared.scope.Named.{Named}
@@ -9,15 +9,15 @@ use Rattle.script_names.specs.declared.scope.Scope.{Scope, Nothing, Names'}
 use Rattle.script_names.specs.Saying.{leaf_said}
 
 -- bound names with what they stand for, the innermost first
-abbrev pub Leaves : Type 0
-Leaves = List (List ℕ × Leaf)
+abbrev pub BoundNames : Type 0
+BoundNames = List (List ℕ × Leaf)
 
 -- those of a list put before others, so that the last one comes first
-abbrev pub named_onto : List Named → Leaves → Leaves
+abbrev pub named_onto : List Named → BoundNames → BoundNames
 named_onto [] outer = outer
 named_onto (x ∷ xs) outer = named_onto xs ((x.text.now, x.leaf) ∷ outer)
 
-abbrev pub leaves_at : Scope → Leaves
+abbrev pub leaves_at : Scope → BoundNames
 leaves_at Nothing = []
 leaves_at (Names' xs p outer) = named_onto xs.now (leaves_at outer)
 
@@ -32,7 +32,7 @@ last_named t [] = None
 last_named t (x ∷ xs) = or_else (last_named t xs) (if is_text t x.text.now then Some x.leaf else None)
 
 -- the bound names with what replaces them
-abbrev pub names_in : List Standing → Leaves → Names
+abbrev pub names_in : List Standing → BoundNames → Replacements
 names_in e = map (λ x. (x.0, leaf_said e x.1))
 
 -- a leaf is none of the bound names from this number on
@@ -43,7 +43,7 @@ IsLeafWithin n (l.Truth b) = Unit {0}
 IsLeafWithin n (l.Constant k) = Unit {0}
 
 -- all are such
-abbrev pub AreWithin : ℕ → Leaves → Type 0
+abbrev pub AreWithin : ℕ → BoundNames → Type 0
 AreWithin n [] = Unit {0}
 AreWithin n (x ∷ xs) = IsLeafWithin n x.1 × AreWithin n xs
 

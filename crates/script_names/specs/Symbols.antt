@@ -43,10 +43,10 @@ AreMeantWithin n (x ∷ xs) = IsMeantWithin n x × AreMeantWithin n xs
 
 -- The symbols of the code, with the bodies of the defined functions, are those of a script: each text has what it is at its place,
 -- each defined function has its body, and a symbol becomes what it becomes in the script.
-abbrev pub Stands : Globals → Symbols → List Body → Type 0
-Stands gs s ds = (length s.texts ≡ length s.meant.items) × AreMeantWithin (length ds) s.meant.items
+abbrev pub StandsFor : Globals → Symbols → List Body → Type 0
+StandsFor gs s ds = (length s.texts ≡ length s.meant.items) × AreMeantWithin (length ds) s.meant.items
     × ((x : List ℕ) (ss : List Standing) (n : ℕ) → symbol_said gs x ss n ≡ meant_as (calls_of ds) (looked_up s x) ss n)
 
 -- and it is known which bound names the body of each uses
 abbrev pub Agrees : Globals → Symbols → List Body → Type 0
-Agrees gs s ds = Stands gs s ds × AreUses s.used ds
+Agrees gs s ds = StandsFor gs s ds × AreUses s.used ds

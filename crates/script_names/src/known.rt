@@ -8,7 +8,7 @@ ghost use Rattle.script_terms.specs.Translation.{said, symbol_said};
 ghost use Rattle.script_names.specs.Body.{shape};
 ghost use Rattle.script_names.specs.Known.{Knows, declared_as, kept_as};
 ghost use Rattle.script_names.specs.Saying.{calls_of, shape_said};
-ghost use Rattle.script_names.specs.Scopes.{Leaves, named_onto};
+ghost use Rattle.script_names.specs.Scopes.{BoundNames, named_onto};
 ghost use Rattle.script_names.specs.Slots.{slots_onto};
 
 use crate::body::{Body, Leaf};
@@ -48,7 +48,7 @@ fn meant(declared: Declared) -> Meant
 
 /// The names of a defined function as the first bound names.
 fn parameters<'a>(alloc: Global, names: &'a [Items<u8>]) -> Result<Next<'a>, Memory>
-    ensures names { IfOk result (λ r. (outer : Leaves) → named_onto r.names.items outer ≡ slots_onto 0 names.now outer) }
+    ensures names { IfOk result (λ r. (outer : BoundNames) → named_onto r.names.items outer ≡ slots_onto 0 names.now outer) }
     ensures count { IfOk result (λ r. r.count ≡ length names.now) }
 {
     let mut out = Vec::new(alloc);

@@ -10,7 +10,7 @@ ghost use Rattle.script_terms.specs.Translation as translation;
 ghost use Rattle.script_names.specs.Body.{shape, shapes_of};
 ghost use Rattle.script_names.specs.Resolving.{AreRead, Resolves};
 ghost use Rattle.script_names.specs.Saying.{Calls, bound_said, leaf_said, shape_said, shapes_said};
-ghost use Rattle.script_names.specs.Scopes.{AreLeavesWithin, IsLeafWithin, Leaves, leaves_at, named_onto};
+ghost use Rattle.script_names.specs.Scopes.{AreLeavesWithin, IsLeafWithin, BoundNames, leaves_at, named_onto};
 ghost use Rattle.script_names.specs.Slots.{slots_onto};
 ghost use Rattle.script_names.specs.declared.body.Body.{Body};
 
@@ -41,7 +41,7 @@ pub struct Next<'a> {
 
 /// The variables of a quantifier as the next bound names.
 fn next_names<'a>(alloc: Global, variables: &'a [Variable], count: u32) -> Result<Next<'a>, Memory>
-    ensures names { IfOk result (λ r. (outer : Leaves) → named_onto r.names.items outer ≡ slots_onto count (texts_of variables.now) outer) }
+    ensures names { IfOk result (λ r. (outer : BoundNames) → named_onto r.names.items outer ≡ slots_onto count (texts_of variables.now) outer) }
     ensures count { IfOk result (λ r. r.count ≡ count + length variables.now) }
 {
     let mut names = Vec::new(alloc);

@@ -5,12 +5,12 @@ use Rattle.script_lists.specs.declared.refusal.ReadRefusal.{ReadRefusal}
 use Rattle.script_lists.specs.declared.refusal.ReadRefusal.TheVariants as e
 use Rattle.sexpr.specs.Expressions.{expr}
 use Rattle.script_lists.specs.Grammar.{IsScriptText}
-use Rattle.script_lists.specs.First.{IsFirstRefusal}
+use Rattle.script_lists.specs.First.{IsFirstListRefusal}
 use Rattle.script_commands.specs.declared.refusal.ScriptRefusal.{ScriptRefusal}
 use Rattle.script_commands.specs.declared.refusal.ScriptRefusal.TheVariants as r
 use Rattle.script_commands.specs.declared.table.Entry.{Entry}
 use Rattle.script_commands.specs.Faults.{Terms, refusal_of}
-use Rattle.script_commands.specs.Least.{IsRefused}
+use Rattle.script_commands.specs.Least.{IsScriptRefused}
 use Rattle.script_walk.specs.Steps.{symbols_of}
 
 -- a refusal of the tokens as one of the script
@@ -29,14 +29,14 @@ pub record IsTaken (terms : Terms) (bytes : List ℕ) (symbols : List Entry) : T
 -- the text is no lists, and this is the first refusal of its tokens
 pub record RefusesTokens (bytes : List ℕ) (fault : ScriptRefusal) : Type 0 where
   pub tokens : ReadRefusal
-  pub first : IsFirstRefusal bytes tokens
+  pub first : IsFirstListRefusal bytes tokens
   pub is : fault ≡ as_script tokens
 
 -- the text is lists, and this is the refusal of its commands
 pub record RefusesCommands (terms : Terms) (bytes : List ℕ) (fault : ScriptRefusal) : Type 0 where
   pub lists : List Sexp
   pub said : IsScriptText bytes lists
-  pub is : IsRefused fault (refusal_of terms (map expr lists))
+  pub is : IsScriptRefused fault (refusal_of terms (map expr lists))
 
 -- the text is refused so
 abbrev pub RefusesScript : Terms → List ℕ → ScriptRefusal → Type 0

@@ -1,6 +1,6 @@
 // A script from its bytes to its symbols, or to its refusal: that of its tokens goes before that of its commands.
 
-ghost use Rattle.script_lists.specs.First.{IsFirstRefusal};
+ghost use Rattle.script_lists.specs.First.{IsFirstListRefusal};
 ghost use Rattle.script_reading.specs.Scripts.{IsTaken, RefusesScript, as_script};
 ghost use Rattle.std.specs.Prelude.{◌≡◌, IfErr, IfOk};
 

@@ -6,13 +6,13 @@ use Rattle.script_sizes.specs.declared.size.Size.TheVariants.{Large, Fits}
 use Rattle.script_sizes.specs.Size as s
 use Rattle.script_sizes.specs.Sizes.{size, all_sizes, term_size, term_sizes}
 use Rattle.script_sizes.specs.Extent as e
-use Rattle.script_sizes.specs.Extent.{Extent, extent, all_extent, term_extent, terms_extent, IsLarge}
+use Rattle.script_sizes.specs.Extent.{ScriptExtent, extent, all_extent, term_extent, terms_extent, IsTooLarge}
 
 -- nodes and levels within the limits
 abbrev pub limited : ℕ → ℕ → Size
 limited n l = if nat_le n 1000000 && nat_le l 2000 then Fits n l else Large
 
-abbrev limit : Extent → Size
+abbrev limit : ScriptExtent → Size
 limit a = limited a.nodes a.levels
 
 fits : (n l : ℕ) → n ≤ 1000000 → l ≤ 2000 → limited n l ≡ Fits n l
@@ -87,10 +87,10 @@ beside_limited n l m k = by (which n l) (which m k)
     by v (wide h) = ap (s.beside (limited n l)) (many_nodes m k h) ∙ beside_large (limited n l) ∙ sym (many_nodes (n + m) (max l k) (omega (arith, h)))
     by v (deep h) = ap (s.beside (limited n l)) (many_levels m k h) ∙ beside_large (limited n l) ∙ sym (many_levels (n + m) (max l k) (omega (arith, h, right)))
 
-over : {x : Size} (a : Extent) → x ≡ limit a → s.above x ≡ limit (e.above a)
+over : {x : Size} (a : ScriptExtent) → x ≡ limit a → s.above x ≡ limit (e.above a)
 over a h = ap s.above h ∙ above_limited a.nodes a.levels
 
-two : {x y : Size} (a b : Extent) → x ≡ limit a → y ≡ limit b → s.beside x y ≡ limit (e.beside a b)
+two : {x y : Size} (a b : ScriptExtent) → x ≡ limit a → y ≡ limit b → s.beside x y ≡ limit (e.beside a b)
 two a b h k = ap₂ s.beside h k ∙ beside_limited a.nodes a.levels b.nodes b.levels
 
 mutual
@@ -140,13 +140,13 @@ limit_large : (n l : ℕ) → (1000000 < n) ⊎ (2000 < l) → limited n l ≡ L
 limit_large n l (inl i) = many_nodes n l i
 limit_large n l (inr i) = many_levels n l i
 
-pub large_law : (f : Formula) → (size f ≡ Large) ↔ IsLarge (extent f)
+pub large_law : (f : Formula) → (size f ≡ Large) ↔ IsTooLarge (extent f)
 large_law f = (λ h. large_limit (extent f).nodes (extent f).levels (sym (size_is f) ∙ h), λ h. size_is f ∙ limit_large (extent f).nodes (extent f).levels h)
 
-pub together_law : (fs : Formulas) → (all_sizes fs ≡ Large) ↔ IsLarge (all_extent fs)
+pub together_law : (fs : Formulas) → (all_sizes fs ≡ Large) ↔ IsTooLarge (all_extent fs)
 together_law fs = (λ h. large_limit (all_extent fs).nodes (all_extent fs).levels (sym (sizes_are fs) ∙ h), λ h. sizes_are fs ∙ limit_large (all_extent fs).nodes (all_extent fs).levels h)
 
-pub fits_law : (f : Formula) → ¬ (IsLarge (extent f)) → size f ≡ Fits (extent f).nodes (extent f).levels
+pub fits_law : (f : Formula) → ¬ (IsTooLarge (extent f)) → size f ≡ Fits (extent f).nodes (extent f).levels
 fits_law f h = size_is f ∙ by (which (extent f).nodes (extent f).levels)
   where
     by : Which (extent f).nodes (extent f).levels → limit (extent f) ≡ Fits (extent f).nodes (extent f).levels

@@ -3,10 +3,7 @@
 ghost use Rattle.std.specs.Prelude.{◌≡◌};
 ghost use Rattle.script_sizes.specs.Size.{above, beside};
 
-/// The greatest number of nodes.
-pub const NODES: u64 = 1_000_000;
-/// The greatest number of levels.
-pub const LEVELS: u64 = 2_000;
+use limits::{MOST_LEVELS, MOST_NODES};
 
 /// How large something is.
 #[derive(Clone, Copy, Debug, PartialEq, Eq)]
@@ -32,7 +29,7 @@ pub fn beside(a: Size, b: Size) -> Size
         Size::Fits(n, l) => match b {
             Size::Large => Size::Large,
             Size::Fits(m, k) => {
-                if n <= NODES && m <= NODES - n {
+                if n <= MOST_NODES && m <= MOST_NODES - n {
                     Size::Fits(n + m, l.max(k))
                 } else {
                     Size::Large
@@ -49,7 +46,7 @@ pub fn above(of: Size) -> Size
     match of {
         Size::Large => Size::Large,
         Size::Fits(n, l) => {
-            if n < NODES && l < LEVELS {
+            if n < MOST_NODES && l < MOST_LEVELS {
                 Size::Fits(n + 1, l + 1)
             } else {
                 Size::Large

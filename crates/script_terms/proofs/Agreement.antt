@@ -6,7 +6,7 @@ use Rattle.typed_formula.specs.Truth.{Meaning}
 use Rattle.texts.specs.Texts.{is_text}
 use Rattle.script_terms.specs.Operators.{Value, integer, found}
 use Rattle.script_terms.specs.Evaluation.{Values, with_names}
-use Rattle.script_terms.specs.Translation.{Standing, Names, at_depth, variable}
+use Rattle.script_terms.specs.Translation.{Standing, Replacements, at_depth, variable}
 use Rattle.script_terms.specs.Meaning.{IsValue}
 use Rattle.script_terms.proofs.Rules.{AreValues, none, more}
 
@@ -45,15 +45,15 @@ kept_lengths no_keep = refl
 kept_lengths (and_keep h k) = ap suc (kept_lengths k)
 
 -- names bound to values, and the same names with what replaces them
-pub data Agree (w : Meaning) (e : List ℤ) : Values → Names → Type 0 where
+pub data Agree (w : Meaning) (e : List ℤ) : Values → Replacements → Type 0 where
   no_name : Agree w e [] []
-  and_name : {x : List ℕ} {v : Value} {s : Standing} {b : Values} {c : Names} → Keeps w e s v → Agree w e b c → Agree w e ((x, v) ∷ b) ((x, s) ∷ c)
+  and_name : {x : List ℕ} {v : Value} {s : Standing} {b : Values} {c : Replacements} → Keeps w e s v → Agree w e b c → Agree w e ((x, v) ∷ b) ((x, s) ∷ c)
 
-pub agree_on : {w : Meaning} {e d : List ℤ} {b : Values} {c : Names} → Extends e d → Agree w e b c → Agree w d b c
+pub agree_on : {w : Meaning} {e d : List ℤ} {b : Values} {c : Replacements} → Extends e d → Agree w e b c → Agree w d b c
 agree_on x no_name = no_name
 agree_on {w} {e} {d} x (and_name {v} {s} h k) = and_name (keeps_on w e d s v x h) (agree_on x k)
 
-pub agree_with : {w : Meaning} {e : List ℤ} {b : Values} {c : Names} {ss : List Standing} {vs : List Value} (xs : List (List ℕ)) → AllKeep w e ss vs → Agree w e b c
+pub agree_with : {w : Meaning} {e : List ℤ} {b : Values} {c : Replacements} {ss : List Standing} {vs : List Value} (xs : List (List ℕ)) → AllKeep w e ss vs → Agree w e b c
     → Agree w e (with_names xs vs b) (with_names xs ss c)
 agree_with [] h a = a
 agree_with (x ∷ xs) no_keep a = a
@@ -64,7 +64,7 @@ pub data AreAlike (w : Meaning) (e : List ℤ) : Option Value → Option Standin
   neither : AreAlike w e None None
   alike : {v : Value} {s : Standing} → Keeps w e s v → AreAlike w e (Some v) (Some s)
 
-pub found_alike : {w : Meaning} {e : List ℤ} {b : Values} {c : Names} (x : List ℕ) → Agree w e b c → AreAlike w e (found x b) (found x c)
+pub found_alike : {w : Meaning} {e : List ℤ} {b : Values} {c : Replacements} (x : List ℕ) → Agree w e b c → AreAlike w e (found x b) (found x c)
 found_alike x no_name = neither
 found_alike {w} {e} x (and_name {x = y} {v} {s} {b} {c} h k) = by (is_text x y) (found_alike x k)
   where

@@ -6,7 +6,7 @@ use Rattle.script_terms.specs.declared.operator.Operator.{Operator}
 use Rattle.script_terms.specs.Term.{Phrase, Phrases, Bindings, number, large, used, let_in, quantified, annotated, ill, no_phrase, and_phrase, no_binding, and_binding}
 use Rattle.script_terms.specs.Operators.{Value, integer, truth, applied, found, operator_of}
 use Rattle.script_terms.specs.Evaluation.{Values, Symbols, HasTruth, UseHas, Ranges, IsTruth, Has, HaveAll, HaveBound, names_of, terms_of, texts_of, with_names}
-use Rattle.script_terms.specs.Translation.{Said, formula_in, operated, Standing, Names, Writer, at_depth, use_said, variable, bound_said, said, all_said, bindings_said}
+use Rattle.script_terms.specs.Translation.{Said, formula_in, operated, Standing, Replacements, Writer, at_depth, use_said, variable, bound_said, said, all_said, bindings_said}
 use Rattle.script_terms.specs.Meaning.{IsValue, SaidHas}
 use Rattle.script_terms.proofs.Values.{Stable, is_stable, truth_is_stable, has_property, property_of, value_from, some_said, said_stable, truth_said}
 use Rattle.script_terms.proofs.Stability.{ListStable, SymbolsStable, use_stable, has_stable, all_stable}
@@ -27,7 +27,7 @@ symbols_on w e d S W x a = record { at = λ e' y. a.at e' (extends_further e d e
 
 -- a term has a property exactly where what it becomes has it
 pub record Law (w : Meaning) (S : Symbols) (W : Writer) (t : Phrase) : Type 1 where
-  pub at : (e : List ℤ) (b : Values) (c : Names) → SymbolsAgree w e S W → Agree w e b c → (P : Value → Type 0) → Stable P → Has S b t P ↔ SaidHas w (said W c t (length e)) e P
+  pub at : (e : List ℤ) (b : Values) (c : Replacements) → SymbolsAgree w e S W → Agree w e b c → (P : Value → Type 0) → Stable P → Has S b t P ↔ SaidHas w (said W c t (length e)) e P
 
 data Laws (w : Meaning) (S : Symbols) (W : Writer) : Phrases → Type 1 where
   no_law : Laws w S W no_phrase
@@ -38,7 +38,7 @@ record Evaluate (S : Symbols) (b : Values) (ts : Phrases) (vs : List Value) : Ty
   at : (Q : List Value → Type 0) → ListStable Q → HaveAll S b ts Q ↔ Q vs
 
 -- A fact that holds where it cannot fail may be shown with values of some terms at hand.
-with_values : (w : Meaning) (S : Symbols) → SymbolsStable S → (W : Writer) (ts : Phrases) → Laws w S W ts → (e : List ℤ) (b : Values) (c : Names) → SymbolsAgree w e S W → Agree w e b c
+with_values : (w : Meaning) (S : Symbols) → SymbolsStable S → (W : Writer) (ts : Phrases) → Laws w S W ts → (e : List ℤ) (b : Values) (c : Replacements) → SymbolsAgree w e S W → Agree w e b c
     → (X : Type 0) → (¬ (¬ X) → X) → ((vs : List Value) → Evaluate S b ts vs → AllKeep w e (all_said W c ts) vs → X) → X
 with_values w S ss W no_phrase no_law e b c a g X st k = k [] (record { at = λ Q s. (λ h. h, λ h. h) }) no_keep
 with_values w S ss W (and_phrase t ts) (and_law l ls) e b c a g X st k =
@@ -68,20 +68,20 @@ with_values w S ss W (and_phrase t ts) (and_law l ls) e b c a g X st k =
 -- Quantifiers.
 
 -- what the body of a quantifier is, wherever it stands
-record BodyLaw (w : Meaning) (e : List ℤ) (Body : Values → Type 0) (body : Names → ℕ → Formula) : Type 0 where
-  at : (e' : List ℤ) → Extends e e' → (b : Values) (c : Names) → Agree w e' b c → Body b ↔ Truth w (body c (length e')) e'
+record BodyLaw (w : Meaning) (e : List ℤ) (Body : Values → Type 0) (body : Replacements → ℕ → Formula) : Type 0 where
+  at : (e' : List ℤ) → Extends e e' → (b : Values) (c : Replacements) → Agree w e' b c → Body b ↔ Truth w (body c (length e')) e'
 
-body_on : (w : Meaning) (e d : List ℤ) (Body : Values → Type 0) (body : Names → ℕ → Formula) → Extends e d → BodyLaw w e Body body → BodyLaw w d Body body
+body_on : (w : Meaning) (e d : List ℤ) (Body : Values → Type 0) (body : Replacements → ℕ → Formula) → Extends e d → BodyLaw w e Body body → BodyLaw w d Body body
 body_on w e d Body body x l = record { at = λ e' y. l.at e' (extends_further e d e' x y) }
 
 -- the body behind one more variable
-one_more : (w : Meaning) (all : Bool) (x : List ℕ) (xs : List (List ℕ)) (e : List ℤ) (b : Values) (c : Names) (Body : Values → Type 0) (body : Names → ℕ → Formula)
+one_more : (w : Meaning) (all : Bool) (x : List ℕ) (xs : List (List ℕ)) (e : List ℤ) (b : Values) (c : Replacements) (Body : Values → Type 0) (body : Replacements → ℕ → Formula)
     → ((v : ℤ) → Ranges all xs Body ((x, integer v) ∷ b) ↔ Truth w (bound_said all xs body ((x, variable (length e)) ∷ c) (length (e ++ v ∷ []))) (e ++ v ∷ []))
     → (v : ℤ) → Ranges all xs Body ((x, integer v) ∷ b) ↔ Truth w (bound_said all xs body ((x, variable (length e)) ∷ c) (suc (length e))) (e ++ v ∷ [])
 one_more w all x xs e b c Body body h v =
     subst (λ n. Ranges all xs Body ((x, integer v) ∷ b) ↔ Truth w (bound_said all xs body ((x, variable (length e)) ∷ c) n) (e ++ v ∷ [])) (one_longer e v) (h v)
 
-ranges_are : (w : Meaning) (all : Bool) (xs : List (List ℕ)) (e : List ℤ) (b : Values) (c : Names) (Body : Values → Type 0) (body : Names → ℕ → Formula) → BodyLaw w e Body body → Agree w e b c
+ranges_are : (w : Meaning) (all : Bool) (xs : List (List ℕ)) (e : List ℤ) (b : Values) (c : Replacements) (Body : Values → Type 0) (body : Replacements → ℕ → Formula) → BodyLaw w e Body body → Agree w e b c
     → Ranges all xs Body b ↔ Truth w (bound_said all xs body c (length e)) e
 ranges_are w all [] e b c Body body l g = l.at e (extends_itself e) b c g
 ranges_are w true (x ∷ xs) e b c Body body l g =
@@ -113,7 +113,7 @@ pub junk_law : (w : Meaning) (e : List ℤ) (P : Value → Type 0) → P (truth 
 junk_law w e P = (λ h. (λ p. absurd (let bad : false ≡ true = p in cc), λ _. h), λ h. h.1 (λ p. let bad : false ≡ true = p in cc))
 
 -- a list of terms at a property of their values: both ways by values at hand
-at_values : (w : Meaning) (S : Symbols) → SymbolsStable S → (W : Writer) (ts : Phrases) → Laws w S W ts → (e : List ℤ) (b : Values) (c : Names) → SymbolsAgree w e S W → Agree w e b c
+at_values : (w : Meaning) (S : Symbols) → SymbolsStable S → (W : Writer) (ts : Phrases) → Laws w S W ts → (e : List ℤ) (b : Values) (c : Replacements) → SymbolsAgree w e S W → Agree w e b c
     → (Q : List Value → Type 0) → ListStable Q → (Y : Type 0) → (¬ (¬ Y) → Y) → ((vs : List Value) → AllKeep w e (all_said W c ts) vs → Q vs ↔ Y) → HaveAll S b ts Q ↔ Y
 at_values w S ss W ts ls e b c a g Q sq Y sy is = (
   λ h. with_values w S ss W ts ls e b c a g Y sy (λ vs ev keep. (is vs keep).0 ((ev.at Q sq).0 h)),
@@ -125,12 +125,12 @@ bound_all : (S : Symbols) (b : Values) (bs : Bindings) (Q : List Value → Type 
 bound_all S b no_binding Q = refl
 bound_all S b (and_binding x t bs) Q = λ i. Has S b t (λ v. bound_all S b bs (λ vs. Q (v ∷ vs)) i)
 
-bindings_all : (W : Writer) (c : Names) (bs : Bindings) → bindings_said W c bs ≡ all_said W c (terms_of bs)
+bindings_all : (W : Writer) (c : Replacements) (bs : Bindings) → bindings_said W c bs ≡ all_said W c (terms_of bs)
 bindings_all W c no_binding = refl
 bindings_all W c (and_binding x t bs) = ap (λ z. said W c t ∷ z) (bindings_all W c bs)
 
 used_law : (w : Meaning) (S : Symbols) → SymbolsStable S → (W : Writer) (at : ℕ) (x : List ℕ) (o : Option Operator) (ts : Phrases) → Laws w S W ts
-    → (e : List ℤ) (b : Values) (c : Names) → SymbolsAgree w e S W → Agree w e b c → (P : Value → Type 0) → Stable P
+    → (e : List ℤ) (b : Values) (c : Replacements) → SymbolsAgree w e S W → Agree w e b c → (P : Value → Type 0) → Stable P
     → HaveAll S b ts (λ vs. UseHas S (found x b) o x vs P) ↔ SaidHas w (use_said W (found x c) o x (all_said W c ts) (length e)) e P
 used_law w S ss W at x o ts ls e b c a g P st =
     at_values w S ss W ts ls e b c a g (λ vs. UseHas S (found x b) o x vs P) (use_stable S ss (found x b) o x P st)
@@ -139,7 +139,7 @@ used_law w S ss W at x o ts ls e b c a g P st =
     (λ vs keep. use_is w e S W a (found x b) (found x c) (found_alike x g) o x (all_said W c ts) vs keep P st)
 
 let_law : (w : Meaning) (S : Symbols) → SymbolsStable S → (W : Writer) (bs : Bindings) (t : Phrase) → Laws w S W (terms_of bs) → Law w S W t
-    → (e : List ℤ) (b : Values) (c : Names) → SymbolsAgree w e S W → Agree w e b c → (P : Value → Type 0) → Stable P
+    → (e : List ℤ) (b : Values) (c : Replacements) → SymbolsAgree w e S W → Agree w e b c → (P : Value → Type 0) → Stable P
     → HaveBound S b bs (λ vs. Has S (with_names (names_of bs) vs b) t P) ↔ SaidHas w (said W (with_names (names_of bs) (bindings_said W c bs) c) t (length e)) e P
 let_law w S ss W bs t ls l e b c a g P st =
     let Q : List Value → Type 0 = λ vs. Has S (with_names (names_of bs) vs b) t P in
@@ -152,7 +152,7 @@ let_law w S ss W bs t ls l e b c a g P st =
     subst (λ ss'. HaveBound S b bs Q ↔ SaidHas w (said W (with_names (names_of bs) ss' c) t (length e)) e P) (sym (bindings_all W c bs)) there
 
 quantified_law : (w : Meaning) (S : Symbols) (W : Writer) (all : Bool) (xs : List (List ℕ)) (t : Phrase) → Law w S W t
-    → (e : List ℤ) (b : Values) (c : Names) → SymbolsAgree w e S W → Agree w e b c → (P : Value → Type 0)
+    → (e : List ℤ) (b : Values) (c : Replacements) → SymbolsAgree w e S W → Agree w e b c → (P : Value → Type 0)
     → HasTruth (Ranges all xs (λ d. Has S d t IsTruth) b) P ↔ HasTruth (Truth w (bound_said all xs (λ d m. formula_in (said W d t m)) c (length e)) e) P
 quantified_law w S W all xs t l e b c a g P =
     truths_alike _ _ P (ranges_are w all xs e b c (λ d. Has S d t IsTruth) (λ d m. formula_in (said W d t m)) (record {

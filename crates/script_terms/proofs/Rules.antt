@@ -14,7 +14,7 @@ use Rattle.script_terms.specs.declared.operator.Operator.{Operator}
 use Rattle.script_terms.specs.declared.operator.Operator.TheVariants as op
 use Rattle.script_terms.specs.Operators.{Value, integer, truth, as_integer, as_truth, is_same, is_other, is_related, compares_values, all_of, some_of, either, either_of, implied, neighbours, pairs, product_of, difference_of, chosen, applied}
 use Rattle.script_terms.specs.Translation.{Said, a_formula, a_term, formula_in, term_in, joined, either_said, implied_said, multiplied, subtracted, equal_said, unequal_said, compared_said, chosen_said, operated}
-use Rattle.script_terms.specs.Meaning.{Signed, IsValue}
+use Rattle.script_terms.specs.Meaning.{SignedFact, IsValue}
 use Rattle.script_terms.proofs.Signs.{signed_not, signed_test, signed_alone, signed_and, signed_none, signed_some, signed_iff, signed_implies, signed_either, signed_choice}
 
 -- formulas or terms with their values
@@ -25,14 +25,14 @@ pub data AreValues (w : Meaning) (e : List ℤ) : List Said → List Value → T
 -- formulas with their truths
 data AreTruths (w : Meaning) (e : List ℤ) : List Formula → List Bool → Type 0 where
   no_truth : AreTruths w e [] []
-  and_truth : {f : Formula} {b : Bool} {fs : List Formula} {bs : List Bool} → Signed b (Truth w f e) → AreTruths w e fs bs → AreTruths w e (f ∷ fs) (b ∷ bs)
+  and_truth : {f : Formula} {b : Bool} {fs : List Formula} {bs : List Bool} → SignedFact b (Truth w f e) → AreTruths w e fs bs → AreTruths w e (f ∷ fs) (b ∷ bs)
 
 -- terms with their integers
 pub data AreNumbers (w : Meaning) (e : List ℤ) : List Expression → List ℤ → Type 0 where
   no_number : AreNumbers w e [] []
   and_number : {t : Expression} {v : ℤ} {ts : List Expression} {vs : List ℤ} → HasValue w t e (λ x. x ≡ v) → AreNumbers w e ts vs → AreNumbers w e (t ∷ ts) (v ∷ vs)
 
-truth_in : (w : Meaning) (s : Said) (e : List ℤ) (v : Value) → IsValue w s e v → Signed (as_truth v) (Truth w (formula_in s) e)
+truth_in : (w : Meaning) (s : Said) (e : List ℤ) (v : Value) → IsValue w s e v → SignedFact (as_truth v) (Truth w (formula_in s) e)
 truth_in w (a_formula f) e (truth b) h = h
 truth_in w (a_formula f) e (integer v) h = absurd h
 truth_in w (a_term t) e (integer v) h = λ p. let bad : false ≡ true = p in cc
@@ -54,29 +54,29 @@ numbers_in {w} {e} (more {s} {v} h k) = and_number {t = term_in s} {v = as_integ
 
 -- Connectives.
 
-all_true : {w : Meaning} {e : List ℤ} {fs : List Formula} {bs : List Bool} → AreTruths w e fs bs → Signed (all_of bs) (AreAllTrue w (formulas fs) e)
+all_true : {w : Meaning} {e : List ℤ} {fs : List Formula} {bs : List Bool} → AreTruths w e fs bs → SignedFact (all_of bs) (AreAllTrue w (formulas fs) e)
 all_true no_truth = tt
 all_true {w} {e} (and_truth {f} {b} {fs} {bs} h k) = signed_and b (all_of bs) (Truth w f e) (AreAllTrue w (formulas fs) e) h (all_true k)
 
-all_false : {w : Meaning} {e : List ℤ} {fs : List Formula} {bs : List Bool} → AreTruths w e fs bs → Signed (not (some_of bs)) (AreAllFalse w (formulas fs) e)
+all_false : {w : Meaning} {e : List ℤ} {fs : List Formula} {bs : List Bool} → AreTruths w e fs bs → SignedFact (not (some_of bs)) (AreAllFalse w (formulas fs) e)
 all_false no_truth = tt
 all_false {w} {e} (and_truth {f} {b} {fs} {bs} h k) = signed_none b (some_of bs) (Truth w f e) (AreAllFalse w (formulas fs) e) h (all_false k)
 
-joined_is : {w : Meaning} {e : List ℤ} {fs : List Formula} {bs : List Bool} → AreTruths w e fs bs → Signed (all_of bs) (Truth w (joined fs) e)
+joined_is : {w : Meaning} {e : List ℤ} {fs : List Formula} {bs : List Bool} → AreTruths w e fs bs → SignedFact (all_of bs) (Truth w (joined fs) e)
 joined_is no_truth = tt
 joined_is {w} {e} (and_truth {f} {b} h no_truth) = signed_alone b (Truth w f e) h
 joined_is (and_truth {f} {b} h (and_truth {f = g} {b = c} j k)) = all_true (and_truth {f = f} {b = b} h (and_truth {f = g} {b = c} j k))
 
-some_true : {w : Meaning} {e : List ℤ} {fs : List Formula} {bs : List Bool} → AreTruths w e fs bs → Signed (some_of bs) (¬ (AreAllFalse w (formulas fs) e))
+some_true : {w : Meaning} {e : List ℤ} {fs : List Formula} {bs : List Bool} → AreTruths w e fs bs → SignedFact (some_of bs) (¬ (AreAllFalse w (formulas fs) e))
 some_true {w} {e} {fs} {bs} h = signed_some (some_of bs) (AreAllFalse w (formulas fs) e) (all_false h)
 
-either_is : {w : Meaning} {e : List ℤ} {gs : List Formula} {bs : List Bool} (f : Formula) (a : Bool) → Signed a (Truth w f e) → AreTruths w e gs bs
-    → Signed (either_of a bs) (Truth w (either_said f gs) e)
+either_is : {w : Meaning} {e : List ℤ} {gs : List Formula} {bs : List Bool} (f : Formula) (a : Bool) → SignedFact a (Truth w f e) → AreTruths w e gs bs
+    → SignedFact (either_of a bs) (Truth w (either_said f gs) e)
 either_is f a h no_truth = h
 either_is {w} {e} f a h (and_truth {f = g} {b} j k) =
     either_is (logic.negation (logic.iff f g)) (either a b) (signed_either a b (Truth w f e) (Truth w g e) h j) k
 
-implied_is : {w : Meaning} {e : List ℤ} {fs : List Formula} {bs : List Bool} → AreTruths w e fs bs → Signed (implied bs) (Truth w (implied_said fs) e)
+implied_is : {w : Meaning} {e : List ℤ} {fs : List Formula} {bs : List Bool} → AreTruths w e fs bs → SignedFact (implied bs) (Truth w (implied_said fs) e)
 implied_is no_truth = tt
 implied_is (and_truth h no_truth) = h
 implied_is {w} {e} (and_truth {f} {b = a} h (and_truth {f = g} {b} {fs = gs} {bs} j k)) =
@@ -84,7 +84,7 @@ implied_is {w} {e} (and_truth {f} {b = a} h (and_truth {f = g} {b} {fs = gs} {bs
 
 -- a test of two values and the formula that it becomes
 abbrev TestLaw : Meaning → List ℤ → (Said → Said → Formula) → (Value → Value → Bool) → Type 0
-TestLaw w e F T = (s t : Said) (v u : Value) → IsValue w s e v → IsValue w t e u → Signed (T v u) (Truth w (F s t) e)
+TestLaw w e F T = (s t : Said) (v u : Value) → IsValue w s e v → IsValue w t e u → SignedFact (T v u) (Truth w (F s t) e)
 
 neighbours_are : {w : Meaning} {e : List ℤ} {ss : List Said} {vs : List Value} (F : Said → Said → Formula) (T : Value → Value → Bool) → TestLaw w e F T
     → AreValues w e ss vs → AreTruths w e (neighbours F ss) (neighbours T vs)
@@ -109,28 +109,28 @@ pairs_are F T l (more {s} {v} h k) = truths_beside (each_with F T l s v h k) (pa
 
 -- Relations.
 
-equal_test : (x y : ℤ) → Signed (int_eq x y) (x ≡ y)
+equal_test : (x y : ℤ) → SignedFact (int_eq x y) (x ≡ y)
 equal_test x y = by (int_eq x y) refl
   where
-    by : (b : Bool) → int_eq x y ≡ b → Signed b (x ≡ y)
+    by : (b : Bool) → int_eq x y ≡ b → SignedFact b (x ≡ y)
     by true h = grind (arith, ints)
     by false h = λ p. grind (arith, ints)
 
-less_test : (x y : ℤ) → Signed (int_lt x y) (IsRelated relation.Lt x y)
+less_test : (x y : ℤ) → SignedFact (int_lt x y) (IsRelated relation.Lt x y)
 less_test x y = by (int_lt x y) refl
   where
-    by : (b : Bool) → int_lt x y ≡ b → Signed b (IsRelated relation.Lt x y)
+    by : (b : Bool) → int_lt x y ≡ b → SignedFact b (IsRelated relation.Lt x y)
     by true h = grind (arith, ints)
     by false h = λ p. grind (arith, ints)
 
-most_test : (x y : ℤ) → Signed (int_le x y) (IsRelated relation.Leq x y)
+most_test : (x y : ℤ) → SignedFact (int_le x y) (IsRelated relation.Leq x y)
 most_test x y = by (int_le x y) refl
   where
-    by : (b : Bool) → int_le x y ≡ b → Signed b (IsRelated relation.Leq x y)
+    by : (b : Bool) → int_le x y ≡ b → SignedFact b (IsRelated relation.Leq x y)
     by true h = grind (arith, ints)
     by false h = λ p. grind (arith, ints)
 
-related_test : (r : Relation) (x y : ℤ) → Signed (is_related r x y) (IsRelated r x y)
+related_test : (r : Relation) (x y : ℤ) → SignedFact (is_related r x y) (IsRelated r x y)
 related_test relation.Eq x y = equal_test x y
 related_test relation.Neq x y = signed_not (int_eq x y) (x ≡ y) (equal_test x y)
 related_test relation.Lt x y = less_test x y
@@ -139,8 +139,8 @@ related_test relation.Gt x y = less_test y x
 related_test relation.Geq x y = most_test y x
 
 -- two terms are related where their values are
-two_values : (w : Meaning) (s t : Expression) (e : List ℤ) (x y : ℤ) (R : ℤ → ℤ → Type 0) (c : Bool) → Signed c (R x y) → HasValue w s e (λ a. a ≡ x) → HasValue w t e (λ b. b ≡ y)
-    → Signed c (HasValue w s e (λ a. HasValue w t e (λ b. R a b)))
+two_values : (w : Meaning) (s t : Expression) (e : List ℤ) (x y : ℤ) (R : ℤ → ℤ → Type 0) (c : Bool) → SignedFact c (R x y) → HasValue w s e (λ a. a ≡ x) → HasValue w t e (λ b. b ≡ y)
+    → SignedFact c (HasValue w s e (λ a. HasValue w t e (λ b. R a b)))
 two_values w s t e x y R true r h k =
     value_more w s e (λ a. a ≡ x) _ (λ a p. value_more w t e (λ b. b ≡ y) (λ b. R a b) (λ b q. subst (λ z. R a z) (sym q) (subst (λ z. R z y) (sym p) r)) k) h
 two_values w s t e x y R false r h k =
@@ -178,12 +178,12 @@ unequal_is w e (a_formula f) (a_formula g) (truth a) (integer y) h k = absurd k
 
 -- Conditions.
 
-choice_is : (w : Meaning) (c : Formula) (s t : Expression) (e : List ℤ) (b : Bool) (x y : ℤ) → Signed b (Truth w c e) → HasValue w s e (λ z. z ≡ x) → HasValue w t e (λ z. z ≡ y)
+choice_is : (w : Meaning) (c : Formula) (s t : Expression) (e : List ℤ) (b : Bool) (x y : ℤ) → SignedFact b (Truth w c e) → HasValue w s e (λ z. z ≡ x) → HasValue w t e (λ z. z ≡ y)
     → HasValue w (logic.choice c s t) e (λ z. z ≡ (if b then x else y))
 choice_is w c s t e true x y h j k = (λ _. j, λ n. absurd (n h))
 choice_is w c s t e false x y h j k = (λ a. absurd (h a), λ _. k)
 
-chosen_is : (w : Meaning) (e : List ℤ) (c : Formula) (b : Bool) (s t : Said) (v u : Value) → Signed b (Truth w c e) → IsValue w s e v → IsValue w t e u
+chosen_is : (w : Meaning) (e : List ℤ) (c : Formula) (b : Bool) (s t : Said) (v u : Value) → SignedFact b (Truth w c e) → IsValue w s e v → IsValue w t e u
     → IsValue w (chosen_said c s t) e (chosen b v u)
 chosen_is w e c b (a_term s) t (integer x) u h j k = choice_is w c s (term_in t) e b x (as_integer u) h j (number_in w t e u k)
 chosen_is w e c b (a_formula f) t (truth a) u h j k = signed_choice b a (as_truth u) (Truth w c e) (Truth w f e) (Truth w (formula_in t) e) h j (truth_in w t e u k)

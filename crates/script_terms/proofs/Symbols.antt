@@ -11,7 +11,7 @@ use Rattle.script_terms.specs.Term.{Phrase}
 use Rattle.script_terms.specs.Operators.{Value, integer, truth, as_integer}
 use Rattle.script_terms.specs.Evaluation.{Symbols, IsTruth, Has, with_names, Meant, constant_of, function_of, predicate_of, defined_by, Globals, MeantHas, SymbolHas, IsTrue}
 use Rattle.script_terms.specs.Translation.{a_formula, a_term, term_in, Standing, Writer, at_depth, said, meant_said, symbol_said, asserted}
-use Rattle.script_terms.specs.Meaning.{Signed, IsValue, SaidHas, IsConstantBelow, AreConstantsBelow}
+use Rattle.script_terms.specs.Meaning.{SignedFact, IsValue, SaidHas, IsConstantBelow, AreConstantsBelow}
 use Rattle.script_terms.proofs.Values.{Stable, is_stable, truth_is_stable, has_property, value_from, truth_said, one_said, some_said}
 use Rattle.script_terms.proofs.Stability.{SymbolsStable, symbols_stable}
 use Rattle.script_terms.proofs.Rules.{AreNumbers, numbers_in, values_are}
@@ -21,15 +21,15 @@ use Rattle.script_terms.proofs.Meaning.{exactly, SymbolsAgree, symbols_on, law, 
 call_is : (w : Meaning) (e : List ℤ) (k : ℕ) (ts : List Expression) (vs : List ℤ) → AreNumbers w e ts vs → HasValue w (logic.call k (expressions ts)) e (λ x. x ≡ w.value k vs)
 call_is w e k ts vs h = values_more w (expressions ts) e (λ xs. xs ≡ vs) (λ xs. w.value k xs ≡ w.value k vs) (λ xs p. ap (w.value k) p) (values_are h)
 
-signed_list : (w : Meaning) (e : List ℤ) (ts : List Expression) (vs : List ℤ) (R : List ℤ → Type 0) (c : Bool) → Signed c (R vs) → AreNumbers w e ts vs → Signed c (HaveValues w (expressions ts) e R)
+signed_list : (w : Meaning) (e : List ℤ) (ts : List Expression) (vs : List ℤ) (R : List ℤ → Type 0) (c : Bool) → SignedFact c (R vs) → AreNumbers w e ts vs → SignedFact c (HaveValues w (expressions ts) e R)
 signed_list w e ts vs R true r h = values_more w (expressions ts) e (λ xs. xs ≡ vs) R (λ xs p. subst R (sym p) r) (values_are h)
 signed_list w e ts vs R false r h = λ k. values_clash w (expressions ts) e (λ xs. xs ≡ vs) R (λ xs p z. r (subst R p z)) (values_are h) k
 
-test_signed : (b : Bool) → Signed b (b ≡ true)
+test_signed : (b : Bool) → SignedFact b (b ≡ true)
 test_signed true = refl
 test_signed false = λ p. cc
 
-predicate_is : (w : Meaning) (e : List ℤ) (k : ℕ) (ts : List Expression) (vs : List ℤ) → AreNumbers w e ts vs → Signed (w.truth k vs) (Truth w (logic.applies k (expressions ts)) e)
+predicate_is : (w : Meaning) (e : List ℤ) (k : ℕ) (ts : List Expression) (vs : List ℤ) → AreNumbers w e ts vs → SignedFact (w.truth k vs) (Truth w (logic.applies k (expressions ts)) e)
 predicate_is w e k ts vs h = signed_list w e ts vs (λ xs. w.truth k xs ≡ true) (w.truth k vs) (test_signed (w.truth k vs)) h
 
 -- a symbol that is declared or defined so

@@ -6,13 +6,13 @@ use Rattle.script_terms.specs.Evaluation.{HasTruth, Globals, Meant, constant_of}
 use Rattle.script_terms.specs.Translation.{Said, a_formula, a_term}
 
 -- a fact with a sign: the fact, or its negation. `encoding` has a word of the same meaning; both could come from typed_formula.
-abbrev pub Signed : Bool → Type 0 → Type 0
-Signed true A = A
-Signed false A = ¬ A
+abbrev pub SignedFact : Bool → Type 0 → Type 0
+SignedFact true A = A
+SignedFact false A = ¬ A
 
 -- the formula or the term has this value in an interpretation at a list of integers
 abbrev pub IsValue : Meaning → Said → List ℤ → Value → Type 0
-IsValue w (a_formula f) e (truth b) = Signed b (Truth w f e)
+IsValue w (a_formula f) e (truth b) = SignedFact b (Truth w f e)
 IsValue w (a_formula f) e (integer v) = ⊥
 IsValue w (a_term t) e (integer v) = HasValue w t e (λ x. x ≡ v)
 IsValue w (a_term t) e (truth b) = ⊥

@@ -36,16 +36,16 @@ phrases [] = no_phrase
 phrases (t ∷ ts) = and_phrase t (phrases ts)
 
 -- a symbol with its term
-pub record Bound : Type 0 where
+pub record BoundTerm : Type 0 where
   pub text : List ℕ
   pub term : Phrase
 
 -- the bindings of a list, in order
-abbrev pub bindings : List Bound → Bindings
+abbrev pub bindings : List BoundTerm → Bindings
 bindings [] = no_binding
 bindings (b ∷ bs) = and_binding b.text b.term (bindings bs)
 
-abbrev pub phrase_step : Term-F Phrase Bound → Phrase
+abbrev pub phrase_step : Term-F Phrase BoundTerm → Phrase
 phrase_step (o.Number at n) = number at n
 phrase_step (o.Large at) = large at
 phrase_step (o.Use at x ts) = used at x (phrases ts)
@@ -54,16 +54,16 @@ phrase_step (o.Quantified at all xs t) = quantified at all xs t
 phrase_step (o.Annotated at t) = annotated at t
 phrase_step (o.Ill at) = ill at
 
-abbrev pub bound_step : Binding-F Phrase Bound → Bound
+abbrev pub bound_step : Binding-F Phrase BoundTerm → BoundTerm
 bound_step b = record { text = b.text; term = b.term }
 
 -- the tree that a term of the code is
 abbrev pub phrase : Term → Phrase
-phrase = fold-Term Phrase Bound phrase_step bound_step
+phrase = fold-Term Phrase BoundTerm phrase_step bound_step
 
 -- the tree of a binding
-abbrev pub bound : Binding → Bound
-bound = fold-Binding Phrase Bound phrase_step bound_step
+abbrev pub bound : Binding → BoundTerm
+bound = fold-Binding Phrase BoundTerm phrase_step bound_step
 
 -- the trees of a list of terms
 abbrev pub phrases_of : List Term → Phrases

@@ -106,8 +106,8 @@ abbrev pub Standing : Type 0
 Standing = ℕ → Said
 
 -- the bound names where a term stands, with what replaces them, the innermost first
-abbrev pub Names : Type 0
-Names = List (List ℕ × Standing)
+abbrev pub Replacements : Type 0
+Replacements = List (List ℕ × Standing)
 
 -- what several are where so many names are around
 abbrev pub at_depth : ℕ → List Standing → List Said
@@ -128,14 +128,14 @@ abbrev pub variable : ℕ → Standing
 variable x n = a_term (logic.name x)
 
 -- a quantifier for each name, in order
-abbrev pub bound_said : Bool → List (List ℕ) → (Names → ℕ → Formula) → Names → ℕ → Formula
+abbrev pub bound_said : Bool → List (List ℕ) → (Replacements → ℕ → Formula) → Replacements → ℕ → Formula
 bound_said all [] body b n = body b n
 bound_said true (x ∷ xs) body b n = logic.for_all sort.Int (bound_said true xs body ((x, variable n) ∷ b) (suc n))
 bound_said false (x ∷ xs) body b n = logic.for_some sort.Int (bound_said false xs body ((x, variable n) ∷ b) (suc n))
 
 abbrev mutual
   -- what a term becomes where so many names are around
-  pub said : Writer → Names → Phrase → ℕ → Said
+  pub said : Writer → Replacements → Phrase → ℕ → Said
   said W b (number _ k) n = a_term (logic.number k)
   said W b (large _) n = a_formula (logic.constant false)
   said W b (used _ x ts) n = use_said W (found x.text b) (operator_of x.text) x.text (all_said W b ts) n
@@ -145,12 +145,12 @@ abbrev mutual
   said W b (ill _) n = a_formula (logic.constant false)
 
   -- what each of several becomes
-  pub all_said : Writer → Names → Phrases → List Standing
+  pub all_said : Writer → Replacements → Phrases → List Standing
   all_said W b no_phrase = []
   all_said W b (and_phrase t ts) = said W b t ∷ all_said W b ts
 
   -- what each term of a `let` becomes
-  pub bindings_said : Writer → Names → Bindings → List Standing
+  pub bindings_said : Writer → Replacements → Bindings → List Standing
   bindings_said W b no_binding = []
   bindings_said W b (and_binding x t bs) = said W b t ∷ bindings_said W b bs
 

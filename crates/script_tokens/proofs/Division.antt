@@ -5,7 +5,7 @@ use Rattle.script_tokens.specs.declared.terminals.Terminal.{Terminal}
 use Rattle.script_tokens.specs.declared.terminals.Terminal.TheVariants as t
 use Rattle.script_tokens.specs.declared.terminals.Lexeme.{Lexeme}
 use Rattle.script_tokens.specs.Lexemes.{piece_of, named, put, lexemes_from, lexemes_of}
-use Rattle.script_tokens.specs.Tokens.{IsSpelled, opens, closes, numeral, decimal, hexadecimal, binary, string, keyword, symbol, quoted, IsToken, IsLongest, IsBlank, white, comment, IsOpen, string as open_string, bars, IsBad, IsTokenized, ends, blank, token, unfinished, bad}
+use Rattle.script_tokens.specs.Tokens.{IsSpelled, opens, closes, numeral, decimal, hexadecimal, binary, string, keyword, symbol, quoted, IsScriptToken, IsLongestPiece, IsScriptBlank, white, comment, IsOpen, string as open_string, bars, IsBad, IsScriptTokenized, ends, blank, token, unfinished, bad}
 use Rattle.script_tokens.proofs.Scan.{lexemes_piece}
 use Rattle.script_tokens.proofs.Longest.{piece_at, token_reaches}
 use Rattle.script_tokens.proofs.Pieces.{Begun, a_blank, a_token, an_open, a_bad, piece_begun, open_is, blank_is}
@@ -32,7 +32,7 @@ cut_all at b bs terminal is =
     ∙ ap (λ z. put at z.len z.terminal (lexemes_from (at + z.len) 0 (drop z.len (b ∷ bs)))) is
     ∙ ap (λ z. (record { at = at; len = length (b ∷ bs); terminal = terminal }) ∷ z) (ap (lexemes_from (at + length (b ∷ bs)) 0) (drop-length (b ∷ bs)) ∙ no_lexemes (at + length (b ∷ bs)))
 
-blank_some : (front rest : List ℕ) → IsBlank front rest → 1 ≤ length front
+blank_some : (front rest : List ℕ) → IsScriptBlank front rest → 1 ≤ length front
 blank_some front rest (white b w is) = rw is (omega arith)
 blank_some front rest (comment inner a h is) = rw is (omega arith)
 
@@ -51,7 +51,7 @@ spelled_some terminal (b ∷ bs) (symbol r d) = omega arith
 spelled_some terminal front (quoted inner a is) = rw is (omega arith)
 
 -- a token that the piece is cannot be longer
-longest_of : (terminal : Terminal) (front rest : List ℕ) → IsToken terminal front rest → piece_at (front ++ rest) ≡ named (length front) terminal → IsLongest terminal front rest
+longest_of : (terminal : Terminal) (front rest : List ℕ) → IsScriptToken terminal front rest → piece_at (front ++ rest) ≡ named (length front) terminal → IsLongestPiece terminal front rest
 longest_of terminal front rest x is = record {
   token = x;
   longest = λ other longer behind same more y.
@@ -75,26 +75,26 @@ bad_of b bs is = record {
 shorter : (most : ℕ) (text front rest : List ℕ) → text ≡ front ++ rest → 1 ≤ length front → length text ≤ suc most → length rest ≤ most
 shorter most text front rest parts some h = let q = ap length parts ∙ length-append front rest in omega (arith, q, some, h)
 
-tokenized_by : (most at b : ℕ) (bs : List ℕ) → length (b ∷ bs) ≤ suc most → ((at : ℕ) (text : List ℕ) → length text ≤ most → IsTokenized at text (lexemes_from at 0 text)) → Begun (b ∷ bs) (piece_of b bs)
-    → IsTokenized at (b ∷ bs) (lexemes_from at 0 (b ∷ bs))
+tokenized_by : (most at b : ℕ) (bs : List ℕ) → length (b ∷ bs) ≤ suc most → ((at : ℕ) (text : List ℕ) → length text ≤ most → IsScriptTokenized at text (lexemes_from at 0 text)) → Begun (b ∷ bs) (piece_of b bs)
+    → IsScriptTokenized at (b ∷ bs) (lexemes_from at 0 (b ∷ bs))
 tokenized_by most at b bs h go (a_blank front rest parts x is) =
     let some = blank_some front rest x in
-    subst (IsTokenized at (b ∷ bs)) (sym (cut at b bs front rest None is parts some))
+    subst (IsScriptTokenized at (b ∷ bs)) (sym (cut at b bs front rest None is parts some))
     (blank front rest parts x (go (at + length front) rest (shorter most (b ∷ bs) front rest parts some h)))
 tokenized_by most at b bs h go (a_token terminal front rest parts x is) =
     let some = spelled_some terminal front x.spelled in
-    subst (IsTokenized at (b ∷ bs)) (sym (cut at b bs front rest (Some terminal) is parts some))
+    subst (IsScriptTokenized at (b ∷ bs)) (sym (cut at b bs front rest (Some terminal) is parts some))
     (token terminal front rest parts (longest_of terminal front rest x (ap piece_at (sym parts) ∙ is)) (go (at + length front) rest (shorter most (b ∷ bs) front rest parts some h)))
-tokenized_by most at b bs h go (an_open x is) = subst (IsTokenized at (b ∷ bs)) (sym (cut_all at b bs t.Unfinished is)) (unfinished x)
-tokenized_by most at b bs h go (a_bad is) = subst (IsTokenized at (b ∷ bs)) (sym (cut_all at b bs t.Bad is)) (bad (bad_of b bs is))
+tokenized_by most at b bs h go (an_open x is) = subst (IsScriptTokenized at (b ∷ bs)) (sym (cut_all at b bs t.Unfinished is)) (unfinished x)
+tokenized_by most at b bs h go (a_bad is) = subst (IsScriptTokenized at (b ∷ bs)) (sym (cut_all at b bs t.Bad is)) (bad (bad_of b bs is))
 
-tokenized_from : (most at : ℕ) (text : List ℕ) → length text ≤ most → IsTokenized at text (lexemes_from at 0 text)
-tokenized_from most at [] h = subst (IsTokenized at []) (sym (no_lexemes at)) (ends refl)
+tokenized_from : (most at : ℕ) (text : List ℕ) → length text ≤ most → IsScriptTokenized at text (lexemes_from at 0 text)
+tokenized_from most at [] h = subst (IsScriptTokenized at []) (sym (no_lexemes at)) (ends refl)
 tokenized_from zero at (b ∷ bs) h = absurd (omega (arith, h))
 tokenized_from (suc most) at (b ∷ bs) h = tokenized_by most at b bs h (tokenized_from most) (piece_begun b bs)
 
 -- the tokens of a text are its longest tokens
-pub tokenized : (text : List ℕ) → IsTokenized 0 text (lexemes_of text)
+pub tokenized : (text : List ℕ) → IsScriptTokenized 0 text (lexemes_of text)
 tokenized text = tokenized_from (length text) 0 text (omega arith)
 
 -- No other tokens are so.
@@ -108,7 +108,7 @@ cut_at at [] front rest o is parts some = absurd (no_front front rest parts some
 cut_at at (b ∷ bs) front rest o is parts some = cut at b bs front rest o is parts some
 
 -- the piece is the longest token
-piece_by : (terminal : Terminal) (b : ℕ) (bs front rest : List ℕ) → b ∷ bs ≡ front ++ rest → IsLongest terminal front rest → Begun (b ∷ bs) (piece_of b bs) → piece_of b bs ≡ named (length front) terminal
+piece_by : (terminal : Terminal) (b : ℕ) (bs front rest : List ℕ) → b ∷ bs ≡ front ++ rest → IsLongestPiece terminal front rest → Begun (b ∷ bs) (piece_of b bs) → piece_of b bs ≡ named (length front) terminal
 piece_by terminal b bs front rest parts l (a_blank f r p x is) =
     let y = token_reaches terminal front rest l.token in
     let q : None ≡ Some y.terminal = ap (λ z. z.terminal) (sym is ∙ ap piece_at parts ∙ y.is) in absurd (cc)
@@ -128,7 +128,7 @@ piece_by terminal b bs front rest parts l (a_bad is) =
     let q : Some t.Bad ≡ Some y.terminal = ap (λ z. z.terminal) (sym is ∙ ap piece_at parts ∙ y.is) in
     absurd (y.not_bad (cc))
 
-piece_longest : (terminal : Terminal) (text front rest : List ℕ) → text ≡ front ++ rest → 1 ≤ length front → IsLongest terminal front rest → piece_at text ≡ named (length front) terminal
+piece_longest : (terminal : Terminal) (text front rest : List ℕ) → text ≡ front ++ rest → 1 ≤ length front → IsLongestPiece terminal front rest → piece_at text ≡ named (length front) terminal
 piece_longest terminal [] front rest parts some l = absurd (no_front front rest parts some)
 piece_longest terminal (b ∷ bs) front rest parts some l = piece_by terminal b bs front rest parts l (piece_begun b bs)
 
@@ -150,7 +150,7 @@ bad_only : (at : ℕ) (text : List ℕ) → IsBad text → lexemes_from at 0 tex
 bad_only at [] x = absurd (x.some refl)
 bad_only at (b ∷ bs) x = cut_all at b bs t.Bad (bad_by b bs x (piece_begun b bs))
 
-only_from : (at : ℕ) (text : List ℕ) (found : List Lexeme) → IsTokenized at text found → found ≡ lexemes_from at 0 text
+only_from : (at : ℕ) (text : List ℕ) (found : List Lexeme) → IsScriptTokenized at text found → found ≡ lexemes_from at 0 text
 only_from at text found (ends is) = sym (ap (lexemes_from at 0) is ∙ no_lexemes at)
 only_from at text found (blank front rest parts x more) =
     only_from (at + length front) rest found more ∙ sym (cut_at at text front rest None (ap piece_at parts ∙ blank_is front rest x) parts (blank_some front rest x))
@@ -162,5 +162,5 @@ only_from at text found (unfinished x) = sym (open_only at text x)
 only_from at text found (bad x) = sym (bad_only at text x)
 
 -- only these
-pub only : (text : List ℕ) (found : List Lexeme) → IsTokenized 0 text found → found ≡ lexemes_of text
+pub only : (text : List ℕ) (found : List Lexeme) → IsScriptTokenized 0 text found → found ≡ lexemes_of text
 only text found x = only_from 0 text found x

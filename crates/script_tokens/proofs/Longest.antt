@@ -12,7 +12,7 @@ use Rattle.script_tokens.specs.declared.strings.Ending.{Ending}
 use Rattle.script_tokens.specs.declared.strings.Ending.TheVariants as e
 use Rattle.script_tokens.specs.Bytes.{is_white, is_symbol_byte, is_string_byte, is_bar_byte, is_binary_digit}
 use Rattle.script_tokens.specs.Lexemes.{piece_of, named, blank, marked, number_piece, more_digits, fraction_len, fraction_of, enclosed, ending_from, string_ending_of, bars_ending_of, bars_end}
-use Rattle.script_tokens.specs.Tokens.{is_run, begins, is_none, is_numeral, IsString, nothing, byte, pair, IsSpelled, opens, closes, numeral, decimal, hexadecimal, binary, string, keyword, symbol, quoted, IsToken}
+use Rattle.script_tokens.specs.Tokens.{is_run, begins, is_none, is_numeral, IsString, nothing, byte, pair, IsSpelled, opens, closes, numeral, decimal, hexadecimal, binary, string, keyword, symbol, quoted, IsScriptToken}
 
 -- a run is no longer than the longest front that passes the test
 pub run_fits : (p : ℕ → Bool) (xs rest : List ℕ) → list_all p xs ≡ true → length xs ≤ prefix_len p (xs ++ rest)
@@ -223,5 +223,5 @@ spelled_reaches terminal front rest (keyword name r is) h =
 spelled_reaches terminal front rest (symbol r d) h = symbol_reaches front rest r d
 spelled_reaches terminal front rest (quoted inner a is) h = subst (ReachesAt t.Quoted rest) (sym is) (quoted_reaches inner rest a)
 
-pub token_reaches : (terminal : Terminal) (front rest : List ℕ) → IsToken terminal front rest → Reaches terminal (length front) (piece_at (front ++ rest))
+pub token_reaches : (terminal : Terminal) (front rest : List ℕ) → IsScriptToken terminal front rest → Reaches terminal (length front) (piece_at (front ++ rest))
 token_reaches terminal front rest x = spelled_reaches terminal front rest x.spelled x.ended

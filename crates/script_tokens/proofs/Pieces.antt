@@ -15,7 +15,7 @@ use Rattle.script_tokens.specs.declared.strings.Ending.{Ending}
 use Rattle.script_tokens.specs.declared.strings.Ending.TheVariants as e
 use Rattle.script_tokens.specs.Bytes.{is_white, is_in_line, is_symbol_byte, is_string_byte, is_bar_byte, is_binary_digit}
 use Rattle.script_tokens.specs.Lexemes.{piece_of, named, blank as blank_piece, marked, bad as bad_piece, number_piece, more_digits, fraction_len, fraction_of, hash_piece, enclosed, ending_from, string_ending_of, bars_ending_of, bars_end}
-use Rattle.script_tokens.specs.Tokens.{is_run, begins, is_none, is_numeral, IsString, nothing, byte, pair, IsSpelled, opens, closes, numeral, decimal, hexadecimal, binary, string, keyword, symbol, quoted, IsToken, IsBlank, white, comment, IsOpen, string as open_string, bars}
+use Rattle.script_tokens.specs.Tokens.{is_run, begins, is_none, is_numeral, IsString, nothing, byte, pair, IsSpelled, opens, closes, numeral, decimal, hexadecimal, binary, string, keyword, symbol, quoted, IsScriptToken, IsScriptBlank, white, comment, IsOpen, string as open_string, bars}
 use Rattle.script_tokens.proofs.Longest.{piece_at, run_is, if_yes, choose}
 
 -- Runs.
@@ -73,7 +73,7 @@ open_is text (bars inner a is) =
     ap piece_at is ∙ ap (enclosed t.Quoted inner) ends ∙ whole_len 124 inner t.Unfinished ∙ ap (λ z. named (length z) t.Unfinished) (sym is)
 
 -- white space and comments are no token
-pub blank_is : (front rest : List ℕ) → IsBlank front rest → piece_at (front ++ rest) ≡ blank_piece (length front)
+pub blank_is : (front rest : List ℕ) → IsScriptBlank front rest → piece_at (front ++ rest) ≡ blank_piece (length front)
 blank_is front rest (white b w is) = ap (λ z. piece_at (z ++ rest)) is ∙ if_yes (is_white b) (blank_piece 1) _ w ∙ ap (λ z. blank_piece (length z)) (sym is)
 blank_is front rest (comment inner a h is) =
     ap (λ z. piece_at (z ++ rest)) is ∙ ap (λ z. blank_piece (1 + z)) (run_before is_in_line inner rest a h) ∙ ap blank_piece (one-add (length inner)) ∙ ap (λ z. blank_piece (length z)) (sym is)
@@ -82,8 +82,8 @@ blank_is front rest (comment inner a h is) =
 
 -- what the piece at the front of a text is
 pub data Begun (text : List ℕ) (piece : Piece) : Type 0 where
-  a_blank : (front rest : List ℕ) → text ≡ front ++ rest → IsBlank front rest → piece ≡ blank_piece (length front) → Begun text piece
-  a_token : (terminal : Terminal) (front rest : List ℕ) → text ≡ front ++ rest → IsToken terminal front rest → piece ≡ named (length front) terminal → Begun text piece
+  a_blank : (front rest : List ℕ) → text ≡ front ++ rest → IsScriptBlank front rest → piece ≡ blank_piece (length front) → Begun text piece
+  a_token : (terminal : Terminal) (front rest : List ℕ) → text ≡ front ++ rest → IsScriptToken terminal front rest → piece ≡ named (length front) terminal → Begun text piece
   an_open : IsOpen text → piece ≡ named (length text) t.Unfinished → Begun text piece
   a_bad : piece ≡ named (length text) t.Bad → Begun text piece
 

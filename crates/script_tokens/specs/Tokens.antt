@@ -46,19 +46,19 @@ pub data IsSpelled : Terminal → List ℕ → Type 0 where
   quoted : {text : List ℕ} (inner : List ℕ) → list_all is_bar_byte inner ≡ true → text ≡ 124 ∷ inner ++ 124 ∷ [] → IsSpelled t.Quoted text
 
 -- a text with this rest behind it is a token of this kind; a quote behind a string would belong to it
-pub record IsToken (terminal : Terminal) (front rest : List ℕ) : Type 0 where
+pub record IsScriptToken (terminal : Terminal) (front rest : List ℕ) : Type 0 where
   pub spelled : IsSpelled terminal front
   pub ended : terminal ≡ t.StringLiteral → begins (λ b. b == 34) rest ≡ false
 
 -- so many bytes are the longest token at the front of a text
-pub record IsLongest (terminal : Terminal) (front rest : List ℕ) : Type 0 where
-  pub token : IsToken terminal front rest
-  pub longest : (other : Terminal) (longer behind : List ℕ) → longer ++ behind ≡ front ++ rest → length front < length longer → IsToken other longer behind → ⊥
+pub record IsLongestPiece (terminal : Terminal) (front rest : List ℕ) : Type 0 where
+  pub token : IsScriptToken terminal front rest
+  pub longest : (other : Terminal) (longer behind : List ℕ) → longer ++ behind ≡ front ++ rest → length front < length longer → IsScriptToken other longer behind → ⊥
 
 -- a byte of white space; or a `;` with all bytes behind it that end no line
-pub data IsBlank : List ℕ → List ℕ → Type 0 where
-  white : {front rest : List ℕ} (b : ℕ) → is_white b ≡ true → front ≡ b ∷ [] → IsBlank front rest
-  comment : {front rest : List ℕ} (inner : List ℕ) → list_all is_in_line inner ≡ true → begins is_in_line rest ≡ false → front ≡ 59 ∷ inner → IsBlank front rest
+pub data IsScriptBlank : List ℕ → List ℕ → Type 0 where
+  white : {front rest : List ℕ} (b : ℕ) → is_white b ≡ true → front ≡ b ∷ [] → IsScriptBlank front rest
+  comment : {front rest : List ℕ} (inner : List ℕ) → list_all is_in_line inner ≡ true → begins is_in_line rest ≡ false → front ≡ 59 ∷ inner → IsScriptBlank front rest
 
 -- a string or a symbol between bars that does not end
 pub data IsOpen : List ℕ → Type 0 where
@@ -68,17 +68,17 @@ pub data IsOpen : List ℕ → Type 0 where
 -- no white space, comment or token begins the text, and it is no string or symbol without its end
 pub record IsBad (text : List ℕ) : Type 0 where
   pub some : text ≡ [] → ⊥
-  pub blank : (front rest : List ℕ) → text ≡ front ++ rest → IsBlank front rest → ⊥
-  pub token : (terminal : Terminal) (front rest : List ℕ) → text ≡ front ++ rest → IsToken terminal front rest → ⊥
+  pub blank : (front rest : List ℕ) → text ≡ front ++ rest → IsScriptBlank front rest → ⊥
+  pub token : (terminal : Terminal) (front rest : List ℕ) → text ≡ front ++ rest → IsScriptToken terminal front rest → ⊥
   pub open_ended : IsOpen text → ⊥
 
 -- The text, which stands at this offset, is these tokens in order, each the longest that begins there, parted by white space
 -- and comments; where the text ends in a string or between bars, or where nothing begins, that is the last one.
-pub data IsTokenized : ℕ → List ℕ → List Lexeme → Type 0 where
-  ends : {at : ℕ} {text : List ℕ} → text ≡ [] → IsTokenized at text []
-  blank : {at : ℕ} {text : List ℕ} {found : List Lexeme} (front rest : List ℕ) → text ≡ front ++ rest → IsBlank front rest
-      → IsTokenized (at + length front) rest found → IsTokenized at text found
-  token : {at : ℕ} {text : List ℕ} {found : List Lexeme} (terminal : Terminal) (front rest : List ℕ) → text ≡ front ++ rest → IsLongest terminal front rest
-      → IsTokenized (at + length front) rest found → IsTokenized at text ((record { at = at; len = length front; terminal = terminal }) ∷ found)
-  unfinished : {at : ℕ} {text : List ℕ} → IsOpen text → IsTokenized at text ((record { at = at; len = length text; terminal = t.Unfinished }) ∷ [])
-  bad : {at : ℕ} {text : List ℕ} → IsBad text → IsTokenized at text ((record { at = at; len = length text; terminal = t.Bad }) ∷ [])
+pub data IsScriptTokenized : ℕ → List ℕ → List Lexeme → Type 0 where
+  ends : {at : ℕ} {text : List ℕ} → text ≡ [] → IsScriptTokenized at text []
+  blank : {at : ℕ} {text : List ℕ} {found : List Lexeme} (front rest : List ℕ) → text ≡ front ++ rest → IsScriptBlank front rest
+      → IsScriptTokenized (at + length front) rest found → IsScriptTokenized at text found
+  token : {at : ℕ} {text : List ℕ} {found : List Lexeme} (terminal : Terminal) (front rest : List ℕ) → text ≡ front ++ rest → IsLongestPiece terminal front rest
+      → IsScriptTokenized (at + length front) rest found → IsScriptTokenized at text ((record { at = at; len = length front; terminal = terminal }) ∷ found)
+  unfinished : {at : ℕ} {text : List ℕ} → IsOpen text → IsScriptTokenized at text ((record { at = at; len = length text; terminal = t.Unfinished }) ∷ [])
+  bad : {at : ℕ} {text : List ℕ} → IsBad text → IsScriptTokenized at text ((record { at = at; len = length text; terminal = t.Bad }) ∷ [])

@@ -7,7 +7,7 @@ use Rattle.sexpr.proofs.Folds.{expr-List}
 use Rattle.script_commands.specs.Commands.{Symbol, items, members_of, symbol_of}
 use Rattle.script_terms.specs.declared.term.Variable.{Variable}
 use Rattle.script_terms.specs.declared.term.Term.{Term}
-use Rattle.script_terms.specs.Term.{Phrase, Bound, bindings, phrase, phrases, phrases_of, and_phrase, let_in, quantified, annotated, ill}
+use Rattle.script_terms.specs.Term.{Phrase, BoundTerm, bindings, phrase, phrases, phrases_of, and_phrase, let_in, quantified, annotated, ill}
 use Rattle.script_typing.specs.declared.forms.Head.{Head}
 use Rattle.script_typing.specs.declared.forms.Head.TheVariants as head
 use Rattle.script_typing.specs.Reading.{are_attributes, are_proper, bindings_in, bound_by, bound_read, head_by, head_named, head_of, let_of, let_phrase, note_of, phrase_of, phrases_in, quantified_of, quantified_phrase, use_of, variables_of}
@@ -68,7 +68,7 @@ pub let_long : (at : ℕ) (rest : List Sexp) (first : Sexp) (behind : List Sexp)
     → b ≡ (length end == 0) → b ≡ false → let_of at (exprs_of rest) ≡ ill at
 let_long at rest first behind body end b p q e f = ap (let_of at) (rest_is rest first behind body end p q) ∙ long_let at (expr first) (expr body) end b e f
 
-pub let_known : (at : ℕ) (rest : List Sexp) (first : Sexp) (behind : List Sexp) (body : Sexp) (end : List Sexp) (b : Bool) (at' : ℕ) (pairs : List Sexp) (bs : Option (List Bound))
+pub let_known : (at : ℕ) (rest : List Sexp) (first : Sexp) (behind : List Sexp) (body : Sexp) (end : List Sexp) (b : Bool) (at' : ℕ) (pairs : List Sexp) (bs : Option (List BoundTerm))
     → rest ≡ first ∷ behind → behind ≡ body ∷ end → b ≡ (length end == 0) → b ≡ true → first ≡ s.List at' pairs → bs ≡ bindings_in (exprs_of pairs)
     → let_of at (exprs_of rest) ≡ let_phrase at bs (phrase_of (expr body))
 let_known at rest first behind body end b at' pairs bs p q e f is k =
@@ -77,10 +77,10 @@ let_known at rest first behind body end b at' pairs bs p q e f is k =
     ∙ ap (λ z. let_of at (and_expr (list at' (exprs_of pairs)) (and_expr (expr body) (exprs_of z)))) (empty_is end b e f)
     ∙ ap (λ z. let_phrase at z (phrase_of (expr body))) (sym k)
 
-pub let_made : (at : ℕ) (bs : List Bound) (t : Phrase) (b : Bool) → b ≡ are_proper bs → b ≡ true → let_phrase at (Some bs) t ≡ let_in at (bindings bs) t
+pub let_made : (at : ℕ) (bs : List BoundTerm) (t : Phrase) (b : Bool) → b ≡ are_proper bs → b ≡ true → let_phrase at (Some bs) t ≡ let_in at (bindings bs) t
 let_made at bs t b e f = ap (λ z. if z then let_in at (bindings bs) t else ill at) (sym e ∙ f)
 
-pub let_refused : (at : ℕ) (bs : List Bound) (t : Phrase) (b : Bool) → b ≡ are_proper bs → b ≡ false → let_phrase at (Some bs) t ≡ ill at
+pub let_refused : (at : ℕ) (bs : List BoundTerm) (t : Phrase) (b : Bool) → b ≡ are_proper bs → b ≡ false → let_phrase at (Some bs) t ≡ ill at
 let_refused at bs t b e f = ap (λ z. if z then let_in at (bindings bs) t else ill at) (sym e ∙ f)
 
 long_quantified : (at : ℕ) (all : Bool) (x y : Expr) (end : List Sexp) (b : Bool) → b ≡ (length end == 0) → b ≡ false → quantified_of at all (and_expr x (and_expr y (exprs_of end))) ≡ ill at

@@ -11,7 +11,7 @@ use Rattle.script_terms.specs.declared.operator.Sort.{Sort}
 use Rattle.script_terms.specs.declared.operator.Sort.TheVariants as sort
 use Rattle.script_terms.specs.declared.term.Name.{Name}
 use Rattle.script_terms.specs.declared.term.Variable.{Variable}
-use Rattle.script_terms.specs.Term.{Phrase, Phrases, Bound, bindings, number, large, used, let_in, quantified, annotated, ill, no_phrase, and_phrase}
+use Rattle.script_terms.specs.Term.{Phrase, Phrases, BoundTerm, bindings, number, large, used, let_in, quantified, annotated, ill, no_phrase, and_phrase}
 use Rattle.script_typing.specs.declared.forms.Head.{Head}
 use Rattle.script_typing.specs.declared.forms.Head.TheVariants as head
 
@@ -54,16 +54,16 @@ are_new before [] = true
 are_new before (x ∷ xs) = not (is_among x before) && are_new (before ++ x ∷ []) xs
 
 -- bindings that a `let` may have: at least one, of different symbols
-abbrev pub are_proper : List Bound → Bool
+abbrev pub are_proper : List BoundTerm → Bool
 are_proper [] = false
 are_proper (b ∷ bs) = are_new [] (map (λ c. c.text) (b ∷ bs))
 
 -- a `let` of these bindings
-abbrev pub let_phrase : ℕ → Option (List Bound) → Phrase → Phrase
+abbrev pub let_phrase : ℕ → Option (List BoundTerm) → Phrase → Phrase
 let_phrase at None t = ill at
 let_phrase at (Some bs) t = if are_proper bs then let_in at (bindings bs) t else ill at
 
-abbrev pub bound_by : Option Symbol → Phrase → Option Bound
+abbrev pub bound_by : Option Symbol → Phrase → Option BoundTerm
 bound_by None t = None
 bound_by (Some x) t = Some (record { text = x.text; term = t })
 
@@ -132,12 +132,12 @@ abbrev mutual
   let_of at _ = ill at
 
   -- the bindings that S-expressions are, if all are some
-  pub bindings_in : Exprs → Option (List Bound)
+  pub bindings_in : Exprs → Option (List BoundTerm)
   bindings_in no_expr = Some []
   bindings_in (and_expr b bs) = before (bound_read b) (bindings_in bs)
 
   -- the binding that a list of a symbol and a term is
-  pub bound_read : Expr → Option Bound
+  pub bound_read : Expr → Option BoundTerm
   bound_read (list _ (and_expr x (and_expr t no_expr))) = bound_by (symbol_of x) (phrase_of t)
   bound_read _ = None
 

@@ -12,11 +12,11 @@ use Rattle.script_commands.specs.declared.table.Entry.{Entry}
 use Rattle.script_commands.specs.Commands.{Symbol, declare, define, command_of}
 use Rattle.script_commands.specs.Symbols.{after, is_known, sort_of, or_int}
 use Rattle.script_commands.specs.Faults.{Terms, body_faults, command_faults, declaration_faults, definition_faults, form, form_in}
-use Rattle.script_commands.specs.Least.{IsRefused, least, least_from}
+use Rattle.script_commands.specs.Least.{IsScriptRefused, least, least_from}
 use Rattle.script_commands.proofs.Least.{two}
 use Rattle.script_commands.proofs.Fitting.{definable}
 use Rattle.script_commands.proofs.Forms.{members-Atom, members-List}
-use Rattle.script_walk.specs.Steps.{Passes, Stops}
+use Rattle.script_walk.specs.Steps.{PassesCommand, StopsCommand}
 
 pub form-Atom : (a : Atom) → form (expr (s.Atom a)) ≡ None
 form-Atom a = ap form_in (members-Atom a)
@@ -27,15 +27,15 @@ form-List at es = ap form_in (members-List at es)
 pub ruleset forms = (form-Atom, form-List)
 
 pub declared_passes : (terms : Terms) (table : List Entry) (at : ℕ) (x : Symbol) (sorts : List Expr) (s : Expr) (new : List Entry)
-    → least (declaration_faults table x sorts s) ≡ None → new ≡ after table (declare x sorts s) → Passes terms table at (Some (declare x sorts s)) new
+    → least (declaration_faults table x sorts s) ≡ None → new ≡ after table (declare x sorts s) → PassesCommand terms table at (Some (declare x sorts s)) new
 declared_passes terms table at x sorts s new fits is = record { fits = fits; symbols = is }
 
 pub declared_stops : (terms : Terms) (table : List Entry) (at : ℕ) (x : Symbol) (sorts : List Expr) (s : Expr) (e : ScriptRefusal)
-    → IsRefused e (least (declaration_faults table x sorts s)) → Stops terms table at (Some (declare x sorts s)) e
+    → IsScriptRefused e (least (declaration_faults table x sorts s)) → StopsCommand terms table at (Some (declare x sorts s)) e
 declared_stops terms table at x sorts s e is = record { is = is }
 
 -- a refusal that is told
-told : (e : ScriptRefusal) (a : Option ScriptRefusal) → a ≡ Some e → IsRefused e a
+told : (e : ScriptRefusal) (a : Option ScriptRefusal) → a ≡ Some e → IsScriptRefused e a
 told (r.Syntax at) a q = q
 told (r.Literal at) a q = q
 told (r.Deep at) a q = q
@@ -62,7 +62,7 @@ found_of terms table at x arguments s t want p f h w k = record {
 }
 
 pub found_stops : (terms : Terms) (table : List Entry) (at : ℕ) (x : Symbol) (arguments : List Expr) (s t : Expr) (found : Option ScriptRefusal) (e : ScriptRefusal)
-    → Found terms table at x arguments s t found → found ≡ Some e → Stops terms table at (Some (define x arguments s t)) e
+    → Found terms table at x arguments s t found → found ≡ Some e → StopsCommand terms table at (Some (define x arguments s t)) e
 found_stops terms table at x arguments s t found e f q = record { is = told e (least (command_faults terms table at (Some (define x arguments s t)))) (sym f.is ∙ q) }
 
 pub found_new : (terms : Terms) (table : List Entry) (at : ℕ) (x : Symbol) (arguments : List Expr) (s t : Expr) (found : Option ScriptRefusal)
@@ -71,7 +71,7 @@ found_new terms table at x arguments s t found f q = definable (body_faults term
 
 pub found_passes : (terms : Terms) (table : List Entry) (at : ℕ) (x : Symbol) (arguments : List Sexp) (s t : Expr) (found : Option ScriptRefusal) (n : ℕ) (k : Sort) (new : List Entry)
     → Found terms table at x (map expr arguments) s t found → found ≡ None → n ≡ length arguments → k ≡ or_int (sort_of s)
-    → new ≡ table ++ (record { text = x.text; arity = n; sort = k; defined = true }) ∷ [] → Passes terms table at (Some (define x (map expr arguments) s t)) new
+    → new ≡ table ++ (record { text = x.text; arity = n; sort = k; defined = true }) ∷ [] → PassesCommand terms table at (Some (define x (map expr arguments) s t)) new
 found_passes terms table at x arguments s t found n k new f q h l is = record {
   fits = sym f.is ∙ q;
   symbols = is ∙ ap (λ z. table ++ (record { text = x.text; arity = z; sort = k; defined = true }) ∷ []) (h ∙ sym (length-map arguments expr))

@@ -5,7 +5,7 @@ use Rattle.script_commands.specs.declared.refusal.ScriptRefusal.{ScriptRefusal}
 use Rattle.script_commands.specs.declared.table.Entry.{Entry}
 use Rattle.script_commands.specs.Commands.{Form, exit}
 use Rattle.script_commands.specs.Faults.{Terms, behind, command_faults, form}
-use Rattle.script_commands.specs.Least.{IsRefused, least}
+use Rattle.script_commands.specs.Least.{IsScriptRefused, least}
 
 -- the command ends the script
 abbrev pub is_exit : Option Form → Bool
@@ -27,10 +27,10 @@ abbrev pub symbols_of : List Expr → List Entry
 symbols_of = symbols_from []
 
 -- the command has no fault, and these are the symbols behind it
-pub record Passes (terms : Terms) (table : List Entry) (at : ℕ) (command : Option Form) (new : List Entry) : Type 0 where
+pub record PassesCommand (terms : Terms) (table : List Entry) (at : ℕ) (command : Option Form) (new : List Entry) : Type 0 where
   pub fits : least (command_faults terms table at command) ≡ None
   pub symbols : new ≡ behind table command
 
 -- the command is refused so
-pub record Stops (terms : Terms) (table : List Entry) (at : ℕ) (command : Option Form) (e : ScriptRefusal) : Type 0 where
-  pub is : IsRefused e (least (command_faults terms table at command))
+pub record StopsCommand (terms : Terms) (table : List Entry) (at : ℕ) (command : Option Form) (e : ScriptRefusal) : Type 0 where
+  pub is : IsScriptRefused e (least (command_faults terms table at command))

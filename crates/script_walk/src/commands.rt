@@ -2,9 +2,9 @@
 
 ghost use Rattle.script_commands.specs.Commands.{assert, declare, define};
 ghost use Rattle.script_commands.specs.Faults.{form, refusal_of};
-ghost use Rattle.script_commands.specs.Least.{IsRefused};
+ghost use Rattle.script_commands.specs.Least.{IsScriptRefused};
 ghost use Rattle.script_commands.specs.Views.{form_of, symbol_is};
-ghost use Rattle.script_walk.specs.Steps.{Passes, Stops, is_exit, symbols_of};
+ghost use Rattle.script_walk.specs.Steps.{PassesCommand, StopsCommand, is_exit, symbols_of};
 ghost use Rattle.sexpr.specs.Expressions.{expr, place_of};
 ghost use Rattle.std.specs.Option.{option_map};
 ghost use Rattle.std.specs.Prelude.{◌≡◌, Some, None, IfOk, IfErr, map};
@@ -30,7 +30,7 @@ struct Step {
 pub fn walk<T: Terms>(alloc: Global, terms: &T, commands: &[Sexp]) -> Result<Table, ScriptRefusal>
     ensures fits { IfOk result (λ t. refusal_of (record { faults = T.faults; uses = T.occurs }) (map expr commands.now) ≡ None) }
     ensures symbols { IfOk result (λ t. t.entries ≡ symbols_of (map expr commands.now)) }
-    ensures refused { IfErr result (λ e. IsRefused e (refusal_of (record { faults = T.faults; uses = T.occurs }) (map expr commands.now))) }
+    ensures refused { IfErr result (λ e. IsScriptRefused e (refusal_of (record { faults = T.faults; uses = T.occurs }) (map expr commands.now))) }
 {
     let mut table = Table::new(alloc);
     let mut rest = commands;
@@ -53,9 +53,9 @@ fn take_command<T: Terms>(
     table: Table,
     e: &Sexp,
 ) -> Result<Step, ScriptRefusal>
-    ensures fits { IfOk result (λ s. Passes (record { faults = T.faults; uses = T.occurs }) table.entries (place_of (expr e.now)) (form (expr e.now)) s.table.entries) }
+    ensures fits { IfOk result (λ s. PassesCommand (record { faults = T.faults; uses = T.occurs }) table.entries (place_of (expr e.now)) (form (expr e.now)) s.table.entries) }
     ensures ends { IfOk result (λ s. s.ends ≡ is_exit (form (expr e.now))) }
-    ensures refused { IfErr result (λ r. Stops (record { faults = T.faults; uses = T.occurs }) table.entries (place_of (expr e.now)) (form (expr e.now)) r) }
+    ensures refused { IfErr result (λ r. StopsCommand (record { faults = T.faults; uses = T.occurs }) table.entries (place_of (expr e.now)) (form (expr e.now)) r) }
 {
     let Some(command) = command_in(e) else {
         return Err(ScriptRefusal::Profile(place(e)));
@@ -101,8 +101,8 @@ fn behind_command<T: Terms>(
     at: u64,
     command: Command<'_>,
 ) -> Result<Table, ScriptRefusal>
-    ensures fits { IfOk result (λ t. Passes (record { faults = T.faults; uses = T.occurs }) table.entries at (Some (form_of command.entry)) t.entries) }
-    ensures refused { IfErr result (λ r. Stops (record { faults = T.faults; uses = T.occurs }) table.entries at (Some (form_of command.entry)) r) }
+    ensures fits { IfOk result (λ t. PassesCommand (record { faults = T.faults; uses = T.occurs }) table.entries at (Some (form_of command.entry)) t.entries) }
+    ensures refused { IfErr result (λ r. StopsCommand (record { faults = T.faults; uses = T.occurs }) table.entries at (Some (form_of command.entry)) r) }
 {
     match command {
         Command::Skip | Command::CheckSat | Command::Exit => Ok(table),
@@ -125,8 +125,8 @@ fn define<T: Terms>(
     sort: &Sexp,
     term: &Sexp,
 ) -> Result<Table, ScriptRefusal>
-    ensures fits { IfOk result (λ t. Passes (record { faults = T.faults; uses = T.occurs }) table.entries at (Some (define (symbol_is name.entry) (map expr arguments.now) (expr sort.now) (expr term.now))) t.entries) }
-    ensures refused { IfErr result (λ r. Stops (record { faults = T.faults; uses = T.occurs }) table.entries at (Some (define (symbol_is name.entry) (map expr arguments.now) (expr sort.now) (expr term.now))) r) }
+    ensures fits { IfOk result (λ t. PassesCommand (record { faults = T.faults; uses = T.occurs }) table.entries at (Some (define (symbol_is name.entry) (map expr arguments.now) (expr sort.now) (expr term.now))) t.entries) }
+    ensures refused { IfErr result (λ r. StopsCommand (record { faults = T.faults; uses = T.occurs }) table.entries at (Some (define (symbol_is name.entry) (map expr arguments.now) (expr sort.now) (expr term.now))) r) }
 {
     let found = with_definition_faults(None, &table, name, arguments, sort);
     let head = Head {
@@ -155,8 +155,8 @@ fn assertion<T: Terms>(
     at: u64,
     term: &Sexp,
 ) -> Result<Table, ScriptRefusal>
-    ensures fits { IfOk result (λ t. Passes (record { faults = T.faults; uses = T.occurs }) table.entries at (Some (assert (expr term.now))) t.entries) }
-    ensures refused { IfErr result (λ r. Stops (record { faults = T.faults; uses = T.occurs }) table.entries at (Some (assert (expr term.now))) r) }
+    ensures fits { IfOk result (λ t. PassesCommand (record { faults = T.faults; uses = T.occurs }) table.entries at (Some (assert (expr term.now))) t.entries) }
+    ensures refused { IfErr result (λ r. StopsCommand (record { faults = T.faults; uses = T.occurs }) table.entries at (Some (assert (expr term.now))) r) }
 {
     let Ok(found) = terms.with_faults(alloc, None, &table, Sort::Bool, term) else {
         return Err(ScriptRefusal::Memory);

@@ -19,7 +19,7 @@ use Rattle.clause_set.proofs.Negations.{less, more}
 use Rattle.formula.specs.Form as tree
 use Rattle.formula.specs.Form.{Form, Forms, IsFormOver, AreFormsOver}
 use Rattle.formula.specs.Sizes.{size, sizes, depth, depths}
-use Rattle.elim_rules.specs.Whole.{all_of, any_of, eliminated, eliminating}
+use Rattle.elim_laws.specs.Whole.{all_of, any_of, eliminated, eliminating}
 use Rattle.search.specs.Closed.{IsClosed, AreClosed}
 use Rattle.search.proofs.Endings.{total-append}
 

@@ -9,15 +9,15 @@ use Rattle.purse.proofs.Tracing.{value-next}
 use Rattle.clause_set.specs.declared.literal.Literal.{Literal}
 use Rattle.clause_set.specs.declared.literal.Literal.TheVariants.{Eq, Geq, Div, NDiv}
 use Rattle.clause_set.specs.Dnfs.{tidied}
-use Rattle.elim_rules.specs.Logs.{by_whole_log, entries_of, names_by_log}
-use Rattle.elim_rules.specs.Whole.{names_out}
-use Rattle.elim_rules.proofs.Depth.{names_does}
-use Rattle.elim_rules.proofs.Wholes.{whole_does}
+use Rattle.elim_laws.specs.Logs.{by_whole_log, entries_of, names_by_log}
+use Rattle.elim_laws.specs.Whole.{names_out}
+use Rattle.elim_laws.proofs.Depth.{names_does}
+use Rattle.elim_laws.proofs.Wholes.{whole_does}
 use Rattle.formula.specs.Form.{Form, equal, unequal, at_least, holds, fails, differs, conjunction, disjunction, universal, existential, no_form, and_form, is_pure}
 use Rattle.sequent.specs.declared.member.Pick.{Pick}
 use Rattle.sequent.specs.Rules.{allowed, picked, premises_of, shape}
 use Rattle.sequent.specs.Sequent.{Sequent}
-use Rattle.solution_rules.specs.Solutions.{answered, solving, valued, valued_clause}
+use Rattle.solution_laws.specs.Solutions.{answered, solving, valued, valued_clause}
 use Rattle.proof_tree.specs.declared.node.Conclusion.{Conclusion}
 use Rattle.proof_tree.specs.declared.node.Conclusion.TheVariants.{Solution, Nothing}
 use Rattle.proof_tree.specs.Proof.{Proof, node, given, proofs}
@@ -26,7 +26,7 @@ use Rattle.proof_tree.specs.declared.run.Verdict.{Verdict}
 use Rattle.proof_tree.specs.declared.run.Verdict.TheVariants.{Invalid}
 use Rattle.proof_tree.specs.Walk.{in_new_log, is_same, nodes_in, on_some, walked}
 use Rattle.proof_tree.proofs.Walking.{gives_walked, some_then}
-use Rattle.node_steps.specs.Within.{branch_limit}
+use Rattle.limits.specs.Limits.{branch_limit}
 use Rattle.search.specs.Building.{all_built, built, canonical_constraint}
 use Rattle.search.specs.Rounds.{solved_of, solving_of}
 use Rattle.search.proofs.Pures.{pick_of, pure_pick}

@@ -8,21 +8,22 @@ use Rattle.formula.specs.Form as tree
 use Rattle.formula.specs.Form.{Form, Forms, IsFormOver, is_pure, are_pure}
 use Rattle.formula.specs.Shifts.{shifted, all_shifted}
 use Rattle.formula.specs.Sizes.{size}
-use Rattle.elim_rules.specs.Whole.{eliminating}
+use Rattle.elim_laws.specs.Whole.{eliminating}
 use Rattle.formula.proofs.Overs.{form_over}
 use Rattle.formula.proofs.Sameness.{size_shifted}
 use Rattle.sequent.specs.declared.member.Pick.{Pick}
 use Rattle.sequent.specs.declared.member.Pick.TheVariants as pick
 use Rattle.sequent.specs.Rules.{allowed, brought, picked, shape}
 use Rattle.sequent.specs.Sequent.{Sequent}
-use Rattle.solution_rules.specs.Solutions.{answered, solving}
+use Rattle.solution_laws.specs.Solutions.{answered, solving}
 use Rattle.pred_unify.specs.Pairs.{closing_of, pairs_of, pures}
 use Rattle.proof_tree.specs.Proves.{start}
 use Rattle.proof_tree.specs.Walk.{fee, in_new_log}
 use Rattle.search.specs.Building.{canonical_constraint}
 use Rattle.search.specs.Closed.{IsClosed, AreClosed}
 use Rattle.search.specs.Pure.{answer_of, at_root, solved}
-use Rattle.search.specs.Run.{Answer, canonical_run, ended, ending, out_of_steps}
+use Rattle.purse.specs.Ending.{ended, ending, out_of_steps}
+use Rattle.search.specs.Run.{RunAnswer, canonical_run}
 use Rattle.search.proofs.Bare.{capped_below, eliminating_steps}
 use Rattle.search.proofs.Pures.{pick_of, pure_pick, pure_run_is}
 use Rattle.search.proofs.Endings.{total-append}
@@ -156,7 +157,7 @@ root_steps f p h =
 run_steps : (f : Form) (budget : ℕ) → IsClosed f → IsFormOver 0 f → total (canonical_run f 0 budget).events ≤ 7 * size f + 3
 run_steps f budget c o =
     let pure = closed_pure f c in
-    subst (λ (w : Traced Answer). total w.events ≤ 7 * size f + 3) (sym (pure_run_is f 0 budget pure))
+    subst (λ (w : Traced RunAnswer). total w.events ≤ 7 * size f + 3) (sym (pure_run_is f 0 budget pure))
     (root_steps f (picked 0 (start f 0).members) (subst (IsLeafCheap f) (sym (pure_pick f 0 0 pure)) (leaf_cheap f c o)))
 
 -- a run that the budget can pay for is not refused

@@ -13,8 +13,9 @@ use Rattle.proof_tree.specs.Proof.{Proof}
 use Rattle.proof_tree.specs.Proves.{start}
 use Rattle.proof_tree.specs.Walk.{fee, fee_by}
 use Rattle.search.specs.Building.{built, entered}
-use Rattle.search.specs.Run.{Ending, out_of_steps, overflows, ended, ending, judged, one_round, or_further, rounds, canonical_run, OneEnd}
-use Rattle.node_steps.specs.Within.{branch_limit}
+use Rattle.purse.specs.Ending.{Ending, out_of_steps, overflows, ended, ending}
+use Rattle.search.specs.Run.{judged, one_round, or_further, rounds, canonical_run, OneEnd}
+use Rattle.limits.specs.Limits.{branch_limit}
 
 -- what has passed
 passed : (es : List Event) (a b : At) → a.funds.spent ≤ a.funds.budget → cut es a ≡ done b → RunsThrough es a b

@@ -31,8 +31,9 @@ use Rattle.search.specs.declared.judge.Outcome.TheVariants as outcome
 use Rattle.search.specs.Course.{noted}
 use Rattle.search.specs.Outcomes.{DecidesAs, EndsAs, IsRun, no_course, run_of, stopped_by}
 use Rattle.search.specs.Rounds.{HasRoot, IsAnswer, IsOutcome, decided_of}
-use Rattle.search.specs.Run.{Answer, canonical_run, ended, ending, ends_with, invalid, saturated, too_long, valid}
-use Rattle.search.specs.Walking.{Gets, IsKept}
+use Rattle.purse.specs.Ending.{ended, ending, ends_with}
+use Rattle.search.specs.Run.{RunAnswer, canonical_run, invalid, saturated, too_long, valid}
+use Rattle.search.specs.Walking.{Gets, IsKeptNode}
 use Rattle.search.proofs.Nodes.{node_of, of_node}
 
 -- ---- runs that are cut
@@ -78,42 +79,42 @@ memory_cut keeps f n e m run (Err k) h did m_is = memory_stop keeps f n e m run 
 
 -- ---- runs that are not
 -- where memory was wanting for the outcome
-memory_end : (f : Form) (n : ℕ) {old new : Funds} {c d : Course} (a : Answer) (m : Memory) → Followed noted (canonical_run f n old.budget) old c (Ok a) new d → EndsAs f n old (Err m) new
+memory_end : (f : Form) (n : ℕ) {old new : Funds} {c d : Course} (a : RunAnswer) (m : Memory) → Followed noted (canonical_run f n old.budget) old c (Ok a) new d → EndsAs f n old (Err m) new
 memory_end f n {old} {new} a m did =
     let es = (canonical_run f n old.budget).events in
     (did.notes, record { before = es; after = []; whole = sym (append-nil es); stands = ap stand (did.charged.ok a refl).1.end })
 
-run_ends : (f : Form) (n : ℕ) {old new : Funds} {c d : Course} (a : Answer) (did : Followed noted (canonical_run f n old.budget) old c (Ok a) new d) → ending (canonical_run f n old.budget) (at old []) ≡ ends_with a (at new did.notes)
+run_ends : (f : Form) (n : ℕ) {old new : Funds} {c d : Course} (a : RunAnswer) (did : Followed noted (canonical_run f n old.budget) old c (Ok a) new d) → ending (canonical_run f n old.budget) (at old []) ≡ ends_with a (at new did.notes)
 run_ends f n {old} {new} a did =
     let w = did.charged.ok a refl in
     ap (ended (canonical_run f n old.budget).value) w.1.end ∙ ap (λ v. ends_with v (at new did.notes)) (sym w.0)
 
-valid_end : (f : Form) (n : ℕ) {old new : Funds} {c : Course} (a : Answer) (vs : List ℤ) (x : Proof) (d : List (List Literal)) (charges : ℕ) (r : Node) → Followed noted (canonical_run f n old.budget) old no_course (Ok a) new c → a ≡ valid vs x
+valid_end : (f : Form) (n : ℕ) {old new : Funds} {c : Course} (a : RunAnswer) (vs : List ℤ) (x : Proof) (d : List (List Literal)) (charges : ℕ) (r : Node) → Followed noted (canonical_run f n old.budget) old no_course (Ok a) new c → a ≡ valid vs x
     → proof_of r ≡ x → d ≡ given x → charges ≡ total (proof_walk f n x (Solution vs)).events → EndsAs f n old (Ok (outcome.Valid d vs (record { charges = charges; root = r; conclusion = Solution vs }))) new
 valid_end f n {new = new} a vs x d charges r did a_is r_is d_is charges_are =
     (did.notes, x, run_ends f n a did ∙ ap (λ z. ends_with z (at new did.notes)) a_is, d_is, record { root = r_is; conclusion = refl; charges = charges_are })
 
-invalid_end : (f : Form) (n : ℕ) {old new : Funds} {c : Course} (a : Answer) (log : ElimLog) (x : Proof) (d : List (List Literal)) (charges : ℕ) (r : Node) → Followed noted (canonical_run f n old.budget) old no_course (Ok a) new c
+invalid_end : (f : Form) (n : ℕ) {old new : Funds} {c : Course} (a : RunAnswer) (log : ElimLog) (x : Proof) (d : List (List Literal)) (charges : ℕ) (r : Node) → Followed noted (canonical_run f n old.budget) old no_course (Ok a) new c
     → a ≡ invalid log.entries x → proof_of r ≡ x → d ≡ given x → charges ≡ total (proof_walk f n x (Nothing log)).events
     → EndsAs f n old (Ok (outcome.Invalid d (record { charges = charges; root = r; conclusion = Nothing log }))) new
 invalid_end f n {new = new} a log x d charges r did a_is r_is d_is charges_are =
     (did.notes, log, x, run_ends f n a did ∙ ap (λ z. ends_with z (at new did.notes)) a_is, d_is, record { root = r_is; conclusion = refl; charges = charges_are })
 
-saturated_end : (f : Form) (n : ℕ) {old new : Funds} {c : Course} (a : Answer) (log : ElimLog) (x : Proof) (d : List (List Literal)) (charges : ℕ) (r : Node) → Followed noted (canonical_run f n old.budget) old no_course (Ok a) new c
+saturated_end : (f : Form) (n : ℕ) {old new : Funds} {c : Course} (a : RunAnswer) (log : ElimLog) (x : Proof) (d : List (List Literal)) (charges : ℕ) (r : Node) → Followed noted (canonical_run f n old.budget) old no_course (Ok a) new c
     → a ≡ saturated log.entries x → proof_of r ≡ x → d ≡ given x → charges ≡ total (proof_walk f n x (Nothing log)).events
     → EndsAs f n old (Ok (outcome.Saturated d (record { charges = charges; root = r; conclusion = Nothing log }))) new
 saturated_end f n {new = new} a log x d charges r did a_is r_is d_is charges_are =
     (did.notes, log, x, run_ends f n a did ∙ ap (λ z. ends_with z (at new did.notes)) a_is, d_is, record { root = r_is; conclusion = refl; charges = charges_are })
 
-long_end : (f : Form) (n : ℕ) {old new : Funds} {c : Course} (a : Answer) (run : Run) (did : Followed noted (canonical_run f n old.budget) old no_course (Ok a) new c) → a ≡ too_long → run ≡ run_of old (at new did.notes)
+long_end : (f : Form) (n : ℕ) {old new : Funds} {c : Course} (a : RunAnswer) (run : Run) (did : Followed noted (canonical_run f n old.budget) old no_course (Ok a) new c) → a ≡ too_long → run ≡ run_of old (at new did.notes)
     → EndsAs f n old (Ok (outcome.Unknown why.Branch run)) new
 long_end f n {new = new} a run did a_is run_is = (did.notes, run_ends f n a did ∙ ap (λ z. ends_with z (at new did.notes)) a_is, run_is)
 
 -- ---- with a tree
-kept_root : (x : Proof) (o : Option Node) (r : Node) → IsKept true x o → o ≡ Some r → proof_of r ≡ x
+kept_root : (x : Proof) (o : Option Node) (r : Node) → IsKeptNode true x o → o ≡ Some r → proof_of r ≡ x
 kept_root x o r kept is = let e : Some (proof_of r) ≡ Some x = sym (ap (option_map proof_of) is) ∙ kept in cc
 
-some_root : (x : Proof) (o : Option Node) → IsKept true x o → IsSome o
+some_root : (x : Proof) (o : Option Node) → IsKeptNode true x o → IsSome o
 some_root x None kept = absurd (cc)
 some_root x (Some r) kept = refl
 
@@ -123,7 +124,7 @@ has_root f n (found.Invalid tree charges log) run did = some_root (did.1.ok _ re
 has_root f n (found.Saturated tree charges log) run did = some_root (did.1.ok _ refl).2.0 tree.root (did.1.ok _ refl).2.2.root
 has_root f n found.Branch run did = tt
 
-found_cases : (f : Form) (n : ℕ) {old new : Funds} {c : Course} (a : Answer) (x : Found) (run : Run) (did : Followed noted (canonical_run f n old.budget) old no_course (Ok a) new c) → run ≡ run_of old (at new did.notes)
+found_cases : (f : Form) (n : ℕ) {old new : Funds} {c : Course} (a : RunAnswer) (x : Found) (run : Run) (did : Followed noted (canonical_run f n old.budget) old no_course (Ok a) new c) → run ≡ run_of old (at new did.notes)
     → IsAnswer true f n a x → (o : Outcome) → IsOutcome x run o → EndsAs f n old (Ok o) new
 found_cases f n {old} {new} a (found.Valid tree charges vs) run did run_is is o o_is =
     subst (λ (z : Outcome). EndsAs f n old (Ok z) new) (sym o_is.2)

@@ -16,7 +16,7 @@ use Rattle.purse.proofs.Tracing.{next-assoc, next-just, next-same}
 use Rattle.clause_set.specs.declared.literal.Literal.{Literal}
 use Rattle.sequent.specs.declared.member.Pick.{Pick}
 use Rattle.sequent.specs.declared.member.Pick.TheVariants as pick
-use Rattle.elim_rules.specs.Logs.{entries_of}
+use Rattle.elim_laws.specs.Logs.{entries_of}
 use Rattle.sequent.specs.Leaf.{is_open}
 use Rattle.sequent.specs.Rules.{picked, premises_of}
 use Rattle.sequent.specs.Sequent.{Sequent}
@@ -30,7 +30,7 @@ use Rattle.search.specs.declared.walk.Children.{Children}
 use Rattle.search.specs.Building.{all_built, built, canonical_constraint, entered, finished}
 use Rattle.search.specs.Course.{noted}
 use Rattle.search.specs.Run.{has_open_leaf, have_open_leaf}
-use Rattle.search.specs.Walking.{AreGrown, AreKept, AreNumbered, IsFinished, IsKept, IsNumbered, Makes, listed, making, proofs_in}
+use Rattle.search.specs.Walking.{AreGrown, AreKept, AreNumbered, IsFinished, IsKeptNode, IsNumbered, Makes, listed, making, proofs_in}
 
 -- ---- outcomes
 pub made_some : {A B : Type 0} {P : A → B → Type 0} {work : Traced (Option A)} {a b : Funds} {c d : Course} (x : A) (y : B) → Followed noted work a c (Ok (Some x)) b d → P x y → Makes P work a c (Ok (Some y)) b d
@@ -70,7 +70,7 @@ proofs_more : (xs ys : List Node) → proofs_in (xs ++ ys) ≡ proofs_in xs ++ p
 proofs_more [] ys = refl
 proofs_more (x ∷ xs) ys = ap (λ (zs : List Proof). proof_of x ∷ zs) (proofs_more xs ys)
 
-kept_more : (keeps : Bool) (xs : List Proof) (x : Proof) (ns : List Node) (o : Option Node) → AreKept keeps xs ns → IsKept keeps x o → AreKept keeps (xs ++ x ∷ []) (ns ++ listed o)
+kept_more : (keeps : Bool) (xs : List Proof) (x : Proof) (ns : List Node) (o : Option Node) → AreKept keeps xs ns → IsKeptNode keeps x o → AreKept keeps (xs ++ x ∷ []) (ns ++ listed o)
 kept_more true xs x ns None all one = absurd (cc)
 kept_more true xs x ns (Some n) all one = let is : proof_of n ≡ x = cc in proofs_more ns (n ∷ []) ∙ ap (λ (ys : List Proof). ys ++ proof_of n ∷ []) all ∙ ap (λ (y : Proof). xs ++ y ∷ []) is
 kept_more false xs x ns None all one = proofs_more ns [] ∙ ap (λ (ys : List Proof). ys ++ []) all
@@ -317,13 +317,13 @@ finish_memory n s p xs ds v r back_is ds_is err h =
     makes_err Memory r err (as_finished n s p xs (follow_note (back n) _ back_is (follow_ok (making s p (map given xs)) _ (made_of s p xs ds (Ok v) ds_is h) (follow_memory (Err Memory) refl))))
 
 pub finish_built : (n : ℕ) (s : Sequent) (p : Pick) (xs : List Proof) (ds : List (List (List Literal))) (keeps : Bool) (t : Built) {a b : Funds} {c c1 d : Course} (v : List (List Literal) × ElimLog) → c1 ≡ noted c (back n) → ds ≡ map given xs
-    → Followed noted (making s p ds) a c1 (Ok v) b d → d.nodes ≡ c1.nodes → t.constraint ≡ v.0 → IsKept keeps (node p (proofs xs) v.1.entries t.constraint) t.root
+    → Followed noted (making s p ds) a c1 (Ok v) b d → d.nodes ≡ c1.nodes → t.constraint ≡ v.0 → IsKeptNode keeps (node p (proofs xs) v.1.entries t.constraint) t.root
     → t.has_open ≡ has_open_leaf s (node p (proofs xs) v.1.entries v.0) → Makes (IsFinished keeps s xs c.nodes d.nodes) (finished n s p xs) a c (Ok (Some t)) b d
 finish_built n s p xs ds keeps t {c = c} v back_is ds_is h nodes_is constraint_is root_is open_is =
     made_some (node p (proofs xs) v.1.entries v.0) t
     (as_finished n s p xs (follow_note (back n) _ back_is (follow_ok (making s p (map given xs)) _ (made_of s p xs ds (Ok v) ds_is h) (follow_just (Some (node p (proofs xs) v.1.entries v.0)) (Some (node p (proofs xs) v.1.entries v.0)) refl))))
     (record {
-      tree = record { root = subst (λ (g : List (List Literal)). IsKept keeps (node p (proofs xs) v.1.entries g) t.root) constraint_is root_is; constraint = constraint_is; has_open = open_is };
+      tree = record { root = subst (λ (g : List (List Literal)). IsKeptNode keeps (node p (proofs xs) v.1.entries g) t.root) constraint_is root_is; constraint = constraint_is; has_open = open_is };
       size = omega arith;
       nodes = nodes_is ∙ ap (λ (z : Course). z.nodes) back_is;
     })

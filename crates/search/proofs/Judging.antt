@@ -10,13 +10,13 @@ use Rattle.purse.proofs.Advancing.{followed_whole}
 use Rattle.purse.proofs.Following.{follow_err, follow_just, follow_note, follow_ok, followed_value}
 use Rattle.purse.proofs.Tracing.{next-assoc, next-just, next-same}
 use Rattle.clause_set.specs.declared.literal.Literal.{Literal}
-use Rattle.elim_rules.specs.Logs.{entries_of}
-use Rattle.elim_rules.specs.Whole.{AreOver, names_out}
+use Rattle.elim_laws.specs.Logs.{entries_of}
+use Rattle.elim_laws.specs.Whole.{AreOver, names_out}
 use Rattle.formula.specs.Form.{Form, IsFormOver, is_pure}
 use Rattle.parameter_solver.specs.declared.solving.Solved.{Solved}
 use Rattle.sequent.specs.Sequent.{Sequent}
 use Rattle.sequent.proofs.Forming.{start_formed}
-use Rattle.solution_rules.specs.Solutions.{solving}
+use Rattle.solution_laws.specs.Solutions.{solving}
 use Rattle.proof_tree.specs.declared.node.Conclusion.{Conclusion}
 use Rattle.proof_tree.specs.declared.node.Conclusion.TheVariants.{Nothing, Solution}
 use Rattle.proof_tree.specs.Proof.{Proof, given}
@@ -30,8 +30,8 @@ use Rattle.search.specs.declared.walk.Built.{Built}
 use Rattle.search.specs.Building.{built}
 use Rattle.search.specs.Course.{noted}
 use Rattle.search.specs.Rounds.{IsAnswer, IsTreeOf, found_by, solved_of, solving_of}
-use Rattle.search.specs.Run.{Answer, concluded, has_open_leaf, invalid, judged, one_round, saturated, too_long}
-use Rattle.node_steps.specs.Within.{branch_limit}
+use Rattle.search.specs.Run.{RunAnswer, concluded, has_open_leaf, invalid, judged, one_round, saturated, too_long}
+use Rattle.limits.specs.Limits.{branch_limit}
 use Rattle.search.specs.Walking.{IsGrown, Makes}
 use Rattle.search.proofs.Charges.{invalid_charges, saturated_charges, solving_charges, valid_charges}
 use Rattle.search.proofs.Given.{built-given}
@@ -39,7 +39,7 @@ use Rattle.search.proofs.Growing.{made_none, made_some, makes_err, makes_memory}
 
 -- ---- what is found
 -- an answer or none, and what was found or nothing
-abbrev IsFinding : Bool → Form → ℕ → Option Answer → Option Found → Type 0
+abbrev IsFinding : Bool → Form → ℕ → Option RunAnswer → Option Found → Type 0
 IsFinding keeps f n (Some a) (Some x) = IsAnswer keeps f n a x
 IsFinding keeps f n None None = Unit {0}
 IsFinding keeps f n (Some a) None = ⊥
@@ -72,10 +72,10 @@ pub of_round : (f : Form) (n k : ℕ) (q : Sequent) {a b : Funds} (c : Course) {
 of_round f n k q {a} {b} c {c1} {d} r q_is is h =
     subst (λ m. Followed noted (built k branch_limit m (start f n)) a c1 r b d) (ap (λ (z : Course). z.nodes) is) (subst (λ (s : Sequent). Followed noted (built k branch_limit c1.nodes s) a c1 r b d) q_is h)
 
-pub round_memory : (f : Form) (n k : ℕ) {a : Funds} (c : Course) {c1 d : Course} {P : Answer → Found → Type 0} (r : Result (Option Found) StepFault) → c1 ≡ noted c (round k) → IsErrAnd r (λ x. x ≡ Memory) → Makes P (one_round f n k) a c r a d
+pub round_memory : (f : Form) (n k : ℕ) {a : Funds} (c : Course) {c1 d : Course} {P : RunAnswer → Found → Type 0} (r : Result (Option Found) StepFault) → c1 ≡ noted c (round k) → IsErrAnd r (λ x. x ≡ Memory) → Makes P (one_round f n k) a c r a d
 round_memory f n k c r is err = makes_memory r err
 
-pub round_cut : (f : Form) (n k : ℕ) {a b : Funds} (c : Course) {c1 d : Course} {e : StepFault} {P : Answer → Found → Type 0} (r : Result (Option Found) StepFault) → c1 ≡ noted c (round k) → IsErrAnd r (λ x. x ≡ e)
+pub round_cut : (f : Form) (n k : ℕ) {a b : Funds} (c : Course) {c1 d : Course} {e : StepFault} {P : RunAnswer → Found → Type 0} (r : Result (Option Found) StepFault) → c1 ≡ noted c (round k) → IsErrAnd r (λ x. x ≡ e)
     → Followed noted (built k branch_limit 0 (start f n)) a c1 (Err e) b d → Makes P (one_round f n k) a c r b d
 round_cut f n k c {e = e} r is err h = makes_err e r err (follow_note (round k) _ is (follow_err (built k branch_limit 0 (start f n)) (judged f n) (Err e) refl h))
 
@@ -83,7 +83,7 @@ pub round_long : (f : Form) (n k : ℕ) {a b : Funds} (c : Course) {c1 d : Cours
 round_long f n k c is h = follow_note (round k) _ is (follow_ok (built k branch_limit 0 (start f n)) (judged f n) h (follow_just (Some too_long) (Some too_long) refl))
 
 -- the solution of the constraint of the tree, as the definition has it
-solved_work : (n : ℕ) (d : List (List Literal)) (g : Solved → Traced (Option Answer)) (h : Option (List ℤ) → Traced (Option Answer)) → ((a : Option (List ℤ)) → a ≡ (solving n d).value → g (solved_of n d a) ≡ h a)
+solved_work : (n : ℕ) (d : List (List Literal)) (g : Solved → Traced (Option RunAnswer)) (h : Option (List ℤ) → Traced (Option RunAnswer)) → ((a : Option (List ℤ)) → a ≡ (solving n d).value → g (solved_of n d a) ≡ h a)
     → next (solving_of n d) g ≡ next (in_new_log (solving n d)) h
 unfolding next step just
 solved_work n d g h same =
@@ -95,10 +95,10 @@ unfolding next just
 solving_value n d = refl
 
 -- the judgement of a tree whose constraint was solved, or was not
-as_judged : (f : Form) (n : ℕ) (x : Proof) {a b : Funds} {c d : Course} {r : Result (Option Answer) StepFault}
+as_judged : (f : Form) (n : ℕ) (x : Proof) {a b : Funds} {c d : Course} {r : Result (Option RunAnswer) StepFault}
     → Followed noted (next (solving_of n (given x)) (λ v. just (concluded f n x (solving n (given x)).value))) a c r b d → Followed noted (judged f n (Some x)) a c r b d
 as_judged f n x {a} {b} {c} {d} {r} h =
-    subst (λ (w : Traced (Option Answer)). Followed noted w a c r b d)
+    subst (λ (w : Traced (Option RunAnswer)). Followed noted w a c r b d)
     (solved_work n (given x) (λ v. just (concluded f n x (solving n (given x)).value)) (λ a. just (concluded f n x a)) (λ a is. ap (λ o. just (concluded f n x o)) (sym is))) h
 
 unsolved : (f : Form) (n : ℕ) (x : Proof) {b g : Funds} {d h : Course} {e : StepFault} → Followed noted (solving_of n (given x)) b d (Err e) g h → Followed noted (judged f n (Some x)) b d (Err e) g h
@@ -108,13 +108,13 @@ judged_to : (f : Form) (n : ℕ) (x : Proof) (v : Solved) {b g : Funds} {d h : C
 judged_to f n x v s =
     let o = concluded f n x (solving n (given x)).value in as_judged f n x (follow_ok (solving_of n (given x)) _ s (follow_just o o refl))
 
-finding : (keeps : Bool) (f : Form) (n : ℕ) (work : Traced (Option Answer)) (o : Option Found) (a : Option Answer) {old new : Funds} {c d : Course} → Followed noted work old c (Ok a) new d → IsFinding keeps f n a o → Makes (IsAnswer keeps f n) work old c (Ok o) new d
+finding : (keeps : Bool) (f : Form) (n : ℕ) (work : Traced (Option RunAnswer)) (o : Option Found) (a : Option RunAnswer) {old new : Funds} {c d : Course} → Followed noted work old c (Ok a) new d → IsFinding keeps f n a o → Makes (IsAnswer keeps f n) work old c (Ok o) new d
 finding keeps f n work (Some x) (Some a) h is = made_some a x h is
 finding keeps f n work None None h is = made_none h
 finding keeps f n work (Some x) None h is = absurd is
 finding keeps f n work None (Some a) h is = absurd is
 
-pub round_unsolved : (f : Form) (n k : ℕ) (x : Proof) (ds : List (List Literal)) {a b g : Funds} (c : Course) {c1 d h : Course} {e : StepFault} {P : Answer → Found → Type 0} (r : Result (Option Found) StepFault) → c1 ≡ noted c (round k) → ds ≡ given x
+pub round_unsolved : (f : Form) (n k : ℕ) (x : Proof) (ds : List (List Literal)) {a b g : Funds} (c : Course) {c1 d h : Course} {e : StepFault} {P : RunAnswer → Found → Type 0} (r : Result (Option Found) StepFault) → c1 ≡ noted c (round k) → ds ≡ given x
     → IsErrAnd r (λ y. y ≡ e) → Followed noted (built k branch_limit 0 (start f n)) a c1 (Ok (Some x)) b d → Followed noted (solving_of n ds) b d (Err e) g h → Makes P (one_round f n k) a c r g h
 round_unsolved f n k x ds {a} {b} {g} c {c1} {d} {h} {e} r is ds_is err w s =
     let v = subst (λ (z : List (List Literal)). Followed noted (solving_of n z) b d (Err e) g h) ds_is s in

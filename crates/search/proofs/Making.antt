@@ -8,11 +8,11 @@ use Rattle.linear_term.specs.Linear.{Linear}
 use Rattle.formula.specs.Form.{Form}
 use Rattle.formula.specs.Form as tree
 use Rattle.formula.specs.Sizes.{depth}
-use Rattle.elim_rules.specs.Logs.{Does, IsQuiet, by_log, entries_of, read_next, reads_none}
-use Rattle.elim_rules.specs.Whole.{eliminated, eliminating}
-use Rattle.elim_rules.proofs.Quiet.{conjunction-quiet, quiet_cond, quiet_each, quiet_just, quiet_next, quiet_raw}
-use Rattle.elim_rules.proofs.Replays.{does_next, does_quiet, form_does, name_does, every_does}
-use Rattle.elim_rules.proofs.Wholes.{whole_does}
+use Rattle.elim_laws.specs.Logs.{Does, IsQuiet, by_log, entries_of, read_next, reads_none}
+use Rattle.elim_laws.specs.Whole.{eliminated, eliminating}
+use Rattle.elim_laws.proofs.Quiet.{conjunction-quiet, quiet_cond, quiet_each, quiet_just, quiet_next, quiet_raw}
+use Rattle.elim_laws.proofs.Replays.{does_next, does_quiet, form_does, name_does, every_does}
+use Rattle.elim_laws.proofs.Wholes.{whole_does}
 use Rattle.sequent.specs.declared.member.Pick.{Pick}
 use Rattle.sequent.specs.declared.member.Pick.TheVariants as pick
 use Rattle.sequent.specs.Sequent.{Member, Sequent}

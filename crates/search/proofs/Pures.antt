@@ -3,8 +3,8 @@ use Rattle.std.proofs.Common.{◌≡◌, ℕ, ℤ, Bool, true, cond, nat_lt, Lis
 use Rattle.purse.specs.Trace.{Traced, just, next, note, pay, round, enter, back}
 use Rattle.purse.proofs.Tracing.{next-assoc, next-just, next-same}
 use Rattle.clause_set.specs.declared.literal.Literal.{Literal}
-use Rattle.elim_rules.specs.Logs.{entries_of}
-use Rattle.elim_rules.specs.Whole.{names_out}
+use Rattle.elim_laws.specs.Logs.{entries_of}
+use Rattle.elim_laws.specs.Whole.{names_out}
 use Rattle.formula.specs.Form.{Form, equal, unequal, at_least, holds, fails, differs, conjunction, disjunction, universal, existential, no_form, and_form, is_pure}
 use Rattle.sequent.specs.declared.member.Pick.{Pick}
 use Rattle.sequent.specs.declared.member.Pick.TheVariants as pick
@@ -12,14 +12,14 @@ use Rattle.sequent.specs.declared.member.Shape.{Shape}
 use Rattle.sequent.specs.declared.member.Shape.TheVariants.{Trivial, Alpha, Delta, Beta, Gamma}
 use Rattle.sequent.specs.Rules.{allowed, at_place, is_shape, or_else, picked, premises_of, shape, suc_place}
 use Rattle.sequent.specs.Sequent.{Sequent}
-use Rattle.solution_rules.specs.Solutions.{solving}
+use Rattle.solution_laws.specs.Solutions.{solving}
 use Rattle.proof_tree.specs.Proof.{Proof}
 use Rattle.proof_tree.specs.Proves.{start}
 use Rattle.proof_tree.specs.Walk.{fee, in_new_log, on_some}
 use Rattle.search.specs.Building.{all_built, built, canonical_constraint, entered, finished}
 use Rattle.search.specs.Pure.{answer_of, at_root, leaf, pure_run, solved}
-use Rattle.search.specs.Run.{Answer, canonical_run, concluded, has_open_leaf, judged, or_further, rounds, saturated}
-use Rattle.node_steps.specs.Within.{branch_limit}
+use Rattle.search.specs.Run.{RunAnswer, canonical_run, concluded, has_open_leaf, judged, or_further, rounds, saturated}
+use Rattle.limits.specs.Limits.{branch_limit}
 
 -- ---- the rule that a pure formula takes has no premises
 -- the pick of a sequent whose one member fits so
@@ -86,23 +86,23 @@ module _ (n : ℕ) (s : Sequent) (p : Pick) (none : premises_of s p ≡ []) wher
       (next-assoc (pay (fee s p)) (λ _. left) k ∙ next-same (pay (fee s p)) (λ _. next left k) _ (left_then k))
 
 -- ---- the answer comes in the first round
-answered : (f : Form) (n : ℕ) (s : Sequent) (p : Pick) (d : List (List Literal)) (a : Option (List ℤ)) (further : Traced Answer) → is_pure f ≡ true
+answered : (f : Form) (n : ℕ) (s : Sequent) (p : Pick) (d : List (List Literal)) (a : Option (List ℤ)) (further : Traced RunAnswer) → is_pure f ≡ true
     → or_further further (concluded f n (leaf s p d) a) ≡ just (answer_of n s p d a)
 answered f n s p d (Some vs) further h = refl
 answered f n s p d None further h =
-    let saturating : Option Answer = cond (has_open_leaf (start f n) (leaf s p d)) None (Some (saturated (entries_of (names_out n d).events) (leaf s p d))) in
+    let saturating : Option RunAnswer = cond (has_open_leaf (start f n) (leaf s p d)) None (Some (saturated (entries_of (names_out n d).events) (leaf s p d))) in
     ap (λ b. or_further further (cond b (Some (answer_of n s p d None)) saturating)) h
 
-judged_then : (f : Form) (n : ℕ) (s : Sequent) (p : Pick) (d : List (List Literal)) (further : Traced Answer) → is_pure f ≡ true
+judged_then : (f : Form) (n : ℕ) (s : Sequent) (p : Pick) (d : List (List Literal)) (further : Traced RunAnswer) → is_pure f ≡ true
     → next (judged f n (Some (leaf s p d))) (or_further further) ≡ solved n s p d
 judged_then f n s p d further h =
     let w = in_new_log (solving n d) in
-    let told : Option (List ℤ) → Traced (Option Answer) = (λ a. just (concluded f n (leaf s p d) a)) in
+    let told : Option (List ℤ) → Traced (Option RunAnswer) = (λ a. just (concluded f n (leaf s p d) a)) in
     next-assoc w told (or_further further)
     ∙ next-same w (λ a. next (told a) (or_further further)) (λ a. just (answer_of n s p d a))
     (next-just (concluded f n (leaf s p d) w.value) (or_further further) ∙ answered f n s p d w.value further h)
 
-round_then : (f : Form) (n m : ℕ) (s : Sequent) (p : Pick) (tree : Traced (Option Proof)) (further : Traced Answer) → is_pure f ≡ true
+round_then : (f : Form) (n m : ℕ) (s : Sequent) (p : Pick) (tree : Traced (Option Proof)) (further : Traced RunAnswer) → is_pure f ≡ true
     → next tree (λ o. next (judged f n o) (or_further further))
     ≡ next (note (enter 0)) (λ _. next (pay (fee s p)) (λ _. next (note (back 0)) (λ _. next (in_new_log (canonical_constraint s p [])) (λ d. next (judged f n (Some (leaf s p d))) (or_further further)))))
     → next (next (note (round 0)) (λ _. next tree (judged f n))) (or_further further) ≡ next (note (round 0)) (λ _. at_root n s p)

@@ -4,8 +4,8 @@ use Rattle.std.proofs.lemmas.List.{append-nil}
 use Rattle.purse.specs.declared.log.Entry.{Entry}
 use Rattle.purse.specs.Trace.{enter, back, charge, mark, Traced, just, step, next, pay}
 use Rattle.clause_set.specs.declared.literal.Literal.{Literal}
-use Rattle.elim_rules.specs.Logs.{by_whole_log, entries_of}
-use Rattle.elim_rules.proofs.Wholes.{whole_does}
+use Rattle.elim_laws.specs.Logs.{by_whole_log, entries_of}
+use Rattle.elim_laws.proofs.Wholes.{whole_does}
 use Rattle.sequent.specs.declared.member.Pick.{Pick}
 use Rattle.sequent.specs.Rules.{picked, premises_of}
 use Rattle.sequent.specs.Sequent.{Sequent}

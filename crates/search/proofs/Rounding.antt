@@ -10,7 +10,7 @@ use Rattle.formula.specs.Form.{Form}
 use Rattle.search.specs.declared.course.Course.{Course}
 use Rattle.search.specs.declared.judge.Found.{Found}
 use Rattle.search.specs.Course.{noted}
-use Rattle.search.specs.Run.{Answer, canonical_run, one_round, or_further, rounds}
+use Rattle.search.specs.Run.{RunAnswer, canonical_run, one_round, or_further, rounds}
 use Rattle.search.specs.Walking.{Gets}
 use Rattle.search.proofs.Endings.{round_charges}
 
@@ -50,7 +50,7 @@ next_turn f n k {now} {b} {old} {c} {d} {c0} turn h =
       within = within;
     }
 
-pub run_found : (f : Form) (n k : ℕ) {now b old : Funds} {c d c0 : Course} (a : Answer) → Turn f n k now c old c0 → Followed noted (one_round f n k) now c (Ok (Some a)) b d → Followed noted (canonical_run f n old.budget) old c0 (Ok a) b d
+pub run_found : (f : Form) (n k : ℕ) {now b old : Funds} {c d c0 : Course} (a : RunAnswer) → Turn f n k now c old c0 → Followed noted (one_round f n k) now c (Ok (Some a)) b d → Followed noted (canonical_run f n old.budget) old c0 (Ok a) b d
 run_found f n k {old = old} a turn h = going_ends turn.going (follow_ok (one_round f n k) (or_further (rounds f n (old.budget - k) (suc k))) h (follow_just a a refl))
 
 gets_err : {A B : Type 0} {P : A → B → Type 0} {work : Traced A} {a b : Funds} {c d : Course} (e : StepFault) (r : Result B StepFault) → IsErrAnd r (λ x. x ≡ e) → Followed noted work a c (Err e) b d → Gets P work a c r b d
@@ -60,6 +60,6 @@ gets_err {work = work} {a} {b} {c} {d} e (Err x) h w = record { ok = λ z is. ab
 pub got_ok : {A B : Type 0} {P : A → B → Type 0} {work : Traced A} {a b : Funds} {c d : Course} (x : A) (y : B) → Followed noted work a c (Ok x) b d → P x y → Gets P work a c (Ok y) b d
 got_ok {P = P} x y w p = record { ok = λ z is. (x, w, subst (P x) (cc) p); err = λ e is. absurd (cc) }
 
-pub run_cut : (f : Form) (n k : ℕ) {now b old : Funds} {c d c0 : Course} {e : StepFault} {P : Answer → Found → Type 0} (r : Result Found StepFault) → Turn f n k now c old c0 → IsErrAnd r (λ x. x ≡ e) → Followed noted (one_round f n k) now c (Err e) b d
+pub run_cut : (f : Form) (n k : ℕ) {now b old : Funds} {c d c0 : Course} {e : StepFault} {P : RunAnswer → Found → Type 0} (r : Result Found StepFault) → Turn f n k now c old c0 → IsErrAnd r (λ x. x ≡ e) → Followed noted (one_round f n k) now c (Err e) b d
     → Gets P (canonical_run f n old.budget) old c0 r b d
 run_cut f n k {old = old} {e = e} r turn is h = gets_err e r is (going_ends turn.going (follow_err (one_round f n k) (or_further (rounds f n (old.budget - k) (suc k))) (Err e) refl h))

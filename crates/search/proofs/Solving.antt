@@ -15,15 +15,15 @@ use Rattle.purse.specs.Work.{ChargedAt, Logged, marks_of}
 use Rattle.purse.proofs.Following.{follow_ok, follow_fault, follow_just, follow_note}
 use Rattle.clause_set.specs.declared.literal.Literal.{Literal}
 use Rattle.clause_set.proofs.Divisors.{kept-append}
-use Rattle.elim_rules.specs.Logs.{IsOfLog, NotesLogs, entries_of}
-use Rattle.elim_rules.specs.Whole.{names_out}
+use Rattle.elim_laws.specs.Logs.{IsOfLog, NotesLogs, entries_of}
+use Rattle.elim_laws.specs.Whole.{names_out}
 use Rattle.parameter_solver.specs.Logs.{in_log, Solves}
 use Rattle.parameter_solver.specs.declared.solving.Solved.{Solved}
 use Rattle.parameter_solver.specs.declared.solving.Solved.TheVariants as solved
 use Rattle.sequent.specs.declared.member.Pick.{Pick}
 use Rattle.sequent.specs.Sequent.{Sequent}
-use Rattle.solution_rules.specs.Solutions.{solving}
-use Rattle.solution_rules.proofs.Noting.{solving_logs}
+use Rattle.solution_laws.specs.Solutions.{solving}
+use Rattle.solution_laws.proofs.Noting.{solving_logs}
 use Rattle.proof_tree.specs.Walk.{in_new_log}
 use Rattle.search.specs.declared.course.Course.{Course}
 use Rattle.search.specs.Building.{canonical_constraint}

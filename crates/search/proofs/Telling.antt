@@ -2,21 +2,22 @@
 use Rattle.std.proofs.Common.{◌≡◌, ℕ, zero, suc, ℤ, Bool, true, false, cond, nat_lt, List, [], refl, sym, ◌∙◌, ap, subst, Option, Some, None}
 use Rattle.purse.specs.Trace.{Funds, At, at, End, done, refused, out_of_range, cut, Traced, just, step, next}
 use Rattle.clause_set.specs.Literals.{dnf_truth}
-use Rattle.elim_rules.specs.Logs.{entries_of}
-use Rattle.elim_rules.specs.Whole.{names_out}
+use Rattle.elim_laws.specs.Logs.{entries_of}
+use Rattle.elim_laws.specs.Whole.{names_out}
 use Rattle.formula.specs.Form.{Form, IsFormOver, is_pure}
 use Rattle.formula.specs.Reduced.{HasReducedTerms}
 use Rattle.sequent.specs.Rules.{picked, premises_of}
 use Rattle.sequent.proofs.Forming.{start_formed}
-use Rattle.solution_rules.specs.Solutions.{IsGiven, solving}
-use Rattle.solution_rules.proofs.Solving.{solving-best, solving-none}
+use Rattle.solution_laws.specs.Solutions.{IsGiven, solving}
+use Rattle.solution_laws.proofs.Solving.{solving-best, solving-none}
 use Rattle.proof_tree.specs.Proof.{Proof, given}
 use Rattle.proof_tree.specs.Proves.{is_root_rule, rule_of, start}
 use Rattle.proof_tree.proofs.Proving.{root_covers, root_exact}
 use Rattle.search.specs.Building.{all_built, built}
 use Rattle.search.specs.Meaning.{Tells}
-use Rattle.search.specs.Run.{Answer, ends_with, ended, ending, canonical_run, concluded, has_open_leaf, invalid, judged, one_round, or_further, rounds, saturated}
-use Rattle.node_steps.specs.Within.{branch_limit}
+use Rattle.purse.specs.Ending.{ends_with, ended, ending}
+use Rattle.search.specs.Run.{RunAnswer, canonical_run, concluded, has_open_leaf, invalid, judged, one_round, or_further, rounds, saturated}
+use Rattle.limits.specs.Limits.{branch_limit}
 use Rattle.search.proofs.Charges.{built_rule, root_rule}
 use Rattle.search.proofs.Given.{built-given}
 use Rattle.search.proofs.Pures.{no_premises, pure_pick}
@@ -24,7 +25,7 @@ use Rattle.search.proofs.Retracing.{retraced, value-built}
 use Rattle.proof_tree.proofs.Walking.{then_some}
 
 -- what a round says: of its answer, or where a further one is to come
-abbrev RoundTells : Form → ℕ → Option Answer → Type 0
+abbrev RoundTells : Form → ℕ → Option RunAnswer → Type 0
 RoundTells f n None = is_pure f ≡ false
 RoundTells f n (Some a) = Tells f n a
 
@@ -83,7 +84,7 @@ round_tells : (f : Form) (n k : ℕ) → IsFormOver n f → HasReducedTerms f �
 unfolding next just step
 round_tells f n k over red = judged_tells f n k over red (built k branch_limit 0 (start f n)).value refl
 
-further_tells : (f : Form) (n : ℕ) (further : Traced Answer) (o : Option Answer) → RoundTells f n o → (is_pure f ≡ false → Tells f n further.value) → Tells f n (or_further further o).value
+further_tells : (f : Form) (n : ℕ) (further : Traced RunAnswer) (o : Option RunAnswer) → RoundTells f n o → (is_pure f ≡ false → Tells f n further.value) → Tells f n (or_further further o).value
 unfolding just
 further_tells f n further (Some a) h k = h
 further_tells f n further None h k = k h
@@ -103,5 +104,5 @@ ended_value v a (refused c) b h = absurd (cc)
 ended_value v a (out_of_range ps c) b h = absurd (cc)
 
 -- what the canonical run ends with says so of the formula
-pub answer_tells : (f : Form) (n : ℕ) (g : Funds) (a : Answer) (b : At) → IsFormOver n f → HasReducedTerms f → ending (canonical_run f n g.budget) (at g []) ≡ ends_with a b → Tells f n a
+pub answer_tells : (f : Form) (n : ℕ) (g : Funds) (a : RunAnswer) (b : At) → IsFormOver n f → HasReducedTerms f → ending (canonical_run f n g.budget) (at g []) ≡ ends_with a b → Tells f n a
 answer_tells f n g a b over red h = subst (Tells f n) (ended_value (canonical_run f n g.budget).value a (cut (canonical_run f n g.budget).events (at g [])) b h) (run_tells f n g.budget over red)

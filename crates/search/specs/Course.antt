@@ -9,7 +9,7 @@ use Rattle.purse.specs.declared.fault.ElimFault.TheVariants.{Steps, Overflow, Me
 use Rattle.purse.specs.Followed.{after_notes}
 use Rattle.purse.specs.Trace.{Funds, Mark, entry, new_log, round, enter, back, at, Traced}
 use Rattle.purse.specs.Work.{ChargedAt}
-use Rattle.elim_rules.specs.Logs.{IsOfLog}
+use Rattle.elim_laws.specs.Logs.{IsOfLog}
 use Rattle.search.specs.declared.course.Course.{Course}
 
 abbrev pub no_log : ElimLog

@@ -29,7 +29,8 @@ use Rattle.search.specs.declared.judge.Outcome.TheVariants.{Valid, Invalid, Satu
 use Rattle.search.specs.Course.{no_log, noted}
 use Rattle.search.specs.Rounds.{IsAnswer}
 use Rattle.search.specs.Walking.{Gets}
-use Rattle.search.specs.Run.{canonical_run, ending, ends_with, out_of_steps, overflows, valid, invalid, saturated, too_long}
+use Rattle.purse.specs.Ending.{ending, ends_with, out_of_steps, overflows}
+use Rattle.search.specs.Run.{canonical_run, valid, invalid, saturated, too_long}
 
 abbrev pub no_course : Course
 no_course = record { round = 0; nodes = 0; log = no_log }

@@ -3,12 +3,12 @@ use Rattle.std.specs.Prelude.{◌≡◌, ℕ, ℤ, Bool, cond, List, Option, Som
 use Rattle.purse.specs.Runs.{total}
 use Rattle.purse.specs.Trace.{Traced, just, next}
 use Rattle.clause_set.specs.declared.literal.Literal.{Literal}
-use Rattle.elim_rules.specs.Logs.{entries_of}
-use Rattle.elim_rules.specs.Whole.{names_out}
+use Rattle.elim_laws.specs.Logs.{entries_of}
+use Rattle.elim_laws.specs.Whole.{names_out}
 use Rattle.formula.specs.Form.{Form, is_pure}
 use Rattle.parameter_solver.specs.declared.solving.Solved.{Solved}
 use Rattle.parameter_solver.specs.declared.solving.Solved.TheVariants as solved
-use Rattle.solution_rules.specs.Solutions.{solving}
+use Rattle.solution_laws.specs.Solutions.{solving}
 use Rattle.proof_tree.specs.declared.node.Conclusion.{Conclusion}
 use Rattle.proof_tree.specs.declared.node.Conclusion.TheVariants.{Solution, Nothing}
 use Rattle.proof_tree.specs.declared.node.Node.{Node}
@@ -24,8 +24,8 @@ use Rattle.search.specs.declared.judge.Found.TheVariants as found
 use Rattle.search.specs.declared.judge.Outcome.{Outcome}
 use Rattle.search.specs.declared.judge.Outcome.TheVariants as outcome
 use Rattle.search.specs.declared.walk.Built.{Built}
-use Rattle.search.specs.Run.{Answer, valid, invalid, saturated, too_long}
-use Rattle.search.specs.Walking.{IsKept}
+use Rattle.search.specs.Run.{RunAnswer, valid, invalid, saturated, too_long}
+use Rattle.search.specs.Walking.{IsKeptNode}
 
 -- what solving d for n names finds
 abbrev pub solved_of : ℕ → List (List Literal) → Option (List ℤ) → Solved
@@ -44,12 +44,12 @@ found_by f tree charged spent (solved.None log) = cond (is_pure f) (Some (found.
 
 -- the tree x of the run, kept or not, has its constraint, and is charged what the walk over it with this conclusion is
 pub record IsTreeOf (keeps : Bool) (f : Form) (n : ℕ) (x : Proof) (c : Conclusion) (tree : Built) (charges : ℕ) : Type 0 where
-  pub root : IsKept keeps x tree.root
+  pub root : IsKeptNode keeps x tree.root
   pub constraint : tree.constraint ≡ given x
   pub charges_are : charges ≡ total (proof_walk f n x c).events
 
 -- the answer is what was found
-abbrev pub IsAnswer : Bool → Form → ℕ → Answer → Found → Type 0
+abbrev pub IsAnswer : Bool → Form → ℕ → RunAnswer → Found → Type 0
 IsAnswer keeps f n a (found.Valid tree charges vs) = (x : Proof) × (a ≡ valid vs x) × IsTreeOf keeps f n x (Solution vs) tree charges
 IsAnswer keeps f n a (found.Invalid tree charges log) = (x : Proof) × (a ≡ invalid log.entries x) × IsTreeOf keeps f n x (Nothing log) tree charges
 IsAnswer keeps f n a (found.Saturated tree charges log) = (x : Proof) × (a ≡ saturated log.entries x) × IsTreeOf keeps f n x (Nothing log) tree charges

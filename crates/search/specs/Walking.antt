@@ -11,7 +11,7 @@ use Rattle.purse.specs.declared.log.ElimLog.{ElimLog}
 use Rattle.purse.specs.Followed.{Followed}
 use Rattle.purse.specs.Trace.{Funds, Traced, just, next}
 use Rattle.clause_set.specs.declared.literal.Literal.{Literal}
-use Rattle.elim_rules.specs.Logs.{entries_of}
+use Rattle.elim_laws.specs.Logs.{entries_of}
 use Rattle.sequent.specs.declared.member.Pick.{Pick}
 use Rattle.sequent.specs.Sequent.{Sequent}
 use Rattle.proof_tree.specs.declared.node.Node.{Node}
@@ -51,8 +51,8 @@ listed None = []
 listed (Some x) = x ∷ []
 
 -- the node is the proof x where trees are kept, and else there is none
-abbrev pub IsKept : Bool → Proof → Option Node → Type 0
-IsKept keeps x o = option_map proof_of o ≡ cond keeps (Some x) None
+abbrev pub IsKeptNode : Bool → Proof → Option Node → Type 0
+IsKeptNode keeps x o = option_map proof_of o ≡ cond keeps (Some x) None
 
 -- the nodes are the proofs xs where trees are kept, and else there are none
 abbrev pub AreKept : Bool → List Proof → List Node → Type 0
@@ -66,7 +66,7 @@ pub record AreGrown (keeps : Bool) (ss : List Sequent) (xs : List Proof) (c : Ch
 
 -- the tree x of this sequent has this constraint, and has an open leaf or none
 pub record IsGrown (keeps : Bool) (s : Sequent) (x : Proof) (b : Built) : Type 0 where
-  pub root : IsKept keeps x b.root
+  pub root : IsKeptNode keeps x b.root
   pub constraint : b.constraint ≡ given x
   pub has_open : b.has_open ≡ has_open_leaf s x
 

@@ -2,11 +2,12 @@
 
 ghost use Rattle.clause_set.specs.Dnfs.{top};
 ghost use Rattle.clause_set.specs.declared.literal.Literal.{Literal};
-ghost use Rattle.elim_rules.specs.Elimination.{exists_name, for_all_name};
-ghost use Rattle.elim_rules.specs.Whole.{eliminating};
+ghost use Rattle.elim_laws.specs.Elimination.{exists_name, for_all_name};
+ghost use Rattle.elim_laws.specs.Whole.{eliminating};
 ghost use Rattle.formula.specs.Sizes.{depth};
 ghost use Rattle.open_branch.specs.Standing.{rule_at, standing};
 ghost use Rattle.pred_unify.specs.Pairs.{closing_of};
+ghost use Rattle.pred_unify.specs.Reading.{HasKinds, sequent_at};
 ghost use Rattle.proof_tree.specs.Rules.{conjoined, first_given};
 ghost use Rattle.purse.specs.Followed.{Followed};
 ghost use Rattle.purse.specs.Trace.{Funds, just, next};
@@ -23,10 +24,10 @@ use clause_set::Dnf;
 use linear_term::{Memory, TermFault};
 use node_steps::{conjoined, first};
 use open_branch::{Branch, Principal};
-use pred_unify::closing;
+use pred_unify::{Leaf, closing_at};
 use purse::{ElimFault, ElimLog, Purse, StepFault};
 use quant_elim::{eliminate, forall_last};
-use sequent::{Sequent, Shape};
+use sequent::Shape;
 use sqlite_items::Items;
 use std::alloc::Global;
 
@@ -46,14 +47,15 @@ fn without_log(alloc: Global, fault: TermFault) -> ElimFault
 }
 
 /// The constraint of a leaf that is closed: its closing formula without quantifiers.
-fn close(alloc: Global, s: &Sequent, purse: &mut Purse) -> Result<(Dnf, ElimLog), ElimFault>
-    requires room { HasRoom s.now }
-    requires depth { s.now.count + depth (closing_of (sequent_of s.now)).value ≤ 2 ^ 32 }
+fn close(alloc: Global, leaf: &Leaf, purse: &mut Purse) -> Result<(Dnf, ElimLog), ElimFault>
+    requires room { HasRoom (sequent_at leaf.now) }
+    requires kinds { HasKinds leaf.now }
+    requires depth { leaf.now.count + depth (closing_of (sequent_of (sequent_at leaf.now))).value ≤ 2 ^ 32 }
     requires budget { purse.old.budget < 2 ^ 32 }
-    ensures { Logged (next (closing_of (sequent_of s.now)) (λ f. eliminating s.now.count f)) purse.old result purse.new }
+    ensures { Logged (next (closing_of (sequent_of (sequent_at leaf.now))) (λ f. eliminating leaf.now.count f)) purse.old result purse.new }
 {
-    match closing(alloc, s) {
-        Ok(f) => eliminate(alloc, &f, s.count, purse),
+    match closing_at(alloc, leaf) {
+        Ok(f) => eliminate(alloc, &f, leaf.count, purse),
         Err(fault) => Err(without_log(alloc, fault)),
     }
 }
@@ -163,18 +165,19 @@ pub fn made(
 /// The constraint of a leaf that is closed, in a run: made in a log of its own.
 pub fn made_at_leaf(
     alloc: Global,
-    s: &Sequent,
+    leaf: &Leaf,
     course: &mut Course,
     purse: &mut Purse,
 ) -> Result<(Dnf, ElimLog), StepFault>
-    requires room { HasRoom s.now }
-    requires depth { s.now.count + depth (closing_of (sequent_of s.now)).value ≤ 2 ^ 32 }
+    requires room { HasRoom (sequent_at leaf.now) }
+    requires kinds { HasKinds leaf.now }
+    requires depth { leaf.now.count + depth (closing_of (sequent_of (sequent_at leaf.now))).value ≤ 2 ^ 32 }
     requires budget { purse.old.budget < 2 ^ 32 }
-    ensures work { Followed noted (making (sequent_of s.now) pick.Close []) purse.old course.old result purse.new course.new }
+    ensures work { Followed noted (making (sequent_of (sequent_at leaf.now)) pick.Close []) purse.old course.old result purse.new course.new }
     ensures nodes { IfOk result (λ r. course.new.nodes ≡ course.old.nodes) }
 {
     course.begin_log(alloc);
-    match close(alloc, s, purse) {
+    match close(alloc, leaf, purse) {
         Ok(outcome) => Ok(outcome),
         Err(fault) => Err(course.cut(fault)),
     }

@@ -4,13 +4,14 @@ ghost use Rattle.clause_set.specs.declared.literal.Literal.{Literal};
 ghost use Rattle.formula.specs.Sizes.{depth};
 ghost use Rattle.open_branch.specs.Standing.{premises_from, rule_at, standing};
 ghost use Rattle.pred_unify.specs.Pairs.{closing_of};
+ghost use Rattle.pred_unify.specs.Reading.{HasKinds, sequent_at};
 ghost use Rattle.proof_tree.specs.Proof.{Proof, node, proofs};
 ghost use Rattle.proof_tree.specs.Views.{proof_of};
 ghost use Rattle.purse.specs.declared.log.Entry.{Entry};
 ghost use Rattle.search.specs.Building.{finished};
 ghost use Rattle.search.specs.Run.{has_open_leaf};
-ghost use Rattle.search.specs.Walking.{AreGrown, AreKept, IsFinished, IsKept, Makes, proofs_in};
-ghost use Rattle.sequent.specs.Leaf as leaf;
+ghost use Rattle.search.specs.Walking.{AreGrown, AreKept, IsFinished, IsKeptNode, Makes, proofs_in};
+ghost use Rattle.sequent.specs.Leaf as leaves;
 ghost use Rattle.sequent.specs.Views.{HasRoom, members_of, sequent_of};
 ghost use Rattle.sequent.specs.declared.member.Pick.TheVariants as pick;
 ghost use Rattle.std.specs.List.{list_any};
@@ -22,9 +23,10 @@ use super::walk::{Built, Children};
 use clause_set::{Clause, Dnf, Literal, copy_literals};
 use linear_term::Memory;
 use open_branch::{Branch, Principal};
+use pred_unify::Leaf;
 use proof_tree::Node;
 use purse::{ElimLog, Purse, StepFault};
-use sequent::{Pick, Sequent};
+use sequent::Pick;
 use sqlite_items::Items;
 use std::alloc::Global;
 
@@ -60,7 +62,7 @@ fn kept(
     log: ElimLog,
     constraint: &Dnf,
 ) -> Result<Option<Node>, Memory>
-    ensures { (xs : List Proof) → AreKept keeps xs children → IfOk result (λ root. IsKept keeps (node rule (proofs xs) log.entries constraint.now) root) }
+    ensures { (xs : List Proof) → AreKept keeps xs children → IfOk result (λ root. IsKeptNode keeps (node rule (proofs xs) log.entries constraint.now) root) }
 {
     if !keeps {
         return Ok(None);
@@ -116,20 +118,21 @@ pub fn finish(
 /// The leaf that is closed, with these members.
 pub fn finish_closed(
     alloc: Global,
-    s: &Sequent,
+    leaf: &Leaf,
     has_open: bool,
     keeps: bool,
     course: &mut Course,
     purse: &mut Purse,
 ) -> Result<Option<Built>, StepFault>
-    requires room { HasRoom s.now }
-    requires depth { s.now.count + depth (closing_of (sequent_of s.now)).value ≤ 2 ^ 32 }
+    requires room { HasRoom (sequent_at leaf.now) }
+    requires kinds { HasKinds leaf.now }
+    requires depth { leaf.now.count + depth (closing_of (sequent_of (sequent_at leaf.now))).value ≤ 2 ^ 32 }
     requires budget { purse.old.budget < 2 ^ 32 }
-    requires open { has_open ≡ list_any (λ m. leaf.is_open m.formula) (members_of s.now.members) }
-    ensures { (n : ℕ) → Makes (IsFinished keeps (sequent_of s.now) [] course.old.nodes course.new.nodes) (finished n (sequent_of s.now) pick.Close []) purse.old course.old result purse.new course.new }
+    requires open { has_open ≡ list_any (λ m. leaves.is_open m.formula) (members_of (sequent_at leaf.now).members) }
+    ensures { (n : ℕ) → Makes (IsFinished keeps (sequent_of (sequent_at leaf.now)) [] course.old.nodes course.new.nodes) (finished n (sequent_of (sequent_at leaf.now)) pick.Close []) purse.old course.old result purse.new course.new }
 {
     course.back(alloc);
-    let (constraint, log) = made_at_leaf(alloc, s, course, purse)?;
+    let (constraint, log) = made_at_leaf(alloc, leaf, course, purse)?;
     let root = kept(
         alloc,
         keeps,

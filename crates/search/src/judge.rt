@@ -1,6 +1,6 @@
 // How a search ends.
 
-ghost use Rattle.elim_rules.specs.Whole.{AreOver};
+ghost use Rattle.elim_laws.specs.Whole.{AreOver};
 ghost use Rattle.formula.specs.Tree.{form};
 ghost use Rattle.purse.specs.Followed.{Followed};
 ghost use Rattle.search.specs.Course.{noted};

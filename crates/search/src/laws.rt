@@ -13,7 +13,8 @@ ghost use Rattle.search.specs.Building.{built};
 ghost use Rattle.search.specs.Pure.{pure_run};
 ghost use Rattle.search.specs.Closed.{IsClosed};
 ghost use Rattle.search.specs.Meaning.{Tells};
-ghost use Rattle.search.specs.Run.{Answer, OneEnd, canonical_run, ending, ends_with, out_of_steps};
+ghost use Rattle.purse.specs.Ending.{ending, ends_with, out_of_steps};
+ghost use Rattle.search.specs.Run.{RunAnswer, OneEnd, canonical_run};
 
 /// The canonical tree of a sequent gives its constraint, and the walk that checks it makes the same charges, computes the same
 /// numbers and leaves the same marks as building it does.
@@ -37,7 +38,7 @@ pub fn pure_law()
 /// false everywhere. A formula without predicates and functions has one of these two answers.
 #[tactic(auto, using(crate::proofs::Telling::answer_tells))]
 pub fn answer_law()
-    ensures { (f : Form) (n : ℕ) (g : Funds) (a : Answer) (b : At) → IsFormOver n f → HasReducedTerms f → ending (canonical_run f n g.budget) (at g []) ≡ ends_with a b → Tells f n a }
+    ensures { (f : Form) (n : ℕ) (g : Funds) (a : RunAnswer) (b : At) → IsFormOver n f → HasReducedTerms f → ending (canonical_run f n g.budget) (at g []) ≡ ends_with a b → Tells f n a }
 {}
 
 /// Comparisons of numbers are decided with seven steps a node and three more.

@@ -1,18 +1,18 @@
 // The search for a proof.
 
-ghost use Rattle.formula.specs.Form.{IsFormOver};
-ghost use Rattle.formula.specs.Sizes.{depth, size};
 ghost use Rattle.formula.specs.Tree.{form};
+ghost use Rattle.formula.specs.Searchable.{IsSearchable};
 ghost use Rattle.search.specs.Outcomes.{DecidesAs, EndsAs, IsRun};
 ghost use Rattle.search.specs.Rounds.{IsAnswer};
 ghost use Rattle.search.specs.Run.{canonical_run, one_round};
 ghost use Rattle.search.specs.Walking.{Gets, Makes};
-ghost use Rattle.std.specs.Prelude.{◌≡◌, ◌+◌, ◌<◌, ◌≤◌, ◌^◌};
+ghost use Rattle.std.specs.Prelude.{◌+◌, ◌<◌, ◌≤◌, ◌^◌};
 
 use super::course::Course;
 use super::judge::{Decided, Found, Outcome, conclude, ended, solution, stopped, without_tree};
 use super::walk::{Plan, build};
 use formula::Core;
+use limits::BRANCH_LIMIT;
 use linear_term::Memory;
 use open_branch::{Branch, Passed};
 use proof_tree::{Run, know_reduced};
@@ -30,10 +30,7 @@ fn one_round(
     course: &mut Course,
     purse: &mut Purse,
 ) -> Result<Option<Found>, StepFault>
-    requires over { IsFormOver constants (form root.now) }
-    requires size { size (form root.now) ≤ 1000000 }
-    requires depth { depth (form root.now) ≤ 2000 }
-    requires constants { constants ≤ 1000 }
+    requires searchable { IsSearchable (form root.now) constants }
     requires budget { purse.old.budget < 2 ^ 32 }
     ensures { Makes (IsAnswer keeps (form root.now) constants) (one_round (form root.now) constants limit) purse.old course.old result purse.new course.new }
 {
@@ -47,7 +44,7 @@ fn one_round(
         keeps,
         passed: Passed::new(),
     };
-    match build(alloc, &mut branch, &plan, 2000, course, purse)? {
+    match build(alloc, &mut branch, &plan, BRANCH_LIMIT, course, purse)? {
         Some(tree) => {
             let charged = purse.spent() - before;
             let solved = solution(alloc, &tree.constraint, constants, course, purse)?;
@@ -67,10 +64,7 @@ fn all_rounds(
     course: &mut Course,
     purse: &mut Purse,
 ) -> Result<Found, StepFault>
-    requires over { IsFormOver constants (form root.now) }
-    requires size { size (form root.now) ≤ 1000000 }
-    requires depth { depth (form root.now) ≤ 2000 }
-    requires constants { constants ≤ 1000 }
+    requires searchable { IsSearchable (form root.now) constants }
     requires budget { purse.old.budget < 2 ^ 32 }
     requires funds { purse.old.spent ≤ purse.old.budget }
     ensures { Gets (IsAnswer keeps (form root.now) constants) (canonical_run (form root.now) constants purse.old.budget) purse.old course.old result purse.new course.new }
@@ -92,10 +86,7 @@ fn whole(
     keeps: bool,
     purse: &mut Purse,
 ) -> (Result<Found, StepFault>, Run)
-    requires over { IsFormOver constants (form root.now) }
-    requires size { size (form root.now) ≤ 1000000 }
-    requires depth { depth (form root.now) ≤ 2000 }
-    requires constants { constants ≤ 1000 }
+    requires searchable { IsSearchable (form root.now) constants }
     requires budget { purse.old.budget < 2 ^ 32 }
     ensures { IsRun keeps (form root.now) constants purse.old result.0 result.1 purse.new }
 {
@@ -122,10 +113,7 @@ pub fn prove(
     constants: u32,
     purse: &mut Purse,
 ) -> Result<Outcome, Memory>
-    requires over { IsFormOver constants (form root.now) }
-    requires size { size (form root.now) ≤ 1000000 }
-    requires depth { depth (form root.now) ≤ 2000 }
-    requires constants { constants ≤ 1000 }
+    requires searchable { IsSearchable (form root.now) constants }
     requires budget { purse.old.budget < 2 ^ 32 }
     ensures { EndsAs (form root.now) constants purse.old result purse.new }
 {
@@ -146,10 +134,7 @@ pub fn decide(
     constants: u32,
     purse: &mut Purse,
 ) -> Result<Decided, Memory>
-    requires over { IsFormOver constants (form root.now) }
-    requires size { size (form root.now) ≤ 1000000 }
-    requires depth { depth (form root.now) ≤ 2000 }
-    requires constants { constants ≤ 1000 }
+    requires searchable { IsSearchable (form root.now) constants }
     requires budget { purse.old.budget < 2 ^ 32 }
     ensures { DecidesAs (form root.now) constants purse.old result purse.new }
 {

@@ -1,5 +1,5 @@
 // The trees of a round, depth first: one branch serves them all. A node takes its principal out of it and adds its new members
-// behind, and what a premise did is undone when it is left; the members are copied where a leaf is closed, and nowhere else.
+// behind, and what a premise did is undone when it is left; where a leaf is closed, its members are read where they lie.
 // Where trees are not kept, all that a finished node leaves is its constraint and whether a leaf below it is open.
 
 ghost use Rattle.open_branch.specs.Passed.{IsPassed};
@@ -17,8 +17,9 @@ use super::course::Course;
 use super::finishing::{finish, finish_closed};
 use clause_set::Dnf;
 use linear_term::Memory;
-use node_steps::{closing_fee, principal_fee};
+use node_steps::{leaf_fee, principal_fee};
 use open_branch::{Branch, Passed, Principal};
+use pred_unify::Leaf;
 use proof_tree::Node;
 use purse::{Purse, StepFault};
 use sqlite_items::Items;
@@ -130,9 +131,10 @@ fn close(
     ensures { (f : ℕ → q.Sequent → Traced (Option Proof)) → Makes (IsNumbered keeps (standing branch.now) course.old.nodes course.new.nodes purse.new.spent) (entered f course.old.nodes (standing branch.now) pick.Close) purse.old course.old result purse.new course.new }
 {
     course.enter(alloc);
-    let s = branch.copied(alloc)?;
-    purse.step(closing_fee(&s))?;
-    finish_closed(alloc, &s, branch.has_open_member(), keeps, course, purse)
+    let members = branch.members(alloc)?;
+    let leaf = Leaf::of(alloc, members, branch.count())?;
+    purse.step(leaf_fee(&leaf))?;
+    finish_closed(alloc, &leaf, branch.has_open_member(), keeps, course, purse)
 }
 
 /// The canonical tree whose root has the rule with this principal.

@@ -3,7 +3,7 @@ use Rattle.std.proofs.Common.{◌≡◌, ℕ, zero, suc, ◌≤◌, ℤ, pos, Bo
 use Rattle.std.specs.List.{AllByRecursion, remove, slice_get}
 use Rattle.typed_formula.specs.Truth.{Meaning}
 use Rattle.formula.specs.Form.{Form, FormTruth, Forms, equal, unequal, at_least, holds, fails, differs, conjunction, disjunction, universal, existential, no_form, and_form, AreFormsTrue, AreFormsFalse}
-use Rattle.sequent.specs.Sequent.{Member, Sequent, member, sequent, IsMemberTrue, AreFalse, SequentTruth, IsMember, IsWellFormed}
+use Rattle.sequent.specs.Sequent.{Member, Sequent, member, sequent, IsMemberTrue, AreFalse, SequentTruth, IsMember, IsFormedSequent}
 use Rattle.sequent.specs.Rules.{brought, new_members, one_each, premises_at}
 use Rattle.sequent.specs.Covers.{Covers, IsTight, AreCovered, AreTight, AreTrue, IsOneFalse, RuleTruth, RuleFalsity}
 use Rattle.formula.proofs.Stability.{form_stable}
@@ -61,7 +61,7 @@ row_true w s i over used (fails p ts) ds e len le formed h c t = absurd t
 row_true w s i over used (differs p ts u) ds e len le formed h c t = absurd t
 
 -- premises that are covered give a covered sequent
-pub row_covers : (w : Meaning) (s : Sequent) (i : ℕ) (m : Member) (ds : List (List ℤ → Bool)) → IsWellFormed s → slice_get s.members i ≡ Some m
+pub row_covers : (w : Meaning) (s : Sequent) (i : ℕ) (m : Member) (ds : List (List ℤ → Bool)) → IsFormedSequent s → slice_get s.members i ≡ Some m
     → AreCovered w (premises_at s i (Some m)) ds → (e : List ℤ) → length e ≡ s.count → RuleTruth m.formula ds e → SequentTruth w s e
 row_covers w s i m ds formed is c e len t h =
     let P : Member → Type 0 = λ x. ¬ (IsMemberTrue w e x) in
@@ -137,7 +137,7 @@ row_tight_at s i over used (fails p ts) ds e len le formed c t = absurd t
 row_tight_at s i over used (differs p ts u) ds e len le formed c t = absurd t
 
 -- wherever the rule's constraint is false, some interpretation makes the sequent false
-pub row_tight : (s : Sequent) (i : ℕ) (m : Member) (ds : List (List ℤ → Bool)) → IsWellFormed s → slice_get s.members i ≡ Some m
+pub row_tight : (s : Sequent) (i : ℕ) (m : Member) (ds : List (List ℤ → Bool)) → IsFormedSequent s → slice_get s.members i ≡ Some m
     → AreTight (premises_at s i (Some m)) ds → (e : List ℤ) → length e ≡ s.count → RuleFalsity m.formula ds e → (w : Meaning) × AreFalse w e s.members
 row_tight s i m ds formed is c e len t =
     let r = row_tight_at s i m.over m.used m.formula ds e len (all_at (IsMember s.count) s.members i m is formed).within (all_remove (IsMember s.count) s.members i formed) c t in

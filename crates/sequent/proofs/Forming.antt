@@ -2,7 +2,7 @@
 use Rattle.std.proofs.Common.{◌≡◌, ℕ, suc, ◌+◌, ◌-◌, ◌≤◌, List, [], ◌∷◌, ◌++◌, map, Some, sym, subst, arith}
 use Rattle.std.specs.List.{AllByRecursion, remove, slice_get}
 use Rattle.formula.specs.Form.{Form, Forms, equal, unequal, at_least, holds, fails, differs, conjunction, disjunction, universal, existential, no_form, and_form, IsFormOver, AreFormsOver}
-use Rattle.sequent.specs.Sequent.{Member, Sequent, member, sequent, IsMember, IsWellFormed}
+use Rattle.sequent.specs.Sequent.{Member, Sequent, member, sequent, IsMember, IsFormedSequent}
 use Rattle.sequent.specs.Rules.{brought, new_members, one_each, premises_at}
 use Rattle.formula.proofs.Overs.{form_over}
 use Rattle.sequent.proofs.Members.{all_append, all_remove, all_at, all_same}
@@ -33,13 +33,13 @@ one_more : (n : ℕ) (m : Member) → IsMember n m → IsMember (suc n) m
 one_more n m h = record { within = omega (arith, h.within); formed = h.formed }
 
 each_formed : (rest : List Member) (n over : ℕ) (fs : Forms) → AllByRecursion (IsMember n) rest → over ≤ n → AreFormsOver over fs
-    → AllByRecursion IsWellFormed (map (λ new. sequent (rest ++ new) n) (one_each (new_members over n fs)))
+    → AllByRecursion IsFormedSequent (map (λ new. sequent (rest ++ new) n) (one_each (new_members over n fs)))
 each_formed rest n over no_form r le h = tt
 each_formed rest n over (and_form f fs) r le h =
     (all_append (IsMember n) rest (member (brought over n f) n 0 ∷ []) r (new_formed over n f le h.0, tt), each_formed rest n over fs r le h.1)
 
 premises_of_formed : (s : Sequent) (i over used : ℕ) (f : Form) → over ≤ s.count → IsFormOver over f → AllByRecursion (IsMember s.count) (remove s.members i)
-    → AllByRecursion IsWellFormed (premises_at s i (Some (member f over used)))
+    → AllByRecursion IsFormedSequent (premises_at s i (Some (member f over used)))
 premises_of_formed s i over used (conjunction fs) le h r = each_formed (remove s.members i) s.count over fs r le h
 premises_of_formed s i over used (disjunction fs) le h r = (all_append (IsMember s.count) (remove s.members i) (new_members over s.count fs) r (all_new_formed over s.count fs le h), tt)
 premises_of_formed s i over used (universal f) le h r = (
@@ -60,11 +60,11 @@ premises_of_formed s i over used (holds p ts) le h r = tt
 premises_of_formed s i over used (fails p ts) le h r = tt
 premises_of_formed s i over used (differs p ts u) le h r = tt
 
-pub premises_formed : (s : Sequent) (i : ℕ) (m : Member) → IsWellFormed s → slice_get s.members i ≡ Some m → AllByRecursion IsWellFormed (premises_at s i (Some m))
+pub premises_formed : (s : Sequent) (i : ℕ) (m : Member) → IsFormedSequent s → slice_get s.members i ≡ Some m → AllByRecursion IsFormedSequent (premises_at s i (Some m))
 premises_formed s i m formed is =
     let one = all_at (IsMember s.count) s.members i m is formed in
     premises_of_formed s i m.over m.used m.formula one.within one.formed (all_remove (IsMember s.count) s.members i formed)
 
 -- a formula alone, over so many constants
-pub start_formed : (f : Form) (n : ℕ) → IsFormOver n f → IsWellFormed (sequent (member f n 0 ∷ []) n)
+pub start_formed : (f : Form) (n : ℕ) → IsFormOver n f → IsFormedSequent (sequent (member f n 0 ∷ []) n)
 start_formed f n h = (record { within = omega arith; formed = h }, tt)

@@ -11,7 +11,7 @@ use Rattle.sequent.specs.declared.member.Member as code
 use Rattle.sequent.specs.declared.member.Sequent as coded
 use Rattle.sequent.specs.Limits.{IsLimited}
 use Rattle.sequent.specs.Rules.{brought, new_members, one_each, premises_at}
-use Rattle.sequent.specs.Sequent.{Member, Sequent, member, sequent, IsMember, IsWellFormed}
+use Rattle.sequent.specs.Sequent.{Member, Sequent, member, sequent, IsMember, IsFormedSequent}
 use Rattle.sequent.specs.Views.{HasRoom, members_of, sequent_of}
 use Rattle.sequent.proofs.Members.{all_append, all_remove, all_at, all_same}
 
@@ -79,5 +79,5 @@ members_room u k n (m ∷ ms) uses room formed limited = (
     fits_in : (over d k n : ℕ) → over ≤ n → d ≤ k → n + k ≤ 2 ^ 32 → over + d ≤ 2 ^ 32 - (n - over)
     fits_in over d k n le deep room = omega (arith, le, deep, room)
 
-pub has_room : (u k : ℕ) (t : coded.Sequent) → u + 1 < 2 ^ 32 → t.count + k ≤ 2 ^ 32 → t.count + 1 < 2 ^ 32 → IsWellFormed (sequent_of t) → IsLimited u k (sequent_of t) → HasRoom t
+pub has_room : (u k : ℕ) (t : coded.Sequent) → u + 1 < 2 ^ 32 → t.count + k ≤ 2 ^ 32 → t.count + 1 < 2 ^ 32 → IsFormedSequent (sequent_of t) → IsLimited u k (sequent_of t) → HasRoom t
 has_room u k t uses room more formed limited = record { constants = more; members = members_room u k t.count t.members uses room formed limited }

@@ -37,5 +37,5 @@ pub record IsMember (n : ℕ) (m : Member) : Type 0 where
   pub within : m.over ≤ n
   pub formed : IsFormOver m.over m.formula
 
-abbrev pub IsWellFormed : Sequent → Type 0
-IsWellFormed s = AllByRecursion (IsMember s.count) s.members
+abbrev pub IsFormedSequent : Sequent → Type 0
+IsFormedSequent s = AllByRecursion (IsMember s.count) s.members

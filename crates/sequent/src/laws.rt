@@ -5,7 +5,7 @@ ghost use Rattle.std.specs.List.{slice_get, AllByRecursion};
 ghost use Rattle.integers.specs.Entry.{put};
 ghost use Rattle.typed_formula.specs.Truth.{Meaning};
 ghost use Rattle.formula.specs.Form.{Form, IsFormOver, existential};
-ghost use Rattle.sequent.specs.Sequent.{Member, Sequent, member, sequent, AreFalse, SequentTruth, IsWellFormed};
+ghost use Rattle.sequent.specs.Sequent.{Member, Sequent, member, sequent, AreFalse, SequentTruth, IsFormedSequent};
 ghost use Rattle.sequent.specs.Rules.{premises_at, applies, picked, is_shape, first_fit, fits};
 ghost use Rattle.sequent.specs.declared.member.Shape.{Shape};
 ghost use Rattle.sequent.specs.declared.member.Pick.TheVariants as pick;
@@ -17,21 +17,21 @@ ghost use Rattle.sequent.specs.Covers.{Covers, IsTight, AreCovered, AreTight, Ru
 
 /// Where each premise of a rule is covered by its constraint, the rule's constraint covers the sequent, in every interpretation.
 pub fn covers_law()
-    ensures { (w : Meaning) (s : Sequent) (i : ℕ) (m : Member) (ds : List (List ℤ → Bool)) → IsWellFormed s → slice_get s.members i ≡ Some m
+    ensures { (w : Meaning) (s : Sequent) (i : ℕ) (m : Member) (ds : List (List ℤ → Bool)) → IsFormedSequent s → slice_get s.members i ≡ Some m
         → AreCovered w (premises_at s i (Some m)) ds → (e : List ℤ) → length e ≡ s.count → RuleTruth m.formula ds e → SequentTruth w s e }
 {}
 
 /// Where each premise of a rule is tight for its constraint, an interpretation refutes the sequent wherever the rule's
 /// constraint is false.
 pub fn tight_law()
-    ensures { (s : Sequent) (i : ℕ) (m : Member) (ds : List (List ℤ → Bool)) → IsWellFormed s → slice_get s.members i ≡ Some m
+    ensures { (s : Sequent) (i : ℕ) (m : Member) (ds : List (List ℤ → Bool)) → IsFormedSequent s → slice_get s.members i ≡ Some m
         → AreTight (premises_at s i (Some m)) ds → (e : List ℤ) → length e ≡ s.count → RuleFalsity m.formula ds e → (w : Meaning) × AreFalse w e s.members }
 {}
 
 /// A formula over so many constants begins a well-formed sequent, and the premises of a well-formed sequent are well formed.
 pub fn formed_law()
-    ensures start { (f : Form) (n : ℕ) → IsFormOver n f → IsWellFormed (sequent (member f n 0 ∷ []) n) }
-    ensures premises { (s : Sequent) (i : ℕ) (m : Member) → IsWellFormed s → slice_get s.members i ≡ Some m → AllByRecursion IsWellFormed (premises_at s i (Some m)) }
+    ensures start { (f : Form) (n : ℕ) → IsFormOver n f → IsFormedSequent (sequent (member f n 0 ∷ []) n) }
+    ensures premises { (s : Sequent) (i : ℕ) (m : Member) → IsFormedSequent s → slice_get s.members i ≡ Some m → AllByRecursion IsFormedSequent (premises_at s i (Some m)) }
 {}
 
 /// The canonical pick applies.
@@ -58,5 +58,5 @@ pub fn room_law()
     ensures premises { (u k : ℕ) (s : Sequent) (i : ℕ) (m : Member) → IsLimited u k s → slice_get s.members i ≡ Some m
         → AllByRecursion (IsLimited (u + 1) k) (premises_at s i (Some m)) }
     ensures room { (u k : ℕ) (t : coded.Sequent) → u + 1 < 2 ^ 32 → t.count + k ≤ 2 ^ 32 → t.count + 1 < 2 ^ 32
-        → IsWellFormed (sequent_of t) → IsLimited u k (sequent_of t) → HasRoom t }
+        → IsFormedSequent (sequent_of t) → IsLimited u k (sequent_of t) → HasRoom t }
 {}

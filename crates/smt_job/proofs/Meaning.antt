@@ -14,8 +14,8 @@ use Rattle.script_commands.specs.declared.refusal.ScriptRefusal.{ScriptRefusal}
 use Rattle.script_commands.specs.declared.refusal.ScriptRefusal.TheVariants as r
 use Rattle.script_terms.specs.Scripts.{Command, State, checks}
 use Rattle.script_checks.specs.Commands.{commands_of}
-use Rattle.script_checks.specs.Formed.{IsFormed}
-use Rattle.script_checks.specs.Posed.{IsPosed}
+use Rattle.script_checks.specs.Formed.{IsFormedCheck}
+use Rattle.script_checks.specs.Posed.{IsCheckPosed}
 use Rattle.script_checks.proofs.Answers.{satisfiable, unsatisfiable}
 use Rattle.script_checks.proofs.Posing.{well_formed}
 use Rattle.script_checks.proofs.Texts.{text_checks}
@@ -33,12 +33,12 @@ head P x xs h = h 0 x (omega arith)
 tail : {A : Type 0} (P : A → Type 0) (x : A) (xs : List A) → All P (x ∷ xs) → All P xs
 tail P x xs h i d k = h (suc i) d (omega (arith, k))
 
-means : (w : Meaning) (budget : ℕ) (cs : List Command) (s : State) (p : Problem) (a : CheckAnswer) → IsFormed s → Contains (checks cs) s → IsPosed s p → IsCheckAnswer budget p a → Means w s a
+means : (w : Meaning) (budget : ℕ) (cs : List Command) (s : State) (p : Problem) (a : CheckAnswer) → IsFormedCheck s → Contains (checks cs) s → IsCheckPosed s p → IsCheckAnswer budget p a → Means w s a
 means w budget cs s p Unsat f c h is = unsatisfiable cs p s c h w (unsat_holds w budget p (well_formed s p f h) h.existentials is)
 means w budget cs s p Sat f c h is = satisfiable cs p s c h (sat_refuted budget p (well_formed s p f h) is)
 means w budget cs s p Unknown f c h is = tt
 
-all_mean : (w : Meaning) (budget : ℕ) (cs : List Command) (ss : List State) (ps : List Problem) (xs : List CheckAnswer) → All IsFormed ss → All (Contains (checks cs)) ss → ArePosed ss ps
+all_mean : (w : Meaning) (budget : ℕ) (cs : List Command) (ss : List State) (ps : List Problem) (xs : List CheckAnswer) → All IsFormedCheck ss → All (Contains (checks cs)) ss → ArePosed ss ps
     → AreCheckAnswers budget ps xs → AllMean w ss xs
 all_mean w budget cs [] [] [] f c h is = tt
 all_mean w budget cs [] [] (a ∷ xs) f c h is = absurd is
@@ -46,8 +46,8 @@ all_mean w budget cs [] (p ∷ ps) xs f c h is = absurd h
 all_mean w budget cs (s ∷ ss) [] xs f c h is = absurd h
 all_mean w budget cs (s ∷ ss) (p ∷ ps) [] f c h is = absurd is
 all_mean w budget cs (s ∷ ss) (p ∷ ps) (a ∷ xs) f c h is = (
-  means w budget cs s p a (head IsFormed s ss f) (head (Contains (checks cs)) s ss c) h.0 is.0,
-  all_mean w budget cs ss ps xs (tail IsFormed s ss f) (tail (Contains (checks cs)) s ss c) h.1 is.1,
+  means w budget cs s p a (head IsFormedCheck s ss f) (head (Contains (checks cs)) s ss c) h.0 is.0,
+  all_mean w budget cs ss ps xs (tail IsFormedCheck s ss f) (tail (Contains (checks cs)) s ss c) h.1 is.1,
 )
 
 not_refused : (a : Answer) (name : List ℕ) → a ≡ refused_answer name → (a.status ≡ 0) ⊎ (a.status ≡ 2) → ⊥
@@ -59,7 +59,7 @@ means_all w budget bytes a (refused e h k is) s = absurd (not_refused a (refusal
 means_all w budget bytes a (answered ps h (large p c l is)) s = absurd (not_refused a (codes "Large") is s)
 means_all w budget bytes a (answered ps h (lines xs are is)) s =
     let cs : List Command = commands_of (map expr h.lists) in
-    let formed : All IsFormed (checks cs) = text_checks bytes h.lists h.said h.posed.fits in record {
+    let formed : All IsFormedCheck (checks cs) = text_checks bytes h.lists h.said h.posed.fits in record {
       lists = h.lists;
       said = h.said;
       fits = h.posed.fits;
@@ -68,11 +68,11 @@ means_all w budget bytes a (answered ps h (lines xs are is)) s =
       mean = all_mean w budget cs (checks cs) ps xs formed (All-contains_itself (checks cs)) h.posed.posed are;
     }
 
-pub formed_all : (ss : List State) (ps : List Problem) → All IsFormed ss → ArePosed ss ps → All IsWellFormed ps
+pub formed_all : (ss : List State) (ps : List Problem) → All IsFormedCheck ss → ArePosed ss ps → All IsWellFormed ps
 formed_all [] [] f h = λ i d k. absurd (omega (arith, k))
 formed_all [] (p ∷ ps) f h = absurd h
 formed_all (s ∷ ss) [] f h = absurd h
-formed_all (s ∷ ss) (p ∷ ps) f h = All-cons IsWellFormed p ps (well_formed s p (head IsFormed s ss f) h.0) (formed_all ss ps (tail IsFormed s ss f) h.1)
+formed_all (s ∷ ss) (p ∷ ps) f h = All-cons IsWellFormed p ps (well_formed s p (head IsFormedCheck s ss f) h.0) (formed_all ss ps (tail IsFormedCheck s ss f) h.1)
 
 pub formed_of : (bytes : List ℕ) (ps xs : List Problem) → IsScriptOf bytes ps → xs ≡ ps → All IsWellFormed xs
 formed_of bytes ps xs h is =

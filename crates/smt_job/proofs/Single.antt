@@ -9,7 +9,7 @@ use Rattle.problem_file.specs.Reads.{AreSame}
 use Rattle.script_commands.specs.declared.refusal.ScriptRefusal.{ScriptRefusal}
 use Rattle.script_commands.specs.declared.refusal.ScriptRefusal.TheVariants as r
 use Rattle.script_terms.specs.Scripts.{State}
-use Rattle.script_checks.specs.Posed.{IsPosed}
+use Rattle.script_checks.specs.Posed.{IsCheckPosed}
 use Rattle.script_answers.specs.declared.answering.CheckAnswer.{CheckAnswer}
 use Rattle.script_answers.specs.Answers.{AnswersChecks, AreCheckAnswers, large, lines, lines_answer}
 use Rattle.script_answers.proofs.Single.{not_large, one_check}
@@ -18,7 +18,7 @@ use Rattle.smt_reader.proofs.Single.{never_both, one_lists, one_refusal, only_me
 use Rattle.smt_job.specs.Answered.{IsSmtAnswer, answered, refusal_name, refused}
 
 -- two problems of one check are the same
-same_posed : (s : State) (p q : Problem) → IsPosed s p → IsPosed s q → AreSame p q
+same_posed : (s : State) (p q : Problem) → IsCheckPosed s p → IsCheckPosed s q → AreSame p q
 same_posed s p q h k = record {
   existentials = h.existentials ∙ sym k.existentials;
   existential_types = h.existential_types ∙ sym k.existential_types;

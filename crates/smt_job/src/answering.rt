@@ -1,6 +1,7 @@
 // The answer to the bytes of a script.
 
 ghost use Rattle.answers.specs.Answer.{answer_of};
+ghost use Rattle.limits.specs.Limits.{most_budget};
 ghost use Rattle.smt_job.specs.Answered.{IsSmtAnswer};
 ghost use Rattle.std.specs.Prelude.{◌≤◌, IfOk};
 
@@ -14,7 +15,7 @@ use std::alloc::Global;
 /// The answer to a script of these bytes: why it is refused, or a line for each `check-sat` in order, by the canonical run on its
 /// problem, each with this budget: `unsat`, `sat` or `unknown`. The one error is want of memory.
 pub fn answer(alloc: Global, bytes: &[u8], budget: u64) -> Result<Output, Memory>
-    requires { budget ≤ 1000000000 }
+    requires { budget ≤ most_budget }
     ensures { IfOk result (λ output. IsSmtAnswer budget bytes.now (answer_of output)) }
 {
     match script(alloc, bytes) {

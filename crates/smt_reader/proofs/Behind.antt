@@ -17,7 +17,7 @@ use Rattle.script_names.specs.Saying.{calls_of, shape_said}
 use Rattle.script_checks.specs.Formed.{symbol, symbols}
 use Rattle.smt_reader.specs.declared.following.Assertion.{Assertion}
 use Rattle.smt_reader.specs.declared.following.Reading.{Reading}
-use Rattle.smt_reader.specs.Following.{AreClaims, Follows}
+use Rattle.smt_reader.specs.Following.{AreClaims, FollowsState}
 use Rattle.typed_formula.specs.Formula.{Formula, formulas}
 use Rattle.script_terms.specs.Translation.{asserted, formula_in}
 use Rattle.script_sizes.specs.declared.size.Size.{Size}
@@ -35,11 +35,11 @@ length_symbols : (fs : List scripts.Declared) → length (symbols fs) ≡ length
 length_symbols [] = refl
 length_symbols (f ∷ fs) = ap suc (length_symbols fs)
 
-module _ (r : Reading) (s : State) (x : List ℕ) (k : Known) (f : Follows r s) (new : is_among x r.known.symbols.texts ≡ false)
+module _ (r : Reading) (s : State) (x : List ℕ) (k : Known) (f : FollowsState r s) (new : is_among x r.known.symbols.texts ≡ false)
     (earlier : take (length r.known.definitions) k.definitions ≡ r.known.definitions) where
   pub constant_on : (cs : List (List ℕ)) (n : ℕ) → k.definitions ≡ r.known.definitions → ((gs : Globals) → Knows r.known gs → is_among x r.known.symbols.texts ≡ false → Knows k ((x, constant_of n) ∷ gs))
       → n ≡ length r.constants → cs ≡ r.constants ++ x ∷ []
-      → Follows (record { known = k; constants = cs; functions = r.functions; predicates = r.predicates; claims = r.claims; forms = r.forms; size = r.size }) (after_declaration s x 0 sort.Int)
+      → FollowsState (record { known = k; constants = cs; functions = r.functions; predicates = r.predicates; claims = r.claims; forms = r.forms; size = r.size }) (after_declaration s x 0 sort.Int)
   constant_on cs n kept knows is more = record {
     knows = subst (λ z. Knows k ((x, constant_of z) ∷ s.globals)) (is ∙ ap length f.constants) (knows s.globals f.knows new);
     constants = more ∙ ap (λ z. z ++ x ∷ []) f.constants;
@@ -52,7 +52,7 @@ module _ (r : Reading) (s : State) (x : List ℕ) (k : Known) (f : Follows r s) 
 
   pub function_on : (fs : List Symbol) (n m : ℕ) (y : Symbol) → k.definitions ≡ r.known.definitions → ((gs : Globals) → Knows r.known gs → is_among x r.known.symbols.texts ≡ false → Knows k ((x, function_of n) ∷ gs))
       → n ≡ length r.functions → fs ≡ r.functions ++ y ∷ [] → y ≡ record { name = x; arity = m } → m ≢ 0
-      → Follows (record { known = k; constants = r.constants; functions = fs; predicates = r.predicates; claims = r.claims; forms = r.forms; size = r.size }) (after_declaration s x m sort.Int)
+      → FollowsState (record { known = k; constants = r.constants; functions = fs; predicates = r.predicates; claims = r.claims; forms = r.forms; size = r.size }) (after_declaration s x m sort.Int)
   function_on fs n zero y kept knows is more same some = absurd (some refl)
   function_on fs n (suc m) y kept knows is more same some = record {
     knows = subst (λ z. Knows k ((x, function_of z) ∷ s.globals)) (is ∙ ap length f.functions ∙ length_symbols s.functions) (knows s.globals f.knows new);
@@ -67,7 +67,7 @@ module _ (r : Reading) (s : State) (x : List ℕ) (k : Known) (f : Follows r s) 
 
   pub predicate_on : (fs : List Symbol) (n m : ℕ) (y : Symbol) → k.definitions ≡ r.known.definitions → ((gs : Globals) → Knows r.known gs → is_among x r.known.symbols.texts ≡ false → Knows k ((x, predicate_of n) ∷ gs))
       → n ≡ length r.predicates → fs ≡ r.predicates ++ y ∷ [] → y ≡ record { name = x; arity = m }
-      → Follows (record { known = k; constants = r.constants; functions = r.functions; predicates = fs; claims = r.claims; forms = r.forms; size = r.size }) (after_declaration s x m sort.Bool)
+      → FollowsState (record { known = k; constants = r.constants; functions = r.functions; predicates = fs; claims = r.claims; forms = r.forms; size = r.size }) (after_declaration s x m sort.Bool)
   predicate_on fs n m y kept knows is more same = record {
     knows = subst (λ z. Knows k ((x, predicate_of z) ∷ s.globals)) (is ∙ ap length f.predicates ∙ length_symbols s.predicates) (knows s.globals f.knows new);
     constants = f.constants;
@@ -81,7 +81,7 @@ module _ (r : Reading) (s : State) (x : List ℕ) (k : Known) (f : Follows r s) 
 
   pub define_on : (xs ys : List (List ℕ)) (t : Phrase) (fs : Forms) → length k.definitions ≡ length r.known.definitions + 1
       → (Describes r.forms (take (length k.definitions - 1) k.definitions) → Describes fs k.definitions) → ((gs : Globals) → Knows r.known gs → is_among x r.known.symbols.texts ≡ false → Knows k ((x, defined_by xs t) ∷ gs)) → xs ≡ ys
-      → Follows (record { known = k; constants = r.constants; functions = r.functions; predicates = r.predicates; claims = r.claims; forms = fs; size = r.size })
+      → FollowsState (record { known = k; constants = r.constants; functions = r.functions; predicates = r.predicates; claims = r.claims; forms = fs; size = r.size })
       (record s { globals = (x, defined_by ys t) ∷ s.globals })
   define_on xs ys t fs one described knows same = record {
     knows = subst (λ z. Knows k ((x, defined_by z t) ∷ s.globals)) same (knows s.globals f.knows new);
@@ -103,8 +103,8 @@ all_of (x ∷ xs) = ap (λ z. x ∷ z) (all_of xs)
 pub claim_on : (r : Reading) (s : State) (t : Phrase) (b : Body) (n : ℕ) (as_ : List Assertion) (one both : Size)
     → ((gs : Globals) → Knows r.known gs → shape_said (calls_of r.known.definitions) [] (shape b) ≡ said (symbol_said gs) [] t)
     → (Describes r.forms r.known.definitions → (m : ℕ) → one ≡ size (formula_in (shape_said (calls_of r.known.definitions) [] (shape b) m))) → both ≡ beside r.size one
-    → n ≡ length r.known.definitions → as_ ≡ r.claims ++ (record { body = b; definitions = n }) ∷ [] → Follows r s
-    → Follows (record { known = r.known; constants = r.constants; functions = r.functions; predicates = r.predicates; claims = as_; forms = r.forms; size = both })
+    → n ≡ length r.known.definitions → as_ ≡ r.claims ++ (record { body = b; definitions = n }) ∷ [] → FollowsState r s
+    → FollowsState (record { known = r.known; constants = r.constants; functions = r.functions; predicates = r.predicates; claims = as_; forms = r.forms; size = both })
     (record s { claims = s.claims ++ (record { globals = s.globals; term = t }) ∷ [] })
 claim_on r s t b n as_ one both says sized together is more f = record {
   knows = f.knows;

@@ -8,11 +8,11 @@ use Rattle.script_lists.specs.declared.refusal.ReadRefusal.{ReadRefusal}
 use Rattle.script_lists.specs.declared.refusal.ReadRefusal.TheVariants as e
 use Rattle.script_lists.specs.Grammar.{IsScript, IsScriptText}
 use Rattle.script_lists.proofs.Complete.{one_script}
-use Rattle.script_lists.specs.First.{BeginsScript, DeepAt, IsFirst, SyntaxAt, place}
+use Rattle.script_lists.specs.First.{BeginsScript, ListsDeepAt, IsFirst, ListsSyntaxAt, place}
 use Rattle.script_commands.specs.declared.refusal.ScriptRefusal.{ScriptRefusal}
 use Rattle.script_commands.specs.declared.refusal.ScriptRefusal.TheVariants as r
 use Rattle.script_commands.specs.Faults.{refusal_of}
-use Rattle.script_commands.specs.Least.{IsRefused}
+use Rattle.script_commands.specs.Least.{IsScriptRefused}
 use Rattle.script_reading.specs.Scripts.{RefusesCommands, RefusesScript, RefusesTokens, as_script}
 use Rattle.pri_typing.specs.declared.problem.Problem.{Problem}
 use Rattle.script_checks.specs.Commands.{script_terms}
@@ -62,14 +62,14 @@ append_none [] = refl
 append_none (x ∷ xs) = ap (λ z. x ∷ z) (append_none xs)
 
 -- a script has no refusal of its tokens
-no_syntax : (b : List ℕ) (es : List Sexp) (tokens : List Lexeme) (end at : ℕ) → IsScript b 200 es tokens → SyntaxAt b end tokens at → ⊥
+no_syntax : (b : List ℕ) (es : List Sexp) (tokens : List Lexeme) (end at : ℕ) → IsScript b 200 es tokens → ListsSyntaxAt b end tokens at → ⊥
 no_syntax b es tokens end at h s = by s.back refl
   where
     by : (k : List Lexeme) → s.back ≡ k → ⊥
     by [] is = s.short is 200 es (subst (λ z. IsScript b 200 es z) (s.parts ∙ ap (λ z. s.front ++ z) is ∙ append_none s.front) h)
     by (x ∷ m) is = s.none x m is 200 (begins_script b 200 es tokens s.front m x h (s.parts ∙ ap (λ z. s.front ++ z) is))
 
-no_deep : (b : List ℕ) (es : List Sexp) (tokens : List Lexeme) (at : ℕ) → IsScript b 200 es tokens → DeepAt b tokens at → ⊥
+no_deep : (b : List ℕ) (es : List Sexp) (tokens : List Lexeme) (at : ℕ) → IsScript b 200 es tokens → ListsDeepAt b tokens at → ⊥
 no_deep b es tokens at h d = d.none (begins_script b 200 es tokens d.front d.back d.x h d.parts)
 
 not_first : (b : List ℕ) (es : List Sexp) (tokens : List Lexeme) (end : ℕ) (a : ReadRefusal) → IsScript b 200 es tokens → IsFirst b end tokens a → a ≡ e.Memory
@@ -78,7 +78,7 @@ not_first b es tokens end (e.Deep at) h f = absurd (no_deep b es tokens at h f)
 not_first b es tokens end e.Memory h f = refl
 
 -- two refusals of tokens are one
-two_syntax : (b : List ℕ) (tokens : List Lexeme) (end at to : ℕ) → SyntaxAt b end tokens at → SyntaxAt b end tokens to → at ≡ to
+two_syntax : (b : List ℕ) (tokens : List Lexeme) (end at to : ℕ) → ListsSyntaxAt b end tokens at → ListsSyntaxAt b end tokens to → at ≡ to
 two_syntax b tokens end at to s t = by (parted s.front s.back t.front t.back (sym s.parts ∙ t.parts))
   where
     by : IsParted s.front s.back t.front t.back → at ≡ to
@@ -86,7 +86,7 @@ two_syntax b tokens end at to s t = by (parted s.front s.back t.front t.back (sy
     by (further x m p q) = absurd (s.none x (m ++ t.back) q 200 (begins_less b 200 s.front t.front m x p t.begins))
     by (back x m p q) = absurd (t.none x (m ++ s.back) q 200 (begins_less b 200 t.front s.front m x p s.begins))
 
-two_deep : (b : List ℕ) (tokens : List Lexeme) (at to : ℕ) → DeepAt b tokens at → DeepAt b tokens to → at ≡ to
+two_deep : (b : List ℕ) (tokens : List Lexeme) (at to : ℕ) → ListsDeepAt b tokens at → ListsDeepAt b tokens to → at ≡ to
 two_deep b tokens at to s t = by (parted s.front (s.x ∷ s.back) t.front (t.x ∷ t.back) (sym s.parts ∙ t.parts))
   where
     by : IsParted s.front (s.x ∷ s.back) t.front (t.x ∷ t.back) → at ≡ to
@@ -96,7 +96,7 @@ two_deep b tokens at to s t = by (parted s.front (s.x ∷ s.back) t.front (t.x �
     by (back x m p q) =
         absurd (t.none (subst (λ z. BeginsScript b 200 (t.front ++ z ∷ [])) (sym (head_is t.x x t.back (m ++ s.x ∷ s.back) q)) (begins_less b 200 t.front s.front m x p s.begins)))
 
-not_both : (b : List ℕ) (tokens : List Lexeme) (end at to : ℕ) → SyntaxAt b end tokens at → DeepAt b tokens to → ⊥
+not_both : (b : List ℕ) (tokens : List Lexeme) (end at to : ℕ) → ListsSyntaxAt b end tokens at → ListsDeepAt b tokens to → ⊥
 not_both b tokens end at to s t = by (parted s.front s.back t.front (t.x ∷ t.back) (sym s.parts ∙ t.parts))
   where
     by : IsParted s.front s.back t.front (t.x ∷ t.back) → ⊥
@@ -119,7 +119,7 @@ two_first b tokens end (e.Deep at) e.Memory f g m n = absurd (n refl)
 pub one_lists : (bytes : List ℕ) (es fs : List Sexp) → IsScriptText bytes es → IsScriptText bytes fs → es ≡ fs
 one_lists bytes es fs h k = one_script bytes 200 200 es fs (lexemes_of bytes) h k
 
-told : (a : ScriptRefusal) (o : Option ScriptRefusal) → a ≢ r.Memory → IsRefused a o → o ≡ Some a
+told : (a : ScriptRefusal) (o : Option ScriptRefusal) → a ≢ r.Memory → IsScriptRefused a o → o ≡ Some a
 told (r.Syntax at) o m h = h
 told (r.Literal at) o m h = h
 told (r.Deep at) o m h = h
@@ -152,7 +152,7 @@ one_refusal bytes a c (inr s) (inr t) m n =
     let same : s.lists ≡ t.lists = one_script bytes 200 200 s.lists t.lists (lexemes_of bytes) s.said t.said in
     some_same a c (sym (told a (refusal_of script_terms (map expr s.lists)) m s.is) ∙ ap (λ z. refusal_of script_terms (map expr z)) same ∙ told c (refusal_of script_terms (map expr t.lists)) n t.is)
 
-not_told : (a : ScriptRefusal) → IsRefused a None → a ≡ r.Memory
+not_told : (a : ScriptRefusal) → IsScriptRefused a None → a ≡ r.Memory
 not_told (r.Syntax at) h = absurd (cc)
 not_told (r.Literal at) h = absurd (cc)
 not_told (r.Deep at) h = absurd (cc)
@@ -171,7 +171,7 @@ pub only_memory : (bytes : List ℕ) (es : List Sexp) (a : ScriptRefusal) → Is
 only_memory bytes es a said fits (inl t) = no_tokens bytes es a said t
 only_memory bytes es a said fits (inr c) =
     let same : c.lists ≡ es = one_lists bytes c.lists es c.said said in
-    not_told a (subst (IsRefused a) (ap (λ z. refusal_of script_terms (map expr z)) same ∙ fits) c.is)
+    not_told a (subst (IsScriptRefused a) (ap (λ z. refusal_of script_terms (map expr z)) same ∙ fits) c.is)
 
 pub never_both : (bytes : List ℕ) (ps : List Problem) → IsScriptOf bytes ps → ¬ (IsLargeScript bytes)
 never_both bytes ps h l = h.posed.small (subst (λ z. AreLarge (checks_in z)) (one_lists bytes l.lists h.lists l.said h.said) l.large.large)

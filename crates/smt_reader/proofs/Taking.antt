@@ -2,9 +2,9 @@
 use Rattle.std.proofs.Common.{ℕ, ◌≡◌, ◌≢◌, List, [], ◌∷◌, ◌++◌, length, map, refl, sym, ap, ap₂, subst, ◌∙◌, append_assoc, Some, None}
 use Rattle.pri_typing.specs.declared.problem.Problem.{Problem}
 use Rattle.script_terms.specs.Scripts.{Command, State, after, declare, define, claim, check, checks, checks_from}
-use Rattle.script_checks.specs.Posed.{IsPosed}
+use Rattle.script_checks.specs.Posed.{IsCheckPosed}
 use Rattle.smt_reader.specs.declared.following.Reading.{Reading}
-use Rattle.smt_reader.specs.Following.{AreNew, Follows, IsNew, texts_behind}
+use Rattle.smt_reader.specs.Following.{AreNew, FollowsState, IsNew, texts_behind}
 use Rattle.smt_reader.specs.Poses.{ArePosed}
 use Rattle.std.proofs.lemmas.List.{map-append}
 use Rattle.typed_formula.specs.Formula.{formulas}
@@ -17,10 +17,10 @@ use Rattle.script_sizes.specs.Sizes.{all_sizes, size}
 use Rattle.script_sizes.proofs.Limits.{together_law}
 use Rattle.smt_reader.specs.declared.scripts.Gathered.{Gathered}
 use Rattle.smt_reader.specs.Poses.{AreLarge, refutations}
-use Rattle.smt_reader.specs.Taking.{ArePosedOrLarge, AreTaken, IsTaken, at_check, size_together}
+use Rattle.smt_reader.specs.Taking.{ArePosedOrLarge, AreTaken, IsGathered, at_check, size_together}
 use Rattle.smt_reader.proofs.Sizes.{large_stays, sizes_more}
 
-pub posed_more : (ss : List State) (ps : List Problem) (s : State) (p : Problem) → ArePosed ss ps → IsPosed s p → ArePosed (ss ++ s ∷ []) (ps ++ p ∷ [])
+pub posed_more : (ss : List State) (ps : List Problem) (s : State) (p : Problem) → ArePosed ss ps → IsCheckPosed s p → ArePosed (ss ++ s ∷ []) (ps ++ p ∷ [])
 posed_more [] [] s p h k = (k, tt)
 posed_more [] (q ∷ ps) s p h k = absurd h
 posed_more (t ∷ ss) [] s p h k = absurd h
@@ -33,12 +33,12 @@ one_on s (claim t) cs = refl
 one_on s check cs = refl
 
 pub taken_on : (r new : Reading) (c more : Gathered) (k : Command) (cs all : List Command) → AreTaken r c (k ∷ cs) all
-    → ((s : State) (done : List State) → Follows r s → ArePosed done c.problems → c.size ≡ size_together done → c.size ≢ Large → IsTaken (done ++ at_check s k) (Some more))
-    → ((s : State) → Follows r s → IsNew r.known.symbols.texts k → Follows new (after s k))
+    → ((s : State) (done : List State) → FollowsState r s → ArePosed done c.problems → c.size ≡ size_together done → c.size ≢ Large → IsGathered (done ++ at_check s k) (Some more))
+    → ((s : State) → FollowsState r s → IsNew r.known.symbols.texts k → FollowsState new (after s k))
     → (IsNew r.known.symbols.texts k → new.known.symbols.texts ≡ texts_behind r.known.symbols.texts k)
     → AreTaken new more cs all
 taken_on r new c more k cs all h taken follows texts =
-    let now : IsTaken (h.done ++ at_check h.state k) (Some more) = taken h.state h.done h.follows h.posed h.size h.small in
+    let now : IsGathered (h.done ++ at_check h.state k) (Some more) = taken h.state h.done h.follows h.posed h.size h.small in
     record {
       state = after h.state k;
       done = h.done ++ at_check h.state k;
@@ -66,7 +66,7 @@ taken_all r c all h =
 
 -- too large at some check, too large in the end
 pub taken_large : (r : Reading) (c : Gathered) (k : Command) (cs all : List Command) → AreTaken r c (k ∷ cs) all
-    → ((s : State) (done : List State) → Follows r s → ArePosed done c.problems → c.size ≡ size_together done → c.size ≢ Large → IsTaken (done ++ at_check s k) None)
+    → ((s : State) (done : List State) → FollowsState r s → ArePosed done c.problems → c.size ≡ size_together done → c.size ≢ Large → IsGathered (done ++ at_check s k) None)
     → ArePosedOrLarge (checks all) None
 taken_large r c k cs all h taken =
     let now : size_together (h.done ++ at_check h.state k) ≡ Large = taken h.state h.done h.follows h.posed h.size h.small in

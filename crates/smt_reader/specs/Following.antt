@@ -28,7 +28,7 @@ AreClaims ds (a ∷ as_) [] = ⊥
 AreClaims ds (a ∷ as_) (c ∷ cs) = IsClaim ds a c × AreClaims ds as_ cs
 
 -- what is held is what the commands came to
-pub record Follows (r : Reading) (s : State) : Type 0 where
+pub record FollowsState (r : Reading) (s : State) : Type 0 where
   pub knows : Knows r.known s.globals
   pub constants : r.constants ≡ s.constants
   pub functions : r.functions ≡ symbols s.functions

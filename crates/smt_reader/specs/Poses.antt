@@ -8,19 +8,19 @@ use Rattle.script_lists.specs.Grammar.{IsScriptText}
 use Rattle.script_commands.specs.declared.refusal.ScriptRefusal.{ScriptRefusal}
 use Rattle.script_commands.specs.declared.refusal.ScriptRefusal.TheVariants as r
 use Rattle.script_commands.specs.Faults.{refusal_of}
-use Rattle.script_commands.specs.Least.{IsRefused}
+use Rattle.script_commands.specs.Least.{IsScriptRefused}
 use Rattle.script_reading.specs.Scripts.{RefusesScript}
-use Rattle.script_sizes.specs.Extent.{IsLarge, all_extent}
+use Rattle.script_sizes.specs.Extent.{IsTooLarge, all_extent}
 use Rattle.script_terms.specs.Scripts.{State, checks, refutation}
 use Rattle.script_checks.specs.Commands.{commands_of, script_terms}
-use Rattle.script_checks.specs.Posed.{IsPosed}
+use Rattle.script_checks.specs.Posed.{IsCheckPosed}
 
 -- one problem for each check, in order
 abbrev pub ArePosed : List State → List Problem → Type 0
 ArePosed [] [] = Unit {0}
 ArePosed [] (p ∷ ps) = ⊥
 ArePosed (s ∷ ss) [] = ⊥
-ArePosed (s ∷ ss) (p ∷ ps) = IsPosed s p × ArePosed ss ps
+ArePosed (s ∷ ss) (p ∷ ps) = IsCheckPosed s p × ArePosed ss ps
 
 -- the formulas of the checks
 abbrev pub refutations : List State → Formulas
@@ -28,7 +28,7 @@ refutations ss = formulas (map refutation ss)
 
 -- all of them together have more than 1,000,000 nodes, or one has more than 2,000 levels
 abbrev pub AreLarge : List State → Type 0
-AreLarge ss = IsLarge (all_extent (refutations ss))
+AreLarge ss = IsTooLarge (all_extent (refutations ss))
 
 -- the checks of a script of these lists
 abbrev pub checks_in : List Sexp → List State
@@ -47,7 +47,7 @@ pub record AreTooLarge (lists : List Sexp) : Type 0 where
 
 -- the lists are refused so: for the first fault of their commands, or for their size
 abbrev pub IsRefusedBy : List Sexp → ScriptRefusal → Type 0
-IsRefusedBy lists e = IsRefused e (refusal_of script_terms (map expr lists)) ⊎ ((e ≡ r.Large) × AreTooLarge lists)
+IsRefusedBy lists e = IsScriptRefused e (refusal_of script_terms (map expr lists)) ⊎ ((e ≡ r.Large) × AreTooLarge lists)
 
 -- the text is a script whose checks have these problems
 pub record IsScriptOf (bytes : List ℕ) (problems : List Problem) : Type 0 where

@@ -8,7 +8,7 @@ use Rattle.script_sizes.specs.declared.size.Size.TheVariants.{Large}
 use Rattle.script_sizes.specs.Sizes.{all_sizes}
 use Rattle.smt_reader.specs.declared.following.Reading.{Reading}
 use Rattle.smt_reader.specs.declared.scripts.Gathered.{Gathered}
-use Rattle.smt_reader.specs.Following.{AreNew, Follows}
+use Rattle.smt_reader.specs.Following.{AreNew, FollowsState}
 use Rattle.smt_reader.specs.Poses.{AreLarge, ArePosed, refutations}
 
 -- the check that a command is
@@ -23,9 +23,9 @@ abbrev pub size_together : List State → Size
 size_together ss = all_sizes (refutations ss)
 
 -- the problems are those of the checks, or there are none since they are too large together
-abbrev pub IsTaken : List State → Option Gathered → Type 0
-IsTaken ss None = size_together ss ≡ Large
-IsTaken ss (Some c) = ArePosed ss c.problems × (c.size ≡ size_together ss) × (c.size ≢ Large)
+abbrev pub IsGathered : List State → Option Gathered → Type 0
+IsGathered ss None = size_together ss ≡ Large
+IsGathered ss (Some c) = ArePosed ss c.problems × (c.size ≡ size_together ss) × (c.size ≢ Large)
 
 -- the same at the end
 abbrev pub ArePosedOrLarge : List State → Option (List Problem) → Type 0
@@ -36,7 +36,7 @@ ArePosedOrLarge ss (Some ps) = ArePosed ss ps × (¬ (AreLarge ss))
 pub record AreTaken (r : Reading) (c : Gathered) (left all : List Command) : Type 0 where
   pub state : State
   pub done : List State
-  pub follows : Follows r state
+  pub follows : FollowsState r state
   pub posed : ArePosed done c.problems
   pub size : c.size ≡ size_together done
   pub small : c.size ≢ Large

@@ -8,7 +8,7 @@ ghost use Rattle.script_terms.specs.Scripts as scripts;
 ghost use Rattle.script_terms.specs.Scripts.{State, after, after_declaration};
 ghost use Rattle.script_terms.specs.Term.{phrase};
 ghost use Rattle.script_checks.specs.Effects.{command_is};
-ghost use Rattle.smt_reader.specs.Following.{Follows, IsNew, texts_behind};
+ghost use Rattle.smt_reader.specs.Following.{FollowsState, IsNew, texts_behind};
 
 use linear_term::Memory;
 use pri_typing::Symbol;
@@ -44,7 +44,7 @@ pub struct Reading {
 
 /// Before all commands.
 pub(crate) fn start(alloc: Global) -> Reading
-    ensures follows { Follows result scripts.start }
+    ensures follows { FollowsState result scripts.start }
     ensures texts { result.known.symbols.texts ≡ [] }
 {
     Reading {
@@ -83,7 +83,7 @@ fn symbol(alloc: Global, text: &[u8], arity: u64) -> Result<Symbol, Memory>
 
 // An Int constant more.
 fn declare_constant(alloc: Global, reading: Reading, text: &[u8]) -> Result<Reading, Memory>
-    ensures follows { IfOk result (λ r. (s : State) → Follows reading s → is_among text.now reading.known.symbols.texts ≡ false → Follows r (after_declaration s text.now 0 sort.Int)) }
+    ensures follows { IfOk result (λ r. (s : State) → FollowsState reading s → is_among text.now reading.known.symbols.texts ≡ false → FollowsState r (after_declaration s text.now 0 sort.Int)) }
     ensures texts { IfOk result (λ r. is_among text.now reading.known.symbols.texts ≡ false → r.known.symbols.texts ≡ reading.known.symbols.texts ++ text.now ∷ []) }
 {
     let Reading {
@@ -117,7 +117,7 @@ fn declare_function(
     arity: u64,
 ) -> Result<Reading, Memory>
     requires { arity ≢ 0 }
-    ensures follows { IfOk result (λ r. (s : State) → Follows reading s → is_among text.now reading.known.symbols.texts ≡ false → Follows r (after_declaration s text.now arity sort.Int)) }
+    ensures follows { IfOk result (λ r. (s : State) → FollowsState reading s → is_among text.now reading.known.symbols.texts ≡ false → FollowsState r (after_declaration s text.now arity sort.Int)) }
     ensures texts { IfOk result (λ r. is_among text.now reading.known.symbols.texts ≡ false → r.known.symbols.texts ≡ reading.known.symbols.texts ++ text.now ∷ []) }
 {
     let Reading {
@@ -150,7 +150,7 @@ fn declare_predicate(
     text: &[u8],
     arity: u64,
 ) -> Result<Reading, Memory>
-    ensures follows { IfOk result (λ r. (s : State) → Follows reading s → is_among text.now reading.known.symbols.texts ≡ false → Follows r (after_declaration s text.now arity sort.Bool)) }
+    ensures follows { IfOk result (λ r. (s : State) → FollowsState reading s → is_among text.now reading.known.symbols.texts ≡ false → FollowsState r (after_declaration s text.now arity sort.Bool)) }
     ensures texts { IfOk result (λ r. is_among text.now reading.known.symbols.texts ≡ false → r.known.symbols.texts ≡ reading.known.symbols.texts ++ text.now ∷ []) }
 {
     let Reading {
@@ -184,7 +184,7 @@ fn declare(
     arity: u64,
     sort: Sort,
 ) -> Result<Reading, Memory>
-    ensures follows { IfOk result (λ r. (s : State) → Follows reading s → is_among text.now reading.known.symbols.texts ≡ false → Follows r (after_declaration s text.now arity sort)) }
+    ensures follows { IfOk result (λ r. (s : State) → FollowsState reading s → is_among text.now reading.known.symbols.texts ≡ false → FollowsState r (after_declaration s text.now arity sort)) }
     ensures texts { IfOk result (λ r. is_among text.now reading.known.symbols.texts ≡ false → r.known.symbols.texts ≡ reading.known.symbols.texts ++ text.now ∷ []) }
 {
     match sort {
@@ -218,8 +218,8 @@ fn define(
     arguments: &[Variable],
     term: &Term,
 ) -> Result<Reading, Memory>
-    ensures follows { IfOk result (λ r. (s : State) → Follows reading s → is_among text.now reading.known.symbols.texts ≡ false
-        → Follows r (record s { globals = (text.now, evaluation.defined_by (evaluation.texts_of arguments.now) (phrase term.now)) ∷ s.globals })) }
+    ensures follows { IfOk result (λ r. (s : State) → FollowsState reading s → is_among text.now reading.known.symbols.texts ≡ false
+        → FollowsState r (record s { globals = (text.now, evaluation.defined_by (evaluation.texts_of arguments.now) (phrase term.now)) ∷ s.globals })) }
     ensures texts { IfOk result (λ r. is_among text.now reading.known.symbols.texts ≡ false → r.known.symbols.texts ≡ reading.known.symbols.texts ++ text.now ∷ []) }
 {
     let Reading {
@@ -248,7 +248,7 @@ fn define(
 
 // An assertion more.
 fn claim(alloc: Global, reading: Reading, term: &Term) -> Result<Reading, Memory>
-    ensures follows { IfOk result (λ r. (s : State) → Follows reading s → Follows r (record s { claims = s.claims ++ (record { globals = s.globals; term = phrase term.now }) ∷ [] })) }
+    ensures follows { IfOk result (λ r. (s : State) → FollowsState reading s → FollowsState r (record s { claims = s.claims ++ (record { globals = s.globals; term = phrase term.now }) ∷ [] })) }
     ensures texts { IfOk result (λ r. r.known.symbols.texts ≡ reading.known.symbols.texts) }
 {
     let Reading {
@@ -278,7 +278,7 @@ fn claim(alloc: Global, reading: Reading, term: &Term) -> Result<Reading, Memory
 
 /// What comes of a command more.
 pub(crate) fn follow(alloc: Global, reading: Reading, effect: &Effect) -> Result<Reading, Memory>
-    ensures follows { IfOk result (λ r. (s : State) → Follows reading s → IsNew reading.known.symbols.texts (command_is effect.now) → Follows r (after s (command_is effect.now))) }
+    ensures follows { IfOk result (λ r. (s : State) → FollowsState reading s → IsNew reading.known.symbols.texts (command_is effect.now) → FollowsState r (after s (command_is effect.now))) }
     ensures texts { IfOk result (λ r. IsNew reading.known.symbols.texts (command_is effect.now) → r.known.symbols.texts ≡ texts_behind reading.known.symbols.texts (command_is effect.now)) }
 {
     match effect {

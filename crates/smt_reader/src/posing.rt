@@ -6,8 +6,8 @@ ghost use Rattle.pri_typing.specs.Files.{all_int};
 ghost use Rattle.script_terms.specs.Scripts as scripts;
 ghost use Rattle.script_terms.specs.Scripts.{State};
 ghost use Rattle.script_terms.specs.Translation.{asserted};
-ghost use Rattle.script_checks.specs.Posed.{IsPosed};
-ghost use Rattle.smt_reader.specs.Following.{AreClaims, Follows};
+ghost use Rattle.script_checks.specs.Posed.{IsCheckPosed};
+ghost use Rattle.smt_reader.specs.Following.{AreClaims, FollowsState};
 
 use crate::following::{Assertion, Reading};
 use linear_term::Memory;
@@ -91,7 +91,7 @@ fn types(alloc: Global, names: &[Items<u8>]) -> Result<Items<Sort>, Memory>
 
 /// The problem of a check behind the commands so far.
 pub(crate) fn pose(alloc: Global, reading: &Reading) -> Result<Problem, Memory>
-    ensures { IfOk result (λ p. (s : State) → Follows reading.now s → IsPosed s p) }
+    ensures { IfOk result (λ p. (s : State) → FollowsState reading.now s → IsCheckPosed s p) }
 {
     let constants = reading.constants.as_slice();
     if constants.len() > u32::MAX as usize {

@@ -5,11 +5,11 @@ ghost use Rattle.sexpr.specs.Expressions.{expr};
 ghost use Rattle.script_reading.specs.Scripts.{as_script};
 ghost use Rattle.script_terms.specs.Scripts.{State, checks};
 ghost use Rattle.script_checks.specs.Effects.{command_is};
-ghost use Rattle.smt_reader.specs.Following.{AreNew, Follows};
+ghost use Rattle.smt_reader.specs.Following.{AreNew, FollowsState};
 ghost use Rattle.smt_reader.specs.Poses.{ArePosed, IsPosedBy, IsRefusedBy, IsScriptOf, IsScriptRefusal, checks_in};
 ghost use Rattle.script_checks.specs.Commands.{script_terms};
 ghost use Rattle.script_commands.specs.Faults.{refusal_of};
-ghost use Rattle.smt_reader.specs.Taking.{ArePosedOrLarge, IsTaken, at_check, size_together};
+ghost use Rattle.smt_reader.specs.Taking.{ArePosedOrLarge, IsGathered, at_check, size_together};
 
 use crate::following::{Reading, follow, start};
 use crate::posing::{Script, pose};
@@ -38,8 +38,8 @@ fn with_check(
     reading: &Reading,
     checks: Gathered,
 ) -> Result<Option<Gathered>, Memory>
-    ensures { IfOk result (λ r. (s : State) (done : List State) → Follows reading.now s → ArePosed done checks.problems → checks.size ≡ size_together done
-        → IsTaken (done ++ s ∷ []) r) }
+    ensures { IfOk result (λ r. (s : State) (done : List State) → FollowsState reading.now s → ArePosed done checks.problems → checks.size ≡ size_together done
+        → IsGathered (done ++ s ∷ []) r) }
 {
     let Gathered { mut problems, size } = checks;
     let size = beside(size, above(above(reading.size)));
@@ -57,8 +57,8 @@ fn behind_effect(
     checks: Gathered,
     effect: &Effect,
 ) -> Result<Option<Gathered>, Memory>
-    ensures { IfOk result (λ r. (s : State) (done : List State) → Follows reading.now s → ArePosed done checks.problems → checks.size ≡ size_together done → checks.size ≢ Size.Large
-        → IsTaken (done ++ at_check s (command_is effect.now)) r) }
+    ensures { IfOk result (λ r. (s : State) (done : List State) → FollowsState reading.now s → ArePosed done checks.problems → checks.size ≡ size_together done → checks.size ≢ Size.Large
+        → IsGathered (done ++ at_check s (command_is effect.now)) r) }
 {
     match effect {
         Effect::Check => with_check(alloc, reading, checks),

@@ -14,7 +14,7 @@ use Rattle.purse.specs.Trace.{just, step, next, each}
 use Rattle.clause_set.specs.declared.literal.Literal.{Literal}
 use Rattle.clause_set.specs.declared.literal.Literal.TheVariants.{Eq, Geq, Div, NDiv}
 use Rattle.clause_set.specs.Literals.{term_of}
-use Rattle.solution_rules.specs.Solutions.{valued, valued_clause, with_value}
+use Rattle.solution_laws.specs.Solutions.{valued, valued_clause, with_value}
 use Rattle.solution_range.proofs.Parts.{both_true, stay_parts}
 use Rattle.solution_range.proofs.Entries.{Misses}
 

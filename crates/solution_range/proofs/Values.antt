@@ -8,11 +8,11 @@ use Rattle.purse.specs.Runs.{raw_stay}
 use Rattle.purse.specs.Trace.{just, step, next}
 use Rattle.clause_set.specs.declared.literal.Literal.{Literal}
 use Rattle.clause_set.specs.Literals.{dnf_truth}
-use Rattle.elim_rules.specs.Whole.{names_out}
-use Rattle.solution_rules.specs.Best.{IsBest, IsNearer}
-use Rattle.solution_rules.specs.Solutions.{IsGiven, answered, chosen, names_from, solving, values_at, with_value}
-use Rattle.solution_rules.proofs.Solving.{solving-best, with_value-spans, with_value-truth}
-use Rattle.solution_rules.proofs.Spans.{Spans, given-spans}
+use Rattle.elim_laws.specs.Whole.{names_out}
+use Rattle.solution_laws.specs.Best.{IsBest, IsNearer}
+use Rattle.solution_laws.specs.Solutions.{IsGiven, answered, chosen, names_from, solving, values_at, with_value}
+use Rattle.solution_laws.proofs.Solving.{solving-best, with_value-spans, with_value-truth}
+use Rattle.solution_laws.proofs.Spans.{Spans, given-spans}
 use Rattle.solution_range.proofs.Parts.{stay_parts}
 use Rattle.solution_range.proofs.Entries.{Misses, entry_at, missed_truth, one_longer, put_at, same_length, take_front}
 use Rattle.solution_range.proofs.Puts.{value_put}

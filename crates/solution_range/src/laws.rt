@@ -3,7 +3,7 @@
 ghost use Rattle.clause_set.specs.declared.literal.Literal.{Literal};
 ghost use Rattle.linear_term.specs.Range.{InRange};
 ghost use Rattle.purse.specs.Runs.{raw_stay};
-ghost use Rattle.solution_rules.specs.Solutions.{IsGiven, solving};
+ghost use Rattle.solution_laws.specs.Solutions.{IsGiven, solving};
 ghost use Rattle.std.specs.List.{AllByRecursion};
 ghost use Rattle.std.specs.Prelude.{◌≡◌, List, Some, true, ℕ, ℤ};
 

@@ -5,12 +5,12 @@ use Rattle.purse.specs.Trace.{Funds, At}
 use Rattle.formula.specs.Form.{is_pure}
 use Rattle.proof_tree.specs.Proof.{Proof}
 use Rattle.search.specs.Run as run
-use Rattle.search.specs.Run.{Ending, ends_with, out_of_steps, overflows}
+use Rattle.purse.specs.Ending.{Ending, IsOutOfRange, IsOutOfSteps, ends_with, out_of_steps, overflows}
 use Rattle.encoding.specs.Problems.{problem_root}
 use Rattle.encoding.proofs.Problems.{pure_is, root_over}
 use Rattle.problem_file.proofs.Bytes.{reads_formed}
 use Rattle.pri_typing.specs.declared.problem.Problem.{Problem}
-use Rattle.answers.specs.Answer.{Answer, line, placed, refused_answer, unknown_answer}
+use Rattle.answers.specs.Answer.{Answer, line, refused_answer, unknown_answer}
 use Rattle.problem_file.specs.Reads.{Refusal}
 use Rattle.problem_file.specs.Refusals.{refusal_name}
 use Rattle.problem_file.proofs.Naming.{comes_of, not_large}
@@ -22,7 +22,7 @@ use Rattle.interpolant_lines.specs.Blocks.{AreBlockLines}
 use Rattle.interpolant_lines.proofs.Listing.{blocks_caused}
 use Rattle.solve_job.specs.Solved.{AnswersEnd, closed, valid, invalid, saturated, branch, steps, overflow, run_end, IsSolved}
 use Rattle.problem_file.specs.Refused.{ComesOf, IsRefused, first, too_large}
-use Rattle.solve_job.specs.Causes.{Ends, EndsSaturated, IsValid, IsInvalid, IsTooLong, IsOutOfSteps, IsOutOfRange, TellsBlocks, Causes, Decides, IsDecidedOrCut}
+use Rattle.solve_job.specs.Causes.{SolveEnds, EndsSaturated, IsValid, IsInvalid, IsTooLong, TellsBlocks, SolveCauses, SolveDecides, IsDecidedOrCut}
 use Rattle.solve_job.specs.Explained.{AnswersSaturated, IsCutByRange, IsCutBySteps, IsWalked, explained, nowhere, past, short}
 use Rattle.solve_job.proofs.Saturated.{cut_by_range, cut_by_steps, no_branch, one_or_two, range_answer, saturated_answer, steps_answer, walked, walked_status}
 use Rattle.solve_job.proofs.Exactly.{by_end, end_answer, found_answer, one_answer, run_answered}
@@ -38,14 +38,14 @@ cause a = slice_index_or a.text 10 0
 -- ---- from an answer to its cause
 
 -- the run ends saturated, with a tree and a purse of which this is so
-abbrev SaturatedSo : (Problem → Proof → Funds → Type 0) → Problem → Ending run.Answer → Type 0
+abbrev SaturatedSo : (Problem → Proof → Funds → Type 0) → Problem → Ending run.RunAnswer → Type 0
 SaturatedSo So p end = (log : List Entry) × (x : Proof) × (stands : At) × (end ≡ ends_with (run.saturated log x) stands) × So p x stands.funds
 
 other_status : {s : ℕ} (n : ℕ) → (s ≡ 1) ⊎ (s ≡ 2) → s ≡ n → (n ≡ 1 → ⊥) → (n ≡ 2 → ⊥) → ⊥
 other_status n (inl h) z one two = one (sym z ∙ h)
 other_status n (inr h) z one two = two (sym z ∙ h)
 
-valid_end : (p : Problem) (end : Ending run.Answer) (a : Answer) → AnswersEnd p end a → a.status ≡ 0 → IsValid end
+valid_end : (p : Problem) (end : Ending run.RunAnswer) (a : Answer) → AnswersEnd p end a → a.status ≡ 0 → IsValid end
 valid_end p end a (closed vs x stands text is none told e) z = (vs, x, stands, is)
 valid_end p end a (valid vs x stands text is some printed e) z = (vs, x, stands, is)
 valid_end p end a (invalid log x stands is e) z = let bad = sym z ∙ ap status_of e in absurd cc
@@ -54,7 +54,7 @@ valid_end p end a (branch stands is e) z = let bad = sym z ∙ ap status_of e in
 valid_end p end a (steps stands is e) z = let bad = sym z ∙ ap status_of e in absurd cc
 valid_end p end a (overflow numbers stands is e) z = let bad = sym z ∙ ap status_of e in absurd cc
 
-invalid_end : (p : Problem) (end : Ending run.Answer) (a : Answer) → AnswersEnd p end a → a.status ≡ 1 → IsInvalid end ⊎ SaturatedSo IsWalked p end
+invalid_end : (p : Problem) (end : Ending run.RunAnswer) (a : Answer) → AnswersEnd p end a → a.status ≡ 1 → IsInvalid end ⊎ SaturatedSo IsWalked p end
 invalid_end p end a (closed vs x stands text is none told e) z = let bad = sym z ∙ ap status_of e in absurd cc
 invalid_end p end a (valid vs x stands text is some printed e) z = let bad = sym z ∙ ap status_of e in absurd cc
 invalid_end p end a (invalid log x stands is e) z = inl (log, x, stands, is)
@@ -63,7 +63,7 @@ invalid_end p end a (branch stands is e) z = let bad = sym z ∙ ap status_of e 
 invalid_end p end a (steps stands is e) z = let bad = sym z ∙ ap status_of e in absurd cc
 invalid_end p end a (overflow numbers stands is e) z = let bad = sym z ∙ ap status_of e in absurd cc
 
-steps_end : (p : Problem) (end : Ending run.Answer) (a : Answer) → AnswersEnd p end a → a ≡ unknown_answer (codes "steps") → IsOutOfSteps end ⊎ SaturatedSo IsCutBySteps p end
+steps_end : (p : Problem) (end : Ending run.RunAnswer) (a : Answer) → AnswersEnd p end a → a ≡ unknown_answer (codes "steps") → IsOutOfSteps end ⊎ SaturatedSo IsCutBySteps p end
 steps_end p end a (closed vs x stands text is none told e) z = let bad = ap status_of (sym z ∙ e) in absurd cc
 steps_end p end a (valid vs x stands text is some printed e) z = let bad = ap status_of (sym z ∙ e) in absurd cc
 steps_end p end a (invalid log x stands is e) z = let bad = ap status_of (sym z ∙ e) in absurd cc
@@ -72,7 +72,7 @@ steps_end p end a (branch stands is e) z = absurd (omega (arith, ap cause (sym z
 steps_end p end a (steps stands is e) z = inl (stands, is)
 steps_end p end a (overflow numbers stands is e) z = absurd (omega (arith, ap cause (sym z ∙ e)))
 
-overflow_end : (p : Problem) (end : Ending run.Answer) (a : Answer) → AnswersEnd p end a → a ≡ unknown_answer (codes "overflow") → IsOutOfRange end ⊎ SaturatedSo IsCutByRange p end
+overflow_end : (p : Problem) (end : Ending run.RunAnswer) (a : Answer) → AnswersEnd p end a → a ≡ unknown_answer (codes "overflow") → IsOutOfRange end ⊎ SaturatedSo IsCutByRange p end
 overflow_end p end a (closed vs x stands text is none told e) z = let bad = ap status_of (sym z ∙ e) in absurd cc
 overflow_end p end a (valid vs x stands text is some printed e) z = let bad = ap status_of (sym z ∙ e) in absurd cc
 overflow_end p end a (invalid log x stands is e) z = let bad = ap status_of (sym z ∙ e) in absurd cc
@@ -81,7 +81,7 @@ overflow_end p end a (branch stands is e) z = absurd (omega (arith, ap cause (sy
 overflow_end p end a (steps stands is e) z = absurd (omega (arith, ap cause (sym z ∙ e)))
 overflow_end p end a (overflow numbers stands is e) z = inl (numbers, stands, is)
 
-branch_end : (p : Problem) (end : Ending run.Answer) (a : Answer) → AnswersEnd p end a → a ≡ unknown_answer (codes "branch") → IsTooLong end
+branch_end : (p : Problem) (end : Ending run.RunAnswer) (a : Answer) → AnswersEnd p end a → a ≡ unknown_answer (codes "branch") → IsTooLong end
 branch_end p end a (closed vs x stands text is none told e) z = let bad = ap status_of (sym z ∙ e) in absurd cc
 branch_end p end a (valid vs x stands text is some printed e) z = let bad = ap status_of (sym z ∙ e) in absurd cc
 branch_end p end a (invalid log x stands is e) z = let bad = ap status_of (sym z ∙ e) in absurd cc
@@ -90,7 +90,7 @@ branch_end p end a (branch stands is e) z = (stands, is)
 branch_end p end a (steps stands is e) z = absurd (omega (arith, ap cause (sym z ∙ e)))
 branch_end p end a (overflow numbers stands is e) z = absurd (omega (arith, ap cause (sym z ∙ e)))
 
-not_refused : (p : Problem) (end : Ending run.Answer) (a : Answer) → AnswersEnd p end a → a.status ≡ 3 → ⊥
+not_refused : (p : Problem) (end : Ending run.RunAnswer) (a : Answer) → AnswersEnd p end a → a.status ≡ 3 → ⊥
 not_refused p end a (closed vs x stands text is none told e) z = let bad = sym z ∙ ap status_of e in absurd cc
 not_refused p end a (valid vs x stands text is some printed e) z = let bad = sym z ∙ ap status_of e in absurd cc
 not_refused p end a (invalid log x stands is e) z = let bad = sym z ∙ ap status_of e in absurd cc
@@ -100,8 +100,8 @@ not_refused p end a (steps stands is e) z = let bad = sym z ∙ ap status_of e i
 not_refused p end a (overflow numbers stands is e) z = let bad = sym z ∙ ap status_of e in absurd cc
 
 -- what an answer with this property comes of, where refusals have it not
-from_end : (budget : ℕ) (bytes : List ℕ) (a : Answer) (P : Answer → Type 0) (Q : Problem → Ending run.Answer → Type 0) → ((name : List ℕ) → ¬ (P (refused_answer name)))
-    → ((p : Problem) (end : Ending run.Answer) (b : Answer) → AnswersEnd p end b → P b → Q p end) → IsSolved budget bytes a → P a
+from_end : (budget : ℕ) (bytes : List ℕ) (a : Answer) (P : Answer → Type 0) (Q : Problem → Ending run.RunAnswer → Type 0) → ((name : List ℕ) → ¬ (P (refused_answer name)))
+    → ((p : Problem) (end : Ending run.RunAnswer) (b : Answer) → AnswersEnd p end b → P b → Q p end) → IsSolved budget bytes a → P a
     → (P (unknown_answer (codes "overflow")) × PosesOne bytes LeavesRange) ⊎ PosesOne bytes (λ p. Fits p × Q p (run_end budget p))
 from_end budget bytes a P Q none some (refused r h e) is = absurd (none (refusal_name r) (subst P e is))
 from_end budget bytes a P Q none some (posed p h (large l e)) is = absurd (none (codes "Large") (subst P e is))
@@ -109,8 +109,8 @@ from_end budget bytes a P Q none some (posed p h (leaves l e)) is = inl (subst P
 from_end budget bytes a P Q none some (posed p h (runs f k)) is = inr (p, h, (f, some p (run_end budget p) a k is))
 
 -- a run that ends so, or saturated so
-parted : (budget : ℕ) (bytes : List ℕ) (Is : Ending run.Answer → Type 0) (So : Problem → Proof → Funds → Type 0) → PosesOne bytes (λ p. Fits p × (Is (run_end budget p) ⊎ SaturatedSo So p (run_end budget p)))
-    → Ends budget bytes Is ⊎ EndsSaturated budget bytes So
+parted : (budget : ℕ) (bytes : List ℕ) (Is : Ending run.RunAnswer → Type 0) (So : Problem → Proof → Funds → Type 0) → PosesOne bytes (λ p. Fits p × (Is (run_end budget p) ⊎ SaturatedSo So p (run_end budget p)))
+    → SolveEnds budget bytes Is ⊎ EndsSaturated budget bytes So
 parted budget bytes Is So (p, h, (f, inl k)) = inl (p, h, (f, k))
 parted budget bytes Is So (p, h, (f, inr k)) = inr (p, h, (f, k))
 
@@ -135,7 +135,7 @@ refused_by budget bytes a (posed p h (runs f k)) z = absurd (not_refused p (run_
 -- ---- from a cause to its answer
 
 -- where the run ends so, the answer is that of the end
-ended : (budget : ℕ) (bytes : List ℕ) (a : Answer) (p : Problem) (end : Ending run.Answer) → IsSolved budget bytes a → Poses bytes p → Fits p → run_end budget p ≡ end → a ≡ end_answer p end
+ended : (budget : ℕ) (bytes : List ℕ) (a : Answer) (p : Problem) (end : Ending run.RunAnswer) → IsSolved budget bytes a → Poses bytes p → Fits p → run_end budget p ≡ end → a ≡ end_answer p end
 ended budget bytes a p end solved poses fits is = by_end p (run_end budget p) a (run_answered budget bytes a p solved poses fits) ∙ ap (end_answer p) is
 
 found_status : (p : Problem) (names : List (List ℕ)) (x : Proof) (vs : List ℤ) (left : Funds) → (found_answer p names x vs left).status ≡ 0
@@ -158,16 +158,16 @@ only_first budget bytes a solved r e (too_large h) = absurd (not_large a r e (on
 walked_as : (budget : ℕ) (bytes : List ℕ) (a : Answer) (So : Problem → Proof → Funds → Type 0) (P : Answer → Type 0) → IsSolved budget bytes a → ((p : Problem) (x : Proof) (left : Funds) → So p x left → P (saturated_answer p x left)) → EndsSaturated budget bytes So → P a
 walked_as budget bytes a So P solved so (p, h, (f, (log, x, stands, is, k))) = subst P (sym (ended budget bytes a p _ solved h f is)) (so p x stands.funds k)
 
-out_of_range : (budget : ℕ) (bytes : List ℕ) (a : Answer) → IsSolved budget bytes a → PosesOne bytes LeavesRange ⊎ (Ends budget bytes IsOutOfRange ⊎ EndsSaturated budget bytes IsCutByRange) → a ≡ unknown_answer (codes "overflow")
+out_of_range : (budget : ℕ) (bytes : List ℕ) (a : Answer) → IsSolved budget bytes a → PosesOne bytes LeavesRange ⊎ (SolveEnds budget bytes IsOutOfRange ⊎ EndsSaturated budget bytes IsCutByRange) → a ≡ unknown_answer (codes "overflow")
 out_of_range budget bytes a solved (inl h) = one_answer budget bytes a _ solved (posed h.0 h.1 (leaves h.2 refl))
 out_of_range budget bytes a solved (inr (inl h)) = ended budget bytes a h.0 _ solved h.1 h.2.0 h.2.1.2
 out_of_range budget bytes a solved (inr (inr h)) = walked_as budget bytes a IsCutByRange (λ b. b ≡ unknown_answer (codes "overflow")) solved range_answer h
 
-invalid_status : (budget : ℕ) (bytes : List ℕ) (a : Answer) → IsSolved budget bytes a → Ends budget bytes IsInvalid ⊎ EndsSaturated budget bytes IsWalked → a.status ≡ 1
+invalid_status : (budget : ℕ) (bytes : List ℕ) (a : Answer) → IsSolved budget bytes a → SolveEnds budget bytes IsInvalid ⊎ EndsSaturated budget bytes IsWalked → a.status ≡ 1
 invalid_status budget bytes a solved (inl h) = ap status_of (ended budget bytes a h.0 _ solved h.1 h.2.0 h.2.1.3)
 invalid_status budget bytes a solved (inr h) = walked_as budget bytes a IsWalked (λ b. b.status ≡ 1) solved walked_status h
 
-out_of_steps_so : (budget : ℕ) (bytes : List ℕ) (a : Answer) → IsSolved budget bytes a → Ends budget bytes IsOutOfSteps ⊎ EndsSaturated budget bytes IsCutBySteps → a ≡ unknown_answer (codes "steps")
+out_of_steps_so : (budget : ℕ) (bytes : List ℕ) (a : Answer) → IsSolved budget bytes a → SolveEnds budget bytes IsOutOfSteps ⊎ EndsSaturated budget bytes IsCutBySteps → a ≡ unknown_answer (codes "steps")
 out_of_steps_so budget bytes a solved (inl h) = ended budget bytes a h.0 _ solved h.1 h.2.0 h.2.1.1
 out_of_steps_so budget bytes a solved (inr h) = walked_as budget bytes a IsCutBySteps (λ b. b ≡ unknown_answer (codes "steps")) solved steps_answer h
 
@@ -175,7 +175,7 @@ out_of_steps_so budget bytes a solved (inr h) = walked_as budget bytes a IsCutBy
 same_stand : (vs ws : List ℤ) (x y : Proof) (s t : At) → ends_with (run.valid vs x) s ≡ ends_with (run.valid ws y) t → s ≡ t
 same_stand vs ws x y s t h = cc
 
-blocks_told : (p : Problem) (end : Ending run.Answer) (a : Answer) → AnswersEnd p end a → (ws : List ℤ) (y : Proof) (left : At) → p.existentials ≡ [] → end ≡ ends_with (run.valid ws y) left
+blocks_told : (p : Problem) (end : Ending run.RunAnswer) (a : Answer) → AnswersEnd p end a → (ws : List ℤ) (y : Proof) (left : At) → p.existentials ≡ [] → end ≡ ends_with (run.valid ws y) left
     → TellsBlocks p left.funds a.text
 blocks_told p end a (closed vs x stands text is none told e) ws y left alone ends =
     let same = same_stand vs ws x y stands left (sym is ∙ ends) in
@@ -191,7 +191,7 @@ blocks_told p end a (branch stands is e) ws y left alone ends = let bad = sym is
 blocks_told p end a (steps stands is e) ws y left alone ends = let bad = sym is ∙ ends in absurd cc
 blocks_told p end a (overflow numbers stands is e) ws y left alone ends = let bad = sym is ∙ ends in absurd cc
 
-pub causes : (budget : ℕ) (bytes : List ℕ) (a : Answer) → IsSolved budget bytes a → Causes budget bytes a
+pub causes : (budget : ℕ) (bytes : List ℕ) (a : Answer) → IsSolved budget bytes a → SolveCauses budget bytes a
 causes budget bytes a solved = record {
   valid = (
     λ z. not_left (λ e. cc) (from_end budget bytes a (λ b. b.status ≡ 0) (λ p. IsValid) (λ name e. cc) valid_end solved z),
@@ -233,7 +233,7 @@ pure_decided budget bytes a solved p poses fits pure no_steps no_overflow = by (
     is_so : is_pure (problem_root p).value ≡ true
     is_so = (pure_is p).1 pure
 
-    by : (end : Ending run.Answer) → run_end budget p ≡ end → (a.status ≡ 0) ⊎ (a.status ≡ 1)
+    by : (end : Ending run.RunAnswer) → run_end budget p ≡ end → (a.status ≡ 0) ⊎ (a.status ≡ 1)
     by (ends_with (run.valid vs x) stands) is = inl (valid_status budget bytes a p solved poses fits (vs, x, stands, is))
     by (ends_with (run.invalid log x) stands) is = inr (ap status_of (ended budget bytes a p _ solved poses fits is))
     by (ends_with (run.saturated log x) stands) is = absurd (not_both (is_pure (problem_root p).value) is_so (tells budget p (root_over p (reads_formed bytes p poses.reads)) _ stands is))
@@ -249,7 +249,7 @@ walked_or_cut p x left a (explained at c stands probe is e) = inr (inl (ap statu
 walked_or_cut p x left a (short is e) = inr (inr (inl e))
 walked_or_cut p x left a (past is e) = inr (inr (inr (inl e)))
 
-decided_or_cut : (p : Problem) (end : Ending run.Answer) (a : Answer) → AnswersEnd p end a → IsDecidedOrCut a
+decided_or_cut : (p : Problem) (end : Ending run.RunAnswer) (a : Answer) → AnswersEnd p end a → IsDecidedOrCut a
 decided_or_cut p end a (closed vs x stands text is none told e) = inl (ap status_of e)
 decided_or_cut p end a (valid vs x stands text is some printed e) = inl (ap status_of e)
 decided_or_cut p end a (invalid log x stands is e) = inr (inl (ap status_of e))
@@ -258,7 +258,7 @@ decided_or_cut p end a (branch stands is e) = inr (inr (inr (inr e)))
 decided_or_cut p end a (steps stands is e) = inr (inr (inl e))
 decided_or_cut p end a (overflow numbers stands is e) = inr (inr (inr (inl e)))
 
-pub decides : (budget : ℕ) (bytes : List ℕ) (a : Answer) → IsSolved budget bytes a → Decides budget bytes a
+pub decides : (budget : ℕ) (bytes : List ℕ) (a : Answer) → IsSolved budget bytes a → SolveDecides budget bytes a
 decides budget bytes a solved = record {
   pure = pure_decided budget bytes a solved;
   universal = λ p poses fits universal. (λ none. one_round_ends (problem_root p).value (length p.existentials) 0 (root_somes p universal) none, decided_or_cut p (run_end budget p) a (run_answered budget bytes a p solved poses fits));

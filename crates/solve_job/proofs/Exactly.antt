@@ -9,7 +9,8 @@ use Rattle.proof_tree.specs.declared.node.Conclusion.TheVariants.{Solution, Noth
 use Rattle.proof_tree.specs.Proof.{Proof, given}
 use Rattle.proof_tree.specs.Proves.{proof_walk}
 use Rattle.search.specs.Run as run
-use Rattle.search.specs.Run.{Ending, ending, ends_with, out_of_steps, overflows, canonical_run}
+use Rattle.purse.specs.Ending.{Ending, ending, ends_with, out_of_steps, overflows}
+use Rattle.search.specs.Run.{canonical_run}
 use Rattle.pri_typing.specs.declared.problem.Problem.{Problem}
 use Rattle.pri_printer.specs.Printed.{dnf_text}
 use Rattle.pri_printer.specs.Text.{listed_text, value_texts}
@@ -25,7 +26,7 @@ use Rattle.problem_file.proofs.Encoded.{fitting_answered, one_of_encoded, root_s
 use Rattle.interpolant_lines.specs.Seams.{seams}
 use Rattle.interpolant_lines.proofs.Listing.{lines_are, same_list, seam_lines}
 use Rattle.answers.specs.declared.form.ProofForm.{ProofForm}
-use Rattle.solve_job.specs.Proved.{AnswersRunAs, IsPart, IsSolvedAs, PrintsEnd, PrintsProof, charges_of, extended}
+use Rattle.solve_job.specs.Proved.{AnswersRunAs, IsProofPart, IsSolvedAs, PrintsEnd, PrintsProof, charges_of, extended}
 use Rattle.solve_job.proofs.Saturated.{saturated_answer, saturated_by, saturated_same, saturated_status}
 use Rattle.solve_job.specs.Solved.{closed_answer, valid_answer, AnswersEnd, closed, valid, invalid, saturated, branch, steps, overflow, run_end, AnswersRun, IsSolved}
 
@@ -37,7 +38,7 @@ found_answer p [] x vs left = closed_answer (concat (seam_lines p (seams p.cuts)
 found_answer p (name ∷ names) x vs left = valid_answer p (dnf_text p (given x)) vs
 
 -- the answer to each end
-abbrev pub end_answer : Problem → Ending run.Answer → Answer
+abbrev pub end_answer : Problem → Ending run.RunAnswer → Answer
 end_answer p (ends_with (run.valid vs x) stands) = found_answer p p.existentials x vs stands.funds
 end_answer p (ends_with (run.invalid log x) stands) = says_line 1 (codes "INVALID")
 end_answer p (ends_with (run.saturated log x) stands) = saturated_answer p x stands.funds
@@ -50,7 +51,7 @@ found_some p x vs left [] some = absurd (some refl)
 found_some p x vs left (name ∷ names) some = refl
 
 -- an answer is that of the end
-pub by_end : (p : Problem) (end : Ending run.Answer) (a : Answer) → AnswersEnd p end a → a ≡ end_answer p end
+pub by_end : (p : Problem) (end : Ending run.RunAnswer) (a : Answer) → AnswersEnd p end a → a ≡ end_answer p end
 by_end p end a (closed vs x stands text is none told e) =
     e ∙ ap closed_answer (told.whole ∙ ap concat (lines_are p (seams p.cuts) stands.funds told.lines told.are))
     ∙ sym (ap (end_answer p) is ∙ ap (λ names. found_answer p names x vs stands.funds) none)
@@ -62,7 +63,7 @@ by_end p end a (branch stands is e) = e ∙ sym (ap (end_answer p) is)
 by_end p end a (steps stands is e) = e ∙ sym (ap (end_answer p) is)
 by_end p end a (overflow numbers stands is e) = e ∙ sym (ap (end_answer p) is)
 
-one_of_end : (p : Problem) (end : Ending run.Answer) (a b : Answer) → AnswersEnd p end a → AnswersEnd p end b → a ≡ b
+one_of_end : (p : Problem) (end : Ending run.RunAnswer) (a b : Answer) → AnswersEnd p end a → AnswersEnd p end b → a ≡ b
 one_of_end p end a b h k = by_end p end a h ∙ sym (by_end p end b k)
 
 -- ---- the same for the same problem
@@ -71,7 +72,7 @@ valid_answer_same : (p q : Problem) (text : List ℕ) (vs : List ℤ) → AreSam
 valid_answer_same p q text vs same =
     ap (λ names. record { status = 0; text = line (codes "VALID") ++ (constraint_line text ++ line (codes "solution: " ++ listed_text (value_texts names vs))) }) same.existentials
 
-same_end : (p q : Problem) (end : Ending run.Answer) (a : Answer) → AreSame p q → AnswersEnd p end a → AnswersEnd q end a
+same_end : (p q : Problem) (end : Ending run.RunAnswer) (a : Answer) → AreSame p q → AnswersEnd p end a → AnswersEnd q end a
 same_end p q end a same (closed vs x stands text is none told e) =
     closed vs x stands text is (sym same.existentials ∙ none) (record { lines = told.lines; are = same_list p q same stands.funds told.lines told.are; whole = told.whole }) e
 same_end p q end a same (valid vs x stands text is some printed e) =
@@ -84,7 +85,7 @@ same_end p q end a same (overflow numbers stands is e) = overflow numbers stands
 
 run_end_same : (budget : ℕ) (p q : Problem) → AreSame p q → run_end budget p ≡ run_end budget q
 run_end_same budget p q same =
-    let from : Form → ℕ → Ending run.Answer = λ f n. ending (canonical_run f n budget) (at (record { budget = budget; spent = 0 }) []) in
+    let from : Form → ℕ → Ending run.RunAnswer = λ f n. ending (canonical_run f n budget) (at (record { budget = budget; spent = 0 }) []) in
     ap (λ w. from w.value (length p.existentials)) (root_same p q same) ∙ ap (λ names. from (problem_root q).value (length names)) same.existentials
 
 same_run : (budget : ℕ) (p q : Problem) (a : Answer) → AreSame p q → AnswersRun budget p a → AnswersRun budget q a
@@ -102,7 +103,7 @@ run_answered budget bytes a p solved poses =
 
 -- ---- its status
 
-end_status : (p : Problem) (end : Ending run.Answer) (a : Answer) → AnswersEnd p end a → IsAnswerStatus a.status
+end_status : (p : Problem) (end : Ending run.RunAnswer) (a : Answer) → AnswersEnd p end a → IsAnswerStatus a.status
 end_status p end a (closed vs x stands text is none told e) = subst (λ b. IsAnswerStatus b.status) (sym e) refl
 end_status p end a (valid vs x stands text is some printed e) = subst (λ b. IsAnswerStatus b.status) (sym e) refl
 end_status p end a (invalid log x stands is e) = subst (λ b. IsAnswerStatus b.status) (sym e) refl
@@ -122,7 +123,7 @@ solved_status budget bytes a (posed p h (runs f k)) = end_status p (run_end budg
 one_text : (form : ProofForm) (n : ℕ) (x : Proof) (c : Conclusion) (a b : List ℕ) → PrintsProof form n x c a → PrintsProof form n x c b → a ≡ b
 one_text form n x c a b h k = h.line ∙ ap (λ t. line (codes "proof:") ++ t) (h.is ∙ sym k.is) ∙ sym k.line
 
-one_part : (form : ProofForm) (p : Problem) (end : Ending run.Answer) (a b : List ℕ) → PrintsEnd form p end a → PrintsEnd form p end b → a ≡ b
+one_part : (form : ProofForm) (p : Problem) (end : Ending run.RunAnswer) (a b : List ℕ) → PrintsEnd form p end a → PrintsEnd form p end b → a ≡ b
 one_part form p (ends_with (run.valid vs x) stands) a b h k = one_text form (charges_of p x (Solution vs)) x (Solution vs) a b h k
 one_part form p (ends_with (run.invalid log x) stands) a b h k =
     one_text form (charges_of p x (Nothing (record { entries = log }))) x (Nothing (record { entries = log })) a b h k
@@ -131,7 +132,7 @@ one_part form p (ends_with run.too_long stands) a b h k = h ∙ sym k
 one_part form p (out_of_steps stands) a b h k = h ∙ sym k
 one_part form p (overflows numbers stands) a b h k = h ∙ sym k
 
-one_asked : (asked : Option ProofForm) (p : Problem) (end : Ending run.Answer) (a b : List ℕ) → IsPart asked p end a → IsPart asked p end b → a ≡ b
+one_asked : (asked : Option ProofForm) (p : Problem) (end : Ending run.RunAnswer) (a b : List ℕ) → IsProofPart asked p end a → IsProofPart asked p end b → a ≡ b
 one_asked (Some form) p end a b h k = one_part form p end a b h k
 one_asked None p end a b h k = h ∙ sym k
 
@@ -145,7 +146,7 @@ charges_same p q x c same =
     let of : Form → ℕ → ℕ = λ f n. total (proof_walk f n x c).events in
     ap (λ w. of w.value (length p.existentials)) (root_same p q same) ∙ ap (λ names. of (problem_root q).value (length names)) same.existentials
 
-part_same : (form : ProofForm) (p q : Problem) (end : Ending run.Answer) (part : List ℕ) → AreSame p q → PrintsEnd form p end part → PrintsEnd form q end part
+part_same : (form : ProofForm) (p q : Problem) (end : Ending run.RunAnswer) (part : List ℕ) → AreSame p q → PrintsEnd form p end part → PrintsEnd form q end part
 part_same form p q (ends_with (run.valid vs x) stands) part same h = subst (λ n. PrintsProof form n x (Solution vs) part) (charges_same p q x (Solution vs) same) h
 part_same form p q (ends_with (run.invalid log x) stands) part same h =
     let c : Conclusion = Nothing (record { entries = log }) in subst (λ n. PrintsProof form n x c part) (charges_same p q x c same) h
@@ -154,7 +155,7 @@ part_same form p q (ends_with run.too_long stands) part same h = h
 part_same form p q (out_of_steps stands) part same h = h
 part_same form p q (overflows numbers stands) part same h = h
 
-asked_same : (asked : Option ProofForm) (p q : Problem) (end : Ending run.Answer) (part : List ℕ) → AreSame p q → IsPart asked p end part → IsPart asked q end part
+asked_same : (asked : Option ProofForm) (p q : Problem) (end : Ending run.RunAnswer) (part : List ℕ) → AreSame p q → IsProofPart asked p end part → IsProofPart asked q end part
 asked_same (Some form) p q end part same h = part_same form p q end part same h
 asked_same None p q end part same h = h
 
@@ -163,7 +164,7 @@ same_as asked budget p q a same h = record {
   plain = h.plain;
   answers = same_run budget p q h.plain same h.answers;
   part = h.part;
-  is_part = subst (λ end. IsPart asked q end h.part) (run_end_same budget p q same) (asked_same asked p q (run_end budget p) h.part same h.is_part);
+  is_part = subst (λ end. IsProofPart asked q end h.part) (run_end_same budget p q same) (asked_same asked p q (run_end budget p) h.part same h.is_part);
   whole = h.whole;
 }
 

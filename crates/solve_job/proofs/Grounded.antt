@@ -19,7 +19,8 @@ use Rattle.encoding.specs.Root.{names_from, root}
 use Rattle.problem_file.proofs.Bytes.{reads_formed}
 use Rattle.encoding.proofs.Problems.{root_over}
 use Rattle.search.specs.Closed.{IsClosed, AreClosed}
-use Rattle.search.specs.Run.{canonical_run, ending, out_of_steps}
+use Rattle.purse.specs.Ending.{ending, out_of_steps}
+use Rattle.search.specs.Run.{canonical_run}
 use Rattle.search.proofs.Closed.{closed_enough}
 use Rattle.solve_job.specs.Ground.{IsGround, IsEnough, IsPlain}
 

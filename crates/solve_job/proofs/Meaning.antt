@@ -4,9 +4,9 @@ use Rattle.typed_formula.specs.Truth.{Meaning}
 use Rattle.purse.specs.Trace as trace
 use Rattle.purse.specs.Trace.{At, End, Funds, cut, done, out_of_range, refused as stopped}
 use Rattle.proof_tree.specs.Proof.{Proof, given}
-use Rattle.search.specs.Meaning.{IsFound, Tells}
+use Rattle.search.specs.Meaning.{IsFoundProof, Tells}
 use Rattle.search.specs.Run as run
-use Rattle.search.specs.Run.{Ending, ended, ends_with, out_of_steps, overflows}
+use Rattle.purse.specs.Ending.{ended, ends_with}
 use Rattle.encoding.specs.Problems.{problem_root}
 use Rattle.encoding.proofs.Problems.{holds_is, pure_is, root_over}
 use Rattle.pri_typing.specs.declared.problem.Problem.{Problem}
@@ -31,24 +31,24 @@ use Rattle.solve_job.specs.Explained.{AnswersSaturated, explained, nowhere, past
 use Rattle.solve_job.specs.Headline.{Constrains, Headline, Shows}
 use Rattle.countermodel.specs.Explaining.{explaining}
 use Rattle.countermodel.specs.Probes.{probe_values}
-use Rattle.open_trees.specs.Open.{IsSaturated}
+use Rattle.open_trees.specs.Open.{IsSaturatedTree}
 use Rattle.solve_job.proofs.Saturated.{one_or_two}
 use Rattle.solve_job.proofs.Refuted.{explained_is, refuted_is, saturated_is}
 use Rattle.search.proofs.Telling.{answer_tells}
 
 -- what the answer of a run on the encoded problem says of it
-pub tells : (budget : ℕ) (p : Problem) → IsFormOver (length p.existentials) (problem_root p).value → (a : run.Answer) (stands : At) → run_end budget p ≡ ends_with a stands → Tells (problem_root p).value (length p.existentials) a
+pub tells : (budget : ℕ) (p : Problem) → IsFormOver (length p.existentials) (problem_root p).value → (a : run.RunAnswer) (stands : At) → run_end budget p ≡ ends_with a stands → Tells (problem_root p).value (length p.existentials) a
 tells budget p over a stands is =
     answer_tells (problem_root p).value (length p.existentials) (record { budget = budget; spent = 0 }) a stands over (problem_reduced p) is
 
 -- ---- VALID
 
 -- the constraint that was found covers the encoding
-pub covers : (p : Problem) (x : Proof) (vs : List ℤ) → IsFound (problem_root p).value (length p.existentials) vs x → CoversRoot p (given x) vs
+pub covers : (p : Problem) (x : Proof) (vs : List ℤ) → IsFoundProof (problem_root p).value (length p.existentials) vs x → CoversRoot p (given x) vs
 covers p x vs found = record { over = found.over; covers = found.covers; many = found.best.names; satisfies = found.best.satisfies }
 
 -- the printed constraint and values mean what the headline says
-found_constrains : (w : Meaning) (p : Problem) (x : Proof) (vs : List ℤ) (text : List ℕ) → IsWellFormed p → IsFound (problem_root p).value (length p.existentials) vs x → IsTextOf p (given x) text
+found_constrains : (w : Meaning) (p : Problem) (x : Proof) (vs : List ℤ) (text : List ℕ) → IsWellFormed p → IsFoundProof (problem_root p).value (length p.existentials) vs x → IsTextOf p (given x) text
     → Constrains w p text vs
 found_constrains w p x vs text formed found printed = record {
   supports = supports w p (given x) vs text formed (covers p x vs found) printed;
@@ -80,7 +80,7 @@ walk_value v a (stopped c) b h = absurd (cc)
 walk_value v a (out_of_range ps c) b h = absurd (cc)
 
 -- the answer to a saturated run shows its counterexample
-shown : (p : Problem) (x : Proof) (left : Funds) (a : Answer) → IsWellFormed p → IsSaturated (problem_root p).value (length p.existentials) x → AnswersSaturated p x left a → a.status ≡ 1
+shown : (p : Problem) (x : Proof) (left : Funds) (a : Answer) → IsWellFormed p → IsSaturatedTree (problem_root p).value (length p.existentials) x → AnswersSaturated p x left a → a.status ≡ 1
     → (values : List ℤ) → probe_values p.existential_types ≡ Some values → Shows p values a.text
 shown p x left a formed open_tree (nowhere none e) z values probe = let bad : None ≡ Some values = sym none ∙ probe in absurd (cc)
 shown p x left a formed open_tree (explained at c stands some is e) z values probe =

@@ -5,7 +5,7 @@ use Rattle.purse.specs.Trace.{Funds, Mark, At, at, End, done, refused, out_of_ra
 use Rattle.formula.specs.Form.{Form, IsFormOver}
 use Rattle.formula.specs.Tree.{form}
 use Rattle.clause_set.specs.declared.literal.Literal.{Literal}
-use Rattle.elim_rules.specs.Whole.{AreOver}
+use Rattle.elim_laws.specs.Whole.{AreOver}
 use Rattle.proof_tree.specs.declared.node.Tree.{Tree}
 use Rattle.proof_tree.specs.declared.run.Run.{Run}
 use Rattle.proof_tree.specs.declared.run.Why.{Why}
@@ -17,7 +17,8 @@ use Rattle.search.specs.declared.judge.Decided.{Decided}
 use Rattle.search.specs.declared.judge.Decided.TheVariants as decided
 use Rattle.search.specs.Outcomes.{DecidesAs, EndsAs, bare}
 use Rattle.search.specs.Run as run
-use Rattle.search.specs.Run.{Ending, ended, ending, ends_with, out_of_steps, overflows, canonical_run}
+use Rattle.purse.specs.Ending.{Ending, ended, ending, ends_with, out_of_steps, overflows}
+use Rattle.search.specs.Run.{canonical_run}
 use Rattle.encoding.specs.Problems.{problem_root}
 use Rattle.function_encoding.specs.declared.answer.Encoded.{Encoded}
 use Rattle.pri_typing.specs.declared.problem.Problem.{Problem}
@@ -42,7 +43,7 @@ start budget = record { budget = budget; spent = 0 }
 
 pub run_is : (budget : ℕ) (p : Problem) (e : Encoded) → IsEncoded p e → ending (canonical_run (form e.root) e.constants budget) (at (start budget) []) ≡ run_end budget p
 run_is budget p e h =
-    let from : Form → ℕ → Ending run.Answer = λ f n. ending (canonical_run f n budget) (at (start budget) []) in
+    let from : Form → ℕ → Ending run.RunAnswer = λ f n. ending (canonical_run f n budget) (at (start budget) []) in
     ap (λ f. from f e.constants) h.root ∙ ap (from (problem_root p).value) h.constants
 
 -- what a decision says is an outcome with a tree; a saturated one is searched again
@@ -112,17 +113,17 @@ unknown_told budget p e h (why.Overflow place) r new a k is = overflow k.1 (at n
 -- ---- the budget behind a run
 
 -- where a run stands at its end
-abbrev last : Ending run.Answer → At
+abbrev last : Ending run.RunAnswer → At
 last (ends_with a s) = s
 last (out_of_steps s) = s
 last (overflows numbers s) = s
 
-last_is : (a : run.Answer) (e : End) → last (ended a e) ≡ stand e
+last_is : (a : run.RunAnswer) (e : End) → last (ended a e) ≡ stand e
 last_is a (done s) = refl
 last_is a (refused s) = refl
 last_is a (out_of_range numbers s) = refl
 
-end_below : (f : Form) (k budget n : ℕ) (e : Ending run.Answer) → ending (canonical_run f k budget) (at (start budget) []) ≡ e → budget < n → (last e).funds.budget < n
+end_below : (f : Form) (k budget n : ℕ) (e : Ending run.RunAnswer) → ending (canonical_run f k budget) (at (start budget) []) ≡ e → budget < n → (last e).funds.budget < n
 end_below f k budget n e is lt =
     let work = canonical_run f k budget in
     let same : (last e).funds.budget ≡ budget =

@@ -7,23 +7,23 @@ use Rattle.sequent.specs.declared.member.Pick.TheVariants as pick
 use Rattle.proof_tree.specs.declared.node.Conclusion.{Conclusion}
 use Rattle.proof_tree.specs.declared.node.Conclusion.TheVariants.{Solution, Nothing}
 use Rattle.proof_tree.specs.Proof.{Proof}
-use Rattle.proof_text.specs.declared.tokens.Token.{Token}
-use Rattle.proof_text.specs.declared.tokens.Token.TheVariants as t
-use Rattle.proof_text.specs.Lines.{counted_text, entries_text, numbered_text}
-use Rattle.proof_text.specs.Reading.{Cuts}
-use Rattle.proof_text.specs.Spellings.{AreSpaced, IsEntry, IsGood, IsRanged, IsToken, spelled}
-use Rattle.proof_text.proofs.Cutting.{piece_ranged, spelled_front}
-use Rattle.proof_text.proofs.Spaced.{charges_spaced, counted_spaced, head_spaced, log_spaced, log_use_spaced, none_spaced, none_use_spaced, numbered_spaced, part_spaced, parts_spaced, sign_spaced, solution_spaced, spaced_append, word_spaced}
-use Rattle.tree_lines.specs.declared.lines.Owed.{Owed}
-use Rattle.tree_lines.specs.declared.lines.Owed.TheVariants as o
-use Rattle.tree_lines.specs.declared.lines.TextLine.{TextLine}
-use Rattle.tree_lines.specs.declared.lines.TextLine.TheVariants as w
-use Rattle.tree_lines.specs.Lines.{line_text, row_text, tokens_of}
-use Rattle.tree_lines.specs.Owed.{IsWhole, Pays, owes}
-use Rattle.tree_text.specs.Shaped.{Holds}
-use Rattle.proof_lines.specs.Body.{body}
-use Rattle.proof_lines.proofs.Own.{own_body}
-use Rattle.proof_writing.proofs.Readable.{gives_spaced}
+use Rattle.proof_tokens.specs.declared.tokens.Token.{Token}
+use Rattle.proof_tokens.specs.declared.tokens.Token.TheVariants as t
+use Rattle.proof_tokens.specs.Lines.{counted_text, entries_text, numbered_text}
+use Rattle.proof_tokens.specs.Reading.{Cuts}
+use Rattle.proof_tokens.specs.Spellings.{AreSpaced, IsEntry, IsGood, IsRanged, IsProofToken, spelled}
+use Rattle.proof_tokens.proofs.Cutting.{piece_ranged, spelled_front}
+use Rattle.proof_tokens.proofs.Spaced.{charges_spaced, counted_spaced, head_spaced, log_spaced, log_use_spaced, none_spaced, none_use_spaced, numbered_spaced, part_spaced, parts_spaced, sign_spaced, solution_spaced, spaced_append, word_spaced}
+use Rattle.proof_line.specs.declared.lines.Owed.{Owed}
+use Rattle.proof_line.specs.declared.lines.Owed.TheVariants as o
+use Rattle.proof_line.specs.declared.lines.TextLine.{TextLine}
+use Rattle.proof_line.specs.declared.lines.TextLine.TheVariants as w
+use Rattle.proof_line.specs.Lines.{line_text, row_text, tokens_of}
+use Rattle.proof_line.specs.Owed.{OwesNothing, Pays, owes}
+use Rattle.proof_grammar.specs.Shaped.{IsTextOfProof}
+use Rattle.proof_file.specs.Body.{body}
+use Rattle.proof_file.proofs.Own.{own_body}
+use Rattle.proof_printer.proofs.Readable.{gives_spaced}
 
 abbrev AreRanged : List Token → Type 0
 AreRanged xs = AllByRecursion IsRanged xs
@@ -68,7 +68,7 @@ line_spaced Level (o.End m) (w.End (Nothing log)) h r = none_spaced log.entries 
 line_spaced Level (o.End m) (w.EndOf i) h r = none_use_spaced i r.1.1.0
 line_spaced Level _ _ h r = absurd h
 
-lines_spaced : (Level : ℕ → Type 0) (os : List Owed) (ls : List TextLine) → IsWhole Level os ls → AreRanged (tokens_of ls) → AreSpaced (tokens_of ls)
+lines_spaced : (Level : ℕ → Type 0) (os : List Owed) (ls : List TextLine) → OwesNothing Level os ls → AreRanged (tokens_of ls) → AreSpaced (tokens_of ls)
 lines_spaced Level os [] h r = tt
 lines_spaced Level [] (l ∷ ls) h r = absurd h
 lines_spaced Level (o ∷ os) (l ∷ ls) h r =
@@ -77,9 +77,9 @@ lines_spaced Level (o ∷ os) (l ∷ ls) h r =
 -- ---- the text is what is written of them
 spaced_good : (xs : List Token) → AreSpaced xs → AllByRecursion IsGood xs
 spaced_good [] a = tt
-spaced_good (x ∷ xs) a = (λ bad. subst IsToken bad a.0, spaced_good xs a.2)
+spaced_good (x ∷ xs) a = (λ bad. subst IsProofToken bad a.0, spaced_good xs a.2)
 
-pub own_text : (text : List ℕ) (n : ℕ) (x : Proof) (c : Conclusion) → Holds text n x c → body text ≡ text
+pub own_text : (text : List ℕ) (n : ℕ) (x : Proof) (c : Conclusion) → IsTextOfProof text n x c → body text ≡ text
 own_text text n x c h =
     let spaced = lines_spaced _ _ h.lines h.whole (cut_ranged (tokens_of h.lines) text [] h.cut) in
     let same : text ≡ spelled (tokens_of h.lines) = spelled_front (tokens_of h.lines) text [] (spaced_good (tokens_of h.lines) spaced) h.cut ∙ append-nil (spelled (tokens_of h.lines)) in

@@ -1,10 +1,11 @@
 -- An answer with a proof behind it, and the answer without it.
 use Rattle.std.proofs.Common.{◌≡◌, ◌≢◌, ◌⊎◌, inl, inr, ◌∙◌, ◌≤◌, ℕ, ℤ, List, [], ◌++◌, length, Option, Some, None, Result, Ok, Err, IfOk, refl, sym, ap, subst, append_assoc, append-nil, codes, arith}
+use Rattle.limits.specs.Limits.{most_budget}
 use Rattle.linear_term.specs.declared.range.Memory.{Memory}
 use Rattle.purse.specs.Runs.{total}
-use Rattle.purse.specs.Trace.{Funds, At, at}
+use Rattle.purse.specs.Trace.{Funds, At}
 use Rattle.clause_set.specs.declared.literal.Literal.{Literal}
-use Rattle.formula.specs.Form.{Form, IsFormOver}
+use Rattle.formula.specs.Form.{Form}
 use Rattle.formula.specs.Reduced.{HasReducedTerms}
 use Rattle.formula.specs.Tree.{form}
 use Rattle.proof_tree.specs.declared.node.Conclusion.{Conclusion}
@@ -19,9 +20,9 @@ use Rattle.proof_tree.specs.Views.{proof_of}
 use Rattle.search.specs.declared.judge.Outcome.TheVariants.{Valid, Invalid, Saturated, Unknown}
 use Rattle.search.specs.Outcomes.{EndsAs, IsTree}
 use Rattle.search.specs.Run as run
-use Rattle.search.specs.Run.{Ending, ends_with, out_of_steps, overflows}
-use Rattle.proof_text.specs.Spellings.{spelled}
-use Rattle.tree_text.specs.Shaped.{Holds}
+use Rattle.purse.specs.Ending.{Ending, ends_with}
+use Rattle.proof_tokens.specs.Spellings.{spelled}
+use Rattle.proof_grammar.specs.Shaped.{IsTextOfProof}
 use Rattle.canonical_proofs.proofs.Proving.{proved_invalid, proved_valid}
 use Rattle.purse.specs.declared.log.Entry.{Entry}
 use Rattle.proof_tree.specs.declared.run.Verdict.TheVariants as verdict
@@ -30,19 +31,19 @@ use Rattle.encoding.specs.Problems.{problem_root}
 use Rattle.function_encoding.specs.declared.answer.Encoded.{Encoded}
 use Rattle.pri_typing.specs.declared.problem.Problem.{Problem}
 use Rattle.pri_typing.specs.Problems.{IsPure}
+use Rattle.pri_typing.specs.WellFormed.{IsWellFormed}
 use Rattle.answers.specs.Answer.{Answer, answer_of}
 use Rattle.answers.specs.declared.output.Output.{Output}
 use Rattle.problem_file.specs.Answers.{Poses, refused, posed}
 use Rattle.problem_file.specs.Encoded.{Fits, IsEncoded, large, leaves, runs}
-use Rattle.solve_job.specs.Proved.{AnswersRunAs, IsPart, IsParted, IsProofTold, IsSolvedAs, PrintsAsked, PrintsEnd, PrintsProof, PrintsProofOf, PrintsTree, ProvesInvalid, ProvesValid, charges_of, extended, form_text}
+use Rattle.solve_job.specs.Proved.{AnswersRunAs, IsProofPart, IsParted, IsProofTold, IsSolvedAs, PrintsAsked, PrintsEnd, PrintsProof, PrintsProofOf, PrintsTree, ProvesInvalid, ProvesValid, charges_of, extended, form_text}
 use Rattle.answers.specs.declared.form.ProofForm.{ProofForm}
 use Rattle.solve_job.specs.Solved.{AnswersEnd, AnswersRun, IsSolved, branch, closed, invalid, overflow, run_end, saturated, steps, valid}
 use Rattle.solve_job.specs.Shaping.{IsPrintable}
-use Rattle.constraint_lines.proofs.Sizes.{small_depth, small_size}
-use Rattle.canonical_proofs.specs.Bounds.{IsSearched}
 use Rattle.canonical_proofs.proofs.Printed.{invalid_outcome, valid_outcome}
 use Rattle.problem_file.proofs.Bytes.{reads_formed}
 use Rattle.problem_file.proofs.Reduced.{problem_reduced}
+use Rattle.problem_file.proofs.Sizes.{searchable}
 use Rattle.solve_job.proofs.Outcomes.{run_is, start}
 use Rattle.solve_job.proofs.Saturated.{one_or_two}
 use Rattle.solve_job.proofs.Meaning.{tells}
@@ -52,26 +53,20 @@ unextended : (a : Answer) → a ≡ extended a []
 unextended a = ap (λ t. record { status = a.status; text = t }) (sym (append-nil a.text))
 
 -- ---- a text can hold the tree of the outcome
-searched : (p : Problem) (e : Encoded) → IsEncoded p e → length p.existentials ≤ 1000 → IsSearched (form e.root) e.constants
-searched p e h few = record {
-  over = subst (λ n. IsFormOver n (form e.root)) (sym h.constants) h.over;
-  reduced = subst HasReducedTerms (sym h.root) (problem_reduced p);
-  size = small_size (form e.root) h.small;
-  depth = small_depth (form e.root) h.small;
-  constants = subst (λ n. n ≤ 1000) (sym h.constants) few;
-}
+reduced : (p : Problem) (e : Encoded) → IsEncoded p e → HasReducedTerms (form e.root)
+reduced p e h = subst HasReducedTerms (sym h.root) (problem_reduced p)
 
-pub valid_printable : (budget : ℕ) (p : Problem) (e : Encoded) → IsEncoded p e → length p.existentials ≤ 1000 → budget ≤ 1000000000 → (d : List (List Literal)) (vs : List ℤ) (t : Tree) (new : Funds)
+pub valid_printable : (budget : ℕ) (p : Problem) (e : Encoded) → IsEncoded p e → IsWellFormed p → budget ≤ most_budget → (d : List (List Literal)) (vs : List ℤ) (t : Tree) (new : Funds)
     → EndsAs (form e.root) e.constants (start budget) (Ok (Valid d vs t)) new → IsPrintable t
-valid_printable budget p e h few most d vs t new k = λ typed conclusion. valid_outcome (form e.root) e.constants (start budget) new d vs t (searched p e h few) (omega (arith, most)) k typed
+valid_printable budget p e h formed most d vs t new k = λ typed conclusion. valid_outcome (form e.root) e.constants (start budget) new d vs t (searchable p e formed h) (reduced p e h) (omega (arith, most)) k typed
 
-pub invalid_printable : (budget : ℕ) (p : Problem) (e : Encoded) → IsEncoded p e → length p.existentials ≤ 1000 → budget ≤ 1000000000 → (d : List (List Literal)) (t : Tree) (new : Funds)
+pub invalid_printable : (budget : ℕ) (p : Problem) (e : Encoded) → IsEncoded p e → IsWellFormed p → budget ≤ most_budget → (d : List (List Literal)) (t : Tree) (new : Funds)
     → EndsAs (form e.root) e.constants (start budget) (Ok (Invalid d t)) new → IsPrintable t
-invalid_printable budget p e h few most d t new k = λ typed conclusion. invalid_outcome (form e.root) e.constants (start budget) new d t (searched p e h few) (omega (arith, most)) k typed
+invalid_printable budget p e h formed most d t new k = λ typed conclusion. invalid_outcome (form e.root) e.constants (start budget) new d t (searchable p e formed h) (reduced p e h) (omega (arith, most)) k typed
 
 -- ---- the text of the proof behind an answer
 pub printed_behind : (form : ProofForm) (t : Tree) (status : ℕ) (old mid out : List ℕ) → mid ≡ old ++ codes "proof:\n" → out ≡ mid ++ spelled (form_text form t.charges (proof_of t.root) t.conclusion)
-    → Holds (spelled (form_text form t.charges (proof_of t.root) t.conclusion)) t.charges (proof_of t.root) t.conclusion
+    → IsTextOfProof (spelled (form_text form t.charges (proof_of t.root) t.conclusion)) t.charges (proof_of t.root) t.conclusion
     → (part : List ℕ) × PrintsTree form t part × (record { status = status; text = out } ≡ extended (record { status = status; text = old }) part)
 printed_behind form t status old mid out e q holds =
     let tokens = form_text form t.charges (proof_of t.root) t.conclusion in
@@ -99,31 +94,31 @@ tree_prints wanted p e h x c t part is prints =
       text = prints.text;
       line = prints.line;
       is = prints.is ∙ (λ i. spelled (form_text wanted (charges i) (is.root i) (is.conclusion i)));
-      holds = subst (λ n. Holds prints.text n x c) charges (subst (λ y. Holds prints.text t.charges y c) is.root (subst (λ d. Holds prints.text t.charges (proof_of t.root) d) is.conclusion held));
+      holds = subst (λ n. IsTextOfProof prints.text n x c) charges (subst (λ y. IsTextOfProof prints.text t.charges y c) is.root (subst (λ d. IsTextOfProof prints.text t.charges (proof_of t.root) d) is.conclusion held));
       own = prints.own;
     }
 
 -- the part with the proof of a valid or an invalid run
 pub valid_part_told : (asked : Option ProofForm) (budget : ℕ) (p : Problem) (e : Encoded) → IsEncoded p e → (d : List (List Literal)) (vs : List ℤ) (t : Tree) (new : Funds) (part : List ℕ)
-    → EndsAs (form e.root) e.constants (start budget) (Ok (Valid d vs t)) new → PrintsAsked asked t part → IsPart asked p (run_end budget p) part
+    → EndsAs (form e.root) e.constants (start budget) (Ok (Valid d vs t)) new → PrintsAsked asked t part → IsProofPart asked p (run_end budget p) part
 valid_part_told None budget p e h d vs t new part k prints = prints
 valid_part_told (Some wanted) budget p e h d vs t new part k prints =
     subst (λ end. PrintsEnd wanted p end part) (sym k.2 ∙ run_is budget p e h) (tree_prints wanted p e h k.1 (Solution vs) t part k.4 prints)
 
 pub invalid_part_told : (asked : Option ProofForm) (budget : ℕ) (p : Problem) (e : Encoded) → IsEncoded p e → (d : List (List Literal)) (t : Tree) (new : Funds) (part : List ℕ)
-    → EndsAs (form e.root) e.constants (start budget) (Ok (Invalid d t)) new → PrintsAsked asked t part → IsPart asked p (run_end budget p) part
+    → EndsAs (form e.root) e.constants (start budget) (Ok (Invalid d t)) new → PrintsAsked asked t part → IsProofPart asked p (run_end budget p) part
 invalid_part_told None budget p e h d t new part k prints = prints
 invalid_part_told (Some wanted) budget p e h d t new part k prints =
     subst (λ end. PrintsEnd wanted p end part) (sym k.3 ∙ run_is budget p e h) (tree_prints wanted p e h k.2 (Nothing k.1) t part k.5 prints)
 
 -- every other run has none
 pub saturated_part : (asked : Option ProofForm) (budget : ℕ) (p : Problem) (e : Encoded) → IsEncoded p e → (d : List (List Literal)) (t : Tree) (new : Funds) → EndsAs (form e.root) e.constants (start budget) (Ok (Saturated d t)) new
-    → IsPart asked p (run_end budget p) []
+    → IsProofPart asked p (run_end budget p) []
 saturated_part None budget p e h d t new k = refl
 saturated_part (Some wanted) budget p e h d t new k = subst (λ end. PrintsEnd wanted p end []) (sym k.3 ∙ run_is budget p e h) refl
 
 pub unknown_part : (asked : Option ProofForm) (budget : ℕ) (p : Problem) (e : Encoded) → IsEncoded p e → (y : Why) (r : Run) (new : Funds) → EndsAs (form e.root) e.constants (start budget) (Ok (Unknown y r)) new
-    → IsPart asked p (run_end budget p) []
+    → IsProofPart asked p (run_end budget p) []
 unknown_part None budget p e h y r new k = refl
 unknown_part (Some wanted) budget p e h why.Branch r new k = subst (λ end. PrintsEnd wanted p end []) (sym k.1 ∙ run_is budget p e h) refl
 unknown_part (Some wanted) budget p e h why.Steps r new k = subst (λ end. PrintsEnd wanted p end []) (sym k.1 ∙ run_is budget p e h) refl
@@ -131,12 +126,12 @@ unknown_part (Some wanted) budget p e h (why.Overflow place) r new k = subst (λ
 
 -- ---- the whole answer
 -- an answer without a part behind it
-pub alone_as : (asked : Option ProofForm) (budget : ℕ) (p : Problem) (r : Result Output Memory) → IsPart asked p (run_end budget p) [] → IfOk r (λ out. AnswersRun budget p (answer_of out)) → IfOk r (λ out. AnswersRunAs asked budget p (answer_of out))
+pub alone_as : (asked : Option ProofForm) (budget : ℕ) (p : Problem) (r : Result Output Memory) → IsProofPart asked p (run_end budget p) [] → IfOk r (λ out. AnswersRun budget p (answer_of out)) → IfOk r (λ out. AnswersRunAs asked budget p (answer_of out))
 alone_as asked budget p (Ok out) none answers = record { plain = answer_of out; answers = answers; part = []; is_part = none; whole = unextended (answer_of out) }
 alone_as asked budget p (Err m) none answers = tt
 
 -- an answer with the proof behind it that is asked for
-pub proved_as : (asked : Option ProofForm) (budget : ℕ) (p : Problem) (t : Tree) (plain : Output) (r : Result Output Memory) → AnswersRun budget p (answer_of plain) → ((part : List ℕ) → PrintsAsked asked t part → IsPart asked p (run_end budget p) part)
+pub proved_as : (asked : Option ProofForm) (budget : ℕ) (p : Problem) (t : Tree) (plain : Output) (r : Result Output Memory) → AnswersRun budget p (answer_of plain) → ((part : List ℕ) → PrintsAsked asked t part → IsProofPart asked p (run_end budget p) part)
     → IfOk r (λ out. IsProofTold asked t (answer_of plain) (answer_of out)) → IfOk r (λ out. AnswersRunAs asked budget p (answer_of out))
 proved_as asked budget p t plain (Ok out) answers part told = record { plain = answer_of plain; answers = answers; part = told.part; is_part = part told.part told.prints; whole = told.whole }
 proved_as asked budget p t plain (Err m) answers part told = tt
@@ -158,11 +153,11 @@ not_asked budget bytes a asked solved zero one = record {
   invalid = λ form on z. absurd (one z);
 }
 
-no_part : (asked : Option ProofForm) (p : Problem) (end : Ending run.Answer) (part : List ℕ) → IsPart asked p end part → asked ≡ None → part ≡ []
-no_part asked p end part is off = subst (λ a. IsPart a p end part) off is
+no_part : (asked : Option ProofForm) (p : Problem) (end : Ending run.RunAnswer) (part : List ℕ) → IsProofPart asked p end part → asked ≡ None → part ≡ []
+no_part asked p end part is off = subst (λ a. IsProofPart a p end part) off is
 
-its_part : (asked : Option ProofForm) (wanted : ProofForm) (p : Problem) (end : Ending run.Answer) (part : List ℕ) → IsPart asked p end part → asked ≡ Some wanted → PrintsEnd wanted p end part
-its_part asked wanted p end part is on = subst (λ a. IsPart a p end part) on is
+its_part : (asked : Option ProofForm) (wanted : ProofForm) (p : Problem) (end : Ending run.RunAnswer) (part : List ℕ) → IsProofPart asked p end part → asked ≡ Some wanted → PrintsEnd wanted p end part
+its_part asked wanted p end part is on = subst (λ a. IsProofPart a p end part) on is
 
 -- the run on the encoded problem starts from nothing
 funds : ℕ → Funds

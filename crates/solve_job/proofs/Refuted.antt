@@ -9,7 +9,7 @@ use Rattle.proof_tree.specs.Proves.{start}
 use Rattle.proof_tree.specs.Walk.{on_some}
 use Rattle.proof_tree.proofs.Walking.{some_then, value-on_some}
 use Rattle.search.specs.Run as run
-use Rattle.search.specs.Run.{ends_with}
+use Rattle.purse.specs.Ending.{ends_with}
 use Rattle.encoding.specs.Problems.{problem_root}
 use Rattle.encoding.proofs.Conditions.{values_length}
 use Rattle.pri_typing.specs.declared.problem.Problem.{Problem}
@@ -19,7 +19,7 @@ use Rattle.problem_file.specs.Reads.{AreSame}
 use Rattle.problem_file.proofs.Encoded.{root_same}
 use Rattle.problem_file.proofs.Reduced.{problem_reduced}
 use Rattle.open_trees.specs.Levels.{HasLevels}
-use Rattle.open_trees.specs.Open.{IsSaturated}
+use Rattle.open_trees.specs.Open.{IsSaturatedTree}
 use Rattle.open_trees.specs.Rows.{table_at}
 use Rattle.open_trees.specs.Walk.{Stop, walk}
 use Rattle.countermodel.proofs.Saturated.{explained, refuted, saturated_says}
@@ -30,17 +30,17 @@ use Rattle.solve_job.specs.Solved.{run_end}
 
 -- the tree of such a run is open, and how many levels it has
 ended_so : (budget : ℕ) (p : Problem) → IsFormOver (length p.existentials) (problem_root p).value → (log : List Entry) (x : Proof) (stands : At) → run_end budget p ≡ ends_with (run.saturated log x) stands
-    → IsSaturated (problem_root p).value (length p.existentials) x × HasLevels 2000 x
+    → IsSaturatedTree (problem_root p).value (length p.existentials) x × HasLevels 2000 x
 ended_so budget p over log x stands is = saturated_says (problem_root p).value (length p.existentials) (record { budget = budget; spent = 0 }) log x stands over (problem_reduced p) is
 
 pub saturated_is : (budget : ℕ) (p : Problem) → IsFormOver (length p.existentials) (problem_root p).value → (log : List Entry) (x : Proof) (stands : At) → run_end budget p ≡ ends_with (run.saturated log x) stands
-    → IsSaturated (problem_root p).value (length p.existentials) x
+    → IsSaturatedTree (problem_root p).value (length p.existentials) x
 saturated_is budget p over log x stands is = (ended_so budget p over log x stands is).0
 
 pub levels_are : (budget : ℕ) (p : Problem) → IsFormOver (length p.existentials) (problem_root p).value → (log : List Entry) (x : Proof) (stands : At) → run_end budget p ≡ ends_with (run.saturated log x) stands → HasLevels 2000 x
 levels_are budget p over log x stands is = (ended_so budget p over log x stands is).1
 
-pub refuted_is : (p : Problem) (x : Proof) → IsWellFormed p → IsSaturated (problem_root p).value (length p.existentials) x → IsRefuted p
+pub refuted_is : (p : Problem) (x : Proof) → IsWellFormed p → IsSaturatedTree (problem_root p).value (length p.existentials) x → IsRefuted p
 refuted_is p x formed h = refuted p x formed (problem_reduced p) h
 
 -- what is found is what there is at the leaf where the walk ends
@@ -52,7 +52,7 @@ found_is p x e c is =
     let g = some_then w.value _ c (sym (value-on_some (at_leaf p) w.value) ∙ is) in
     (g.0, g.1, (let z : Some (found_at p g.0) ≡ Some c = g.2 in cc))
 
-pub explained_is : (p : Problem) (x : Proof) (e : List ℤ) (c : Table × List ℤ) → IsWellFormed p → IsSaturated (problem_root p).value (length p.existentials) x → probe_values p.existential_types ≡ Some e → (explaining p x e).value ≡ Some c
+pub explained_is : (p : Problem) (x : Proof) (e : List ℤ) (c : Table × List ℤ) → IsWellFormed p → IsSaturatedTree (problem_root p).value (length p.existentials) x → probe_values p.existential_types ≡ Some e → (explaining p x e).value ≡ Some c
     → IsCounterexample p e c
 explained_is p x e c formed h probe is =
     let typed = typed_probes p.existential_types e probe in

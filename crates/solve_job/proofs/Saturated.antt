@@ -6,7 +6,7 @@ use Rattle.purse.specs.declared.fault.StepFault.TheVariants.{Steps, Overflow}
 use Rattle.purse.specs.Trace.{Funds, at}
 use Rattle.typed_formula.specs.declared.world.Table.{Table}
 use Rattle.proof_tree.specs.Proof.{Proof}
-use Rattle.search.specs.Run.{Ending, ended, ending, ends_with, out_of_steps, overflows}
+use Rattle.purse.specs.Ending.{Ending, ended, ending, ends_with, out_of_steps, overflows}
 use Rattle.pri_typing.specs.declared.problem.Problem.{Problem}
 use Rattle.pri_typing.specs.declared.problem.Symbol.{Symbol}
 use Rattle.pri_printer.specs.Counterexample.{lines_text, row_text, truth_text}
@@ -14,7 +14,7 @@ use Rattle.pri_printer.specs.Text.{value_texts}
 use Rattle.answers.specs.Answer.{Answer, IsAnswerStatus, line, says_line, unknown_answer}
 use Rattle.problem_file.specs.Reads.{AreSame}
 use Rattle.solve_job.specs.Explained.{AnswersSaturated, IsCutByRange, IsCutBySteps, IsWalked, explain_end, explained, nowhere, past, refuted_answer, short}
-use Rattle.countermodel.specs.Explaining.{Does, explaining}
+use Rattle.countermodel.specs.Explaining.{DoesWork, explaining}
 use Rattle.countermodel.specs.Probes.{probe_values}
 use Rattle.solve_job.proofs.Refuted.{explaining_same}
 
@@ -50,18 +50,18 @@ saturated_by p x left a (past (at, numbers, stands, probe, is) e) = e ∙ sym (a
 
 -- ---- from the walk to its answer
 
-pub explained_told : (p : Problem) (x : Proof) (left new : Funds) (e : List ℤ) (c : Table × List ℤ) (a : Answer) → probe_values p.existential_types ≡ Some e → Does (explaining p x e) left (Ok (Some c)) new → a ≡ refuted_answer p e c → AnswersSaturated p x left a
+pub explained_told : (p : Problem) (x : Proof) (left new : Funds) (e : List ℤ) (c : Table × List ℤ) (a : Answer) → probe_values p.existential_types ≡ Some e → DoesWork (explaining p x e) left (Ok (Some c)) new → a ≡ refuted_answer p e c → AnswersSaturated p x left a
 explained_told p x left new e c a probe did is =
     let w = explaining p x e in
     let all = did.charged.ok (Some c) refl in
     explained e c (at new did.notes) probe (ap (ended w.value) (all.1).end ∙ ap (λ v. ends_with v (at new did.notes)) (sym all.0)) is
 
-pub steps_told : (p : Problem) (x : Proof) (left new : Funds) (e : List ℤ) (f : StepFault) (a : Answer) → probe_values p.existential_types ≡ Some e → f ≡ Steps → Does (explaining p x e) left (Err f) new → a ≡ unknown_answer (codes "steps") → AnswersSaturated p x left a
+pub steps_told : (p : Problem) (x : Proof) (left new : Funds) (e : List ℤ) (f : StepFault) (a : Answer) → probe_values p.existential_types ≡ Some e → f ≡ Steps → DoesWork (explaining p x e) left (Err f) new → a ≡ unknown_answer (codes "steps") → AnswersSaturated p x left a
 steps_told p x left new e f a probe which did is =
     let w = explaining p x e in
     short (e, at new did.notes, probe, ap (ended w.value) (did.charged.steps (ap Err which)).end) is
 
-pub range_told : (p : Problem) (x : Proof) (left new : Funds) (e : List ℤ) (f : StepFault) (n : Place) (a : Answer) → probe_values p.existential_types ≡ Some e → f ≡ Overflow n → Does (explaining p x e) left (Err f) new → a ≡ unknown_answer (codes "overflow")
+pub range_told : (p : Problem) (x : Proof) (left new : Funds) (e : List ℤ) (f : StepFault) (n : Place) (a : Answer) → probe_values p.existential_types ≡ Some e → f ≡ Overflow n → DoesWork (explaining p x e) left (Err f) new → a ≡ unknown_answer (codes "overflow")
     → AnswersSaturated p x left a
 range_told p x left new e f n a probe which did is =
     let w = explaining p x e in

@@ -5,7 +5,7 @@ use Rattle.linear_term.specs.declared.range.Place.{Place}
 use Rattle.purse.specs.Trace.{Funds, At, at}
 use Rattle.typed_formula.specs.declared.world.Table.{Table}
 use Rattle.proof_tree.specs.Proof.{Proof}
-use Rattle.search.specs.Run.{Ending, ending, ends_with, out_of_steps, overflows}
+use Rattle.purse.specs.Ending.{Ending, ending, ends_with, out_of_steps, overflows}
 use Rattle.pri_typing.specs.declared.problem.Problem.{Problem}
 use Rattle.pri_printer.specs.Counterexample.{counterexample_text}
 use Rattle.answers.specs.Answer.{Answer, line, says_line, unknown_answer}

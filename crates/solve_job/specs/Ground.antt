@@ -1,5 +1,6 @@
 -- Problems of numbers alone.
 use Rattle.std.specs.Prelude.{◌≡◌, ◌≤◌, ◌+◌, ◌*◌, ℕ, List}
+use Rattle.purse.specs.Ending.{IsOutOfSteps}
 use Rattle.typed_formula.specs.Formula.{Formula, formula, applies, for_all, for_some}
 use Rattle.pri_typing.specs.declared.problem.Problem.{Problem}
 use Rattle.pri_typing.specs.Everywhere.{Everywhere}
@@ -8,7 +9,6 @@ use Rattle.formula.specs.Sizes.{size}
 use Rattle.encoding.specs.Problems.{constants, problem_root}
 use Rattle.problem_file.specs.Answers.{Poses}
 use Rattle.problem_file.specs.Encoded.{Fits}
-use Rattle.solve_job.specs.Causes.{IsOutOfSteps}
 use Rattle.solve_job.specs.Solved.{run_end}
 
 -- neither a predicate nor a quantifier

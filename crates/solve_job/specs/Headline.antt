@@ -3,7 +3,7 @@ use Rattle.std.specs.Prelude.{◌≡◌, ◌≢◌, ◌<◌, ℕ, ℤ, List, [],
 use Rattle.std.specs.List.{concat}
 use Rattle.integers.specs.Entry.{entry}
 use Rattle.typed_formula.specs.Truth.{Meaning}
-use Rattle.solution_rules.specs.Best.{IsNearer}
+use Rattle.solution_laws.specs.Best.{IsNearer}
 use Rattle.pri_typing.specs.declared.problem.Problem.{Problem}
 use Rattle.pri_typing.specs.Problems.{Holds, IsPure, IsRefuted, IsTrueAt}
 use Rattle.answers.specs.Answer.{Answer, line}

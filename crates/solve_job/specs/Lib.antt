@@ -6,3 +6,7 @@ pub mod Told
 pub mod Proved
 pub mod Shaping
 pub mod Explained
+pub mod Drilled
+pub use Rattle.interpolant_lines.specs.Blocks
+pub use Rattle.interpolant_lines.specs.Ends
+pub use Rattle.interpolant_lines.specs.Seams

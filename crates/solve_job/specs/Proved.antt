@@ -10,13 +10,13 @@ use Rattle.proof_tree.specs.declared.run.Verdict.TheVariants as verdict
 use Rattle.proof_tree.specs.Proves.{Proves, proof_walk}
 use Rattle.proof_tree.specs.Views.{proof_of}
 use Rattle.search.specs.Run as run
-use Rattle.search.specs.Run.{Ending, ends_with}
-use Rattle.proof_text.specs.declared.tokens.Token.{Token}
-use Rattle.proof_text.specs.Spellings.{spelled}
-use Rattle.tree_lines.specs.Lines.{proof_text}
-use Rattle.tree_text.specs.Shaped.{Holds}
-use Rattle.proof_writing.specs.Short.{short_text}
-use Rattle.proof_lines.specs.Body.{body}
+use Rattle.purse.specs.Ending.{Ending, ends_with}
+use Rattle.proof_tokens.specs.declared.tokens.Token.{Token}
+use Rattle.proof_tokens.specs.Spellings.{spelled}
+use Rattle.proof_line.specs.Lines.{proof_text}
+use Rattle.proof_grammar.specs.Shaped.{IsTextOfProof}
+use Rattle.proof_printer.specs.Short.{short_text}
+use Rattle.proof_file.specs.Body.{body}
 use Rattle.encoding.specs.Problems.{problem_root}
 use Rattle.pri_typing.specs.declared.problem.Problem.{Problem}
 use Rattle.answers.specs.Answer.{Answer, line}
@@ -38,7 +38,7 @@ pub record PrintsProof (form : ProofForm) (charges : ℕ) (x : Proof) (c : Concl
   pub text : List ℕ
   pub line : part ≡ line (codes "proof:") ++ text
   pub is : text ≡ spelled (form_text form charges x c)
-  pub holds : Holds text charges x c
+  pub holds : IsTextOfProof text charges x c
   pub own : body text ≡ text
 
 -- how much a check of the tree x with the conclusion c charges, for the encoding of the problem
@@ -46,15 +46,15 @@ abbrev pub charges_of : Problem → Proof → Conclusion → ℕ
 charges_of p x c = total (proof_walk (problem_root p).value (length p.existentials) x c).events
 
 -- what is printed of the proof of a run that ends so
-abbrev pub PrintsEnd : ProofForm → Problem → Ending run.Answer → List ℕ → Type 0
+abbrev pub PrintsEnd : ProofForm → Problem → Ending run.RunAnswer → List ℕ → Type 0
 PrintsEnd form p (ends_with (run.valid vs x) stands) part = PrintsProof form (charges_of p x (Solution vs)) x (Solution vs) part
 PrintsEnd form p (ends_with (run.invalid log x) stands) part = PrintsProof form (charges_of p x (Nothing (record { entries = log }))) x (Nothing (record { entries = log })) part
 PrintsEnd form p _ part = part ≡ []
 
 -- the part behind the answer: the proof, in the form that is asked for
-abbrev pub IsPart : Option ProofForm → Problem → Ending run.Answer → List ℕ → Type 0
-IsPart (Some form) p end part = PrintsEnd form p end part
-IsPart None p end part = part ≡ []
+abbrev pub IsProofPart : Option ProofForm → Problem → Ending run.RunAnswer → List ℕ → Type 0
+IsProofPart (Some form) p end part = PrintsEnd form p end part
+IsProofPart None p end part = part ≡ []
 
 -- an answer with a part of its text behind it
 abbrev pub extended : Answer → List ℕ → Answer
@@ -65,7 +65,7 @@ pub record AnswersRunAs (asked : Option ProofForm) (budget : ℕ) (p : Problem) 
   pub plain : Answer
   pub answers : AnswersRun budget p plain
   pub part : List ℕ
-  pub is_part : IsPart asked p (run_end budget p) part
+  pub is_part : IsProofPart asked p (run_end budget p) part
   pub whole : answer ≡ extended plain part
 
 -- the answer of `solve` with this budget to the bytes of a file, with the proof or without

@@ -5,7 +5,7 @@ use Rattle.purse.specs.declared.log.Entry.{Entry}
 use Rattle.purse.specs.Trace.{At}
 use Rattle.proof_tree.specs.Proof.{Proof, given}
 use Rattle.search.specs.Run as run
-use Rattle.search.specs.Run.{Ending, ends_with, out_of_steps, overflows}
+use Rattle.purse.specs.Ending.{Ending, ends_with, out_of_steps, overflows}
 use Rattle.pri_typing.specs.declared.problem.Problem.{Problem}
 use Rattle.answers.specs.Answer.{Answer, line, says_line, unknown_answer}
 use Rattle.constraint_text.specs.Constraint.{IsTextOf}
@@ -26,7 +26,7 @@ abbrev pub closed_answer : List ℕ → Answer
 closed_answer lines = record { status = 0; text = line (codes "VALID") ++ lines }
 
 -- the answer to a problem whose run ends so; the blocks have the purse as the run left it
-pub data AnswersEnd (p : Problem) (end : Ending run.Answer) (answer : Answer) : Type 0 where
+pub data AnswersEnd (p : Problem) (end : Ending run.RunAnswer) (answer : Answer) : Type 0 where
   closed : (vs : List ℤ) (x : Proof) (stands : At) (lines : List ℕ) → end ≡ ends_with (run.valid vs x) stands → p.existentials ≡ [] → IsBlocksText p stands.funds lines
       → answer ≡ closed_answer lines → AnswersEnd p end answer
   valid : (vs : List ℤ) (x : Proof) (stands : At) (text : List ℕ) → end ≡ ends_with (run.valid vs x) stands → p.existentials ≢ [] → IsTextOf p (given x) text

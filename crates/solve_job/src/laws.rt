@@ -1,7 +1,7 @@
 // What the answers of `solve` are and mean, each the contract of a function with nothing to do.
 
 ghost use Rattle.answers.specs.Answer.{Answer};
-ghost use Rattle.solve_job.specs.Causes.{Causes, Decides};
+ghost use Rattle.solve_job.specs.Causes.{SolveCauses, SolveDecides};
 ghost use Rattle.solve_job.specs.Ground.{IsEnough};
 ghost use Rattle.solve_job.specs.Headline.{Headline};
 ghost use Rattle.solve_job.specs.Proved.{IsSolvedAs};
@@ -27,14 +27,14 @@ pub fn headline_law()
 
 /// Each answer comes exactly where its row of the table of answers says, and so does each line of an `\interpolant` block.
 pub fn causes_law()
-    ensures { (budget : ℕ) (bytes : List ℕ) (a : Answer) → IsSolved budget bytes a → Causes budget bytes a }
+    ensures { (budget : ℕ) (bytes : List ℕ) (a : Answer) → IsSolved budget bytes a → SolveCauses budget bytes a }
 {}
 
 /// A problem without predicates and functions whose encoding fits is valid or invalid, unless the budget ends or a number
 /// leaves the range. One in which every quantifier over an application is universal needs one round of the search: it is valid
 /// or invalid, unless the budget ends, a number leaves the range or a branch is too long.
 pub fn decided_law()
-    ensures { (budget : ℕ) (bytes : List ℕ) (a : Answer) → IsSolved budget bytes a → Decides budget bytes a }
+    ensures { (budget : ℕ) (bytes : List ℕ) (a : Answer) → IsSolved budget bytes a → SolveDecides budget bytes a }
 {}
 
 /// Seven steps a node of its encoding, and three more, are enough for a problem of numbers: without constants, quantifiers,

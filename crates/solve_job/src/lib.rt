@@ -1,11 +1,14 @@
-// The job `solve`: what it answers to the bytes of a problem's file, and what its answers mean.
+// The job `solve`: what it answers to the bytes of a problem's file, and what its answers mean; and the job `drill`, which answers
+// to a problem that the program makes as `solve` does.
 #![tactic(auto)]
 
+mod drilling;
 mod laws;
 mod proving;
 mod refuting;
 mod solving;
 mod telling;
 
+pub use drilling::drilled;
 pub use laws::{causes_law, decided_law, enough_law, headline_law, one_answer_law};
 pub use solving::answer;

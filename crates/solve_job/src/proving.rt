@@ -1,17 +1,17 @@
 // How a proof is told.
 
 ghost use Rattle.answers.specs.Answer.{answer_of};
-ghost use Rattle.proof_text.specs.Spellings.{spelled};
+ghost use Rattle.proof_tokens.specs.Spellings.{spelled};
 ghost use Rattle.proof_tree.specs.Views.{proof_of};
 ghost use Rattle.solve_job.specs.Proved.{IsProofTold, PrintsTree, extended, form_text};
 ghost use Rattle.solve_job.specs.Shaping.{IsPrintable};
 ghost use Rattle.std.specs.Prelude.{◌≡◌, ◌++◌, IfOk, OnOk, List, ℕ};
-ghost use Rattle.tree_text.specs.Shaped.{Holds, IsShaped};
+ghost use Rattle.proof_grammar.specs.Shaped.{IsTextOfProof, IsWritable};
 
 use answers::{Output, ProofForm};
 use linear_term::Memory;
+use proof_printer::{know_typed, write_short, write_tree};
 use proof_tree::Tree;
-use proof_writing::{know_typed, write_short, write_tree};
 use std::alloc::Global;
 
 /// The answer with the proof behind it that the tree is, in the form that is asked for, if one is.
@@ -48,9 +48,9 @@ fn print_proof(alloc: Global, plain: Output, tree: &Tree, form: ProofForm) -> Re
 
 // Writes the text of a proof in this form behind a text.
 fn write_form(alloc: Global, tree: &Tree, form: ProofForm, out: &mut Vec<u8>) -> Result<(), Memory>
-    requires { IsShaped tree.now.charges (proof_of tree.now.root) tree.now.conclusion }
+    requires { IsWritable tree.now.charges (proof_of tree.now.root) tree.now.conclusion }
     ensures text { OnOk result (out.new.items ≡ out.old.items ++ spelled (form_text form tree.now.charges (proof_of tree.now.root) tree.now.conclusion)) }
-    ensures holds { OnOk result (Holds (spelled (form_text form tree.now.charges (proof_of tree.now.root) tree.now.conclusion)) tree.now.charges (proof_of tree.now.root) tree.now.conclusion) }
+    ensures holds { OnOk result (IsTextOfProof (spelled (form_text form tree.now.charges (proof_of tree.now.root) tree.now.conclusion)) tree.now.charges (proof_of tree.now.root) tree.now.conclusion) }
 {
     match form {
         ProofForm::Whole => write_tree(alloc, tree, out),

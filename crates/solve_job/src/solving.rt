@@ -1,6 +1,7 @@
 // The answer to a problem's file.
 
 ghost use Rattle.answers.specs.Answer.{answer_of};
+ghost use Rattle.limits.specs.Limits.{most_budget};
 ghost use Rattle.pri_typing.specs.WellFormed.{HasDistinctNames, HasIdentifiers, IsWellFormed};
 ghost use Rattle.problem_file.specs.Encoded.{AnswersEncoded, IsEncoded};
 ghost use Rattle.problem_file.specs.Cuttable.{IsCuttable};
@@ -29,7 +30,7 @@ pub fn answer(
     asked: Option<ProofForm>,
 ) -> Result<Output, Memory>
     requires bytes { length bytes.now < 2 ^ 32 }
-    requires budget { budget ≤ 1000000000 }
+    requires budget { budget ≤ most_budget }
     ensures { IfOk result (λ output. IsSolvedAs asked budget bytes.now (answer_of output)) }
 {
     match read_problem(alloc, bytes) {
@@ -49,7 +50,7 @@ fn problem_answer(
     requires distinct { HasDistinctNames problem.now }
     requires identifiers { HasIdentifiers problem.now }
     requires cuts { IsCuttable problem.now }
-    requires budget { budget ≤ 1000000000 }
+    requires budget { budget ≤ most_budget }
     ensures { IfOk result (λ output. AnswersEncoded (AnswersRunAs asked budget) problem.now (answer_of output)) }
 {
     match encode_problem(alloc, problem) {
@@ -71,7 +72,7 @@ fn run_answer(
     requires identifiers { HasIdentifiers problem.now }
     requires cuts { IsCuttable problem.now }
     requires encoded { IsEncoded problem.now encoded.now }
-    requires budget { budget ≤ 1000000000 }
+    requires budget { budget ≤ most_budget }
     ensures { IfOk result (λ output. AnswersRunAs asked budget problem.now (answer_of output)) }
 {
     match asked {
@@ -93,7 +94,7 @@ fn with_tree(
     requires identifiers { HasIdentifiers problem.now }
     requires cuts { IsCuttable problem.now }
     requires encoded { IsEncoded problem.now encoded.now }
-    requires budget { budget ≤ 1000000000 }
+    requires budget { budget ≤ most_budget }
     ensures { IfOk result (λ output. AnswersRunAs asked budget problem.now (answer_of output)) }
 {
     let mut purse = Purse::new(budget);
@@ -135,7 +136,7 @@ fn without_tree(
     requires identifiers { HasIdentifiers problem.now }
     requires cuts { IsCuttable problem.now }
     requires encoded { IsEncoded problem.now encoded.now }
-    requires budget { budget ≤ 1000000000 }
+    requires budget { budget ≤ most_budget }
     ensures { IfOk result (λ output. AnswersRunAs None budget problem.now (answer_of output)) }
 {
     let mut purse = Purse::new(budget);

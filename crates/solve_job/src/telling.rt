@@ -1,7 +1,7 @@
 // How it is told that a problem is valid, and what a search without an answer met.
 
 ghost use Rattle.answers.specs.Answer.{answer_of};
-ghost use Rattle.elim_rules.specs.Whole.{AreOver};
+ghost use Rattle.elim_laws.specs.Whole.{AreOver};
 ghost use Rattle.pri_typing.specs.WellFormed.{HasDistinctNames, HasIdentifiers, IsWellFormed};
 ghost use Rattle.encoding.specs.Problems.{is_large, problem_root};
 ghost use Rattle.pri_typing.specs.Problems.{Holds};

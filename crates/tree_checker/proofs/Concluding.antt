@@ -11,10 +11,10 @@ use Rattle.purse.proofs.Charging.{Left, left_ends, left_next, work_err, work_jus
 use Rattle.purse.proofs.Following.{follow_err, follow_free, follow_just, follow_ok}
 use Rattle.clause_set.specs.declared.literal.Literal.{Literal}
 use Rattle.clause_set.specs.Dnfs.{tidied}
-use Rattle.elim_rules.specs.Logs.{by_whole_log, names_by_log}
+use Rattle.elim_laws.specs.Logs.{by_whole_log, names_by_log}
 use Rattle.elim_check.specs.Checked.{Checked}
 use Rattle.elim_check.specs.declared.fault.LogFault.{LogFault}
-use Rattle.solution_rules.specs.Solutions.{valued_clause}
+use Rattle.solution_laws.specs.Solutions.{valued_clause}
 use Rattle.proof_tree.specs.declared.run.Verdict.{Verdict}
 use Rattle.proof_tree.specs.declared.run.Verdict.TheVariants.{Invalid}
 use Rattle.proof_tree.specs.Proves.{values_put, verdict_if}

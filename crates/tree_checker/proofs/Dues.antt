@@ -2,9 +2,9 @@
 use Rattle.std.proofs.Common.{◌≡◌, ◌∙◌, ℕ, suc, List, [], ◌∷◌, ◌++◌, length, append_assoc, append-nil, Option, Some, refl, sym, ap, subst, arith}
 use Rattle.std.specs.Prelude.{map}
 use Rattle.clause_set.specs.declared.literal.Literal.{Literal}
-use Rattle.proof_stream.specs.Told.{Tells}
-use Rattle.proof_stream.specs.declared.Line.{Line}
-use Rattle.proof_stream.specs.declared.Line.TheVariants as line
+use Rattle.line_source.specs.Told.{TellsLine}
+use Rattle.line_source.specs.declared.Line.{Line}
+use Rattle.line_source.specs.declared.Line.TheVariants as line
 use Rattle.proof_tree.specs.declared.node.Conclusion.{Conclusion}
 use Rattle.proof_tree.specs.declared.node.Node.{Node, out-Node}
 use Rattle.proof_tree.specs.declared.node.Node.TheFolds.{fold_out-Node}
@@ -12,9 +12,9 @@ use Rattle.proof_tree.specs.Proof.{Proof, node, proofs}
 use Rattle.proof_tree.specs.Views.{proof_of, proof_step}
 use Rattle.proof_tree.specs.Walk.{width}
 use Rattle.purse.specs.declared.log.ElimLog.{ElimLog}
-use Rattle.tree_lines.specs.Lines.{last_lines}
-use Rattle.tree_lines.specs.declared.lines.TextLine.{TextLine}
-use Rattle.tree_checker.specs.Frames.{IsTold, all_due, below, due, ends, row_line}
+use Rattle.proof_line.specs.Lines.{last_lines}
+use Rattle.proof_line.specs.declared.lines.TextLine.{TextLine}
+use Rattle.tree_checker.specs.Frames.{IsLineTold, all_due, below, due, ends, row_line}
 use Rattle.tree_checker.specs.Told.{told_all, told_lines, told_width}
 use Rattle.tree_checker.specs.declared.frames.Frame.{Frame}
 
@@ -27,9 +27,9 @@ widths [] = refl
 widths (x ∷ xs) = ap (λ (n : ℕ). suc n) (widths xs)
 
 pub row_told : (x : Node) (k : ℕ) (log : ElimLog) (c : Conclusion) → k ≡ told_width (out-Node x).rule (length (out-Node x).children) (out-Node x).log.entries
-    → Tells (Some (line.Row (out-Node x).rule k)) log c (row_line (proof_of x))
+    → TellsLine (Some (line.Row (out-Node x).rule k)) log c (row_line (proof_of x))
 row_told x k log c is =
-    subst (λ (y : Proof). Tells (Some (line.Row (out-Node x).rule k)) log c (row_line y)) (sym (node_is x)) (refl, is ∙ ap (λ n. told_width (out-Node x).rule n (out-Node x).log.entries) (sym (widths (out-Node x).children)))
+    subst (λ (y : Proof). TellsLine (Some (line.Row (out-Node x).rule k)) log c (row_line y)) (sym (node_is x)) (refl, is ∙ ap (λ n. told_width (out-Node x).rule n (out-Node x).log.entries) (sym (widths (out-Node x).children)))
 
 pub behind_is : (x : Node) (rest : List Node) (log : Option ElimLog) (gives : List (List Literal)) → rest ≡ (out-Node x).children → ((d : List (List Literal)) → ends log d ≡ last_lines (out-Node x).rule (out-Node x).log.entries d)
     → gives ≡ (out-Node x).gives → told_all (proofs (map proof_of rest)) ++ ends log gives ≡ below (proof_of x)
@@ -49,12 +49,12 @@ all_due_last [] f = sym (append-nil (due f))
 all_due_last (g ∷ fs) f = ap (λ z. z ++ due g) (all_due_last fs f) ∙ append_assoc (due f) (all_due fs) (due g)
 
 -- ---- what was told
-pub begun_told : (x : Proof) (f : Frame) (r : Line) (log : ElimLog) (c : Conclusion) (rest : List TextLine) → Tells (Some r) log c (row_line x) → due f ≡ below x → IsTold (told_lines x ++ rest) (Some r) log c (due f ++ rest)
+pub begun_told : (x : Proof) (f : Frame) (r : Line) (log : ElimLog) (c : Conclusion) (rest : List TextLine) → TellsLine (Some r) log c (row_line x) → due f ≡ below x → IsLineTold (told_lines x ++ rest) (Some r) log c (due f ++ rest)
 begun_told x f r log c rest told is = (row_line x, told, told_split x rest ∙ ap (λ z. row_line x ∷ (z ++ rest)) (sym is))
 
 pub premise_told : (x : Node) (xs : List Node) (log : Option ElimLog) (gives : List (List Literal)) (f g h : Frame) (fs gs : List Frame) (end : List TextLine) (r : Line) (now : ElimLog) (c : Conclusion)
-    → due f ≡ told_all (proofs (map proof_of (x ∷ xs))) ++ ends log gives → due g ≡ told_all (proofs (map proof_of xs)) ++ ends log gives → gs ≡ fs ++ g ∷ [] → Tells (Some r) now c (row_line (proof_of x)) → due h ≡ below (proof_of x)
-    → IsTold (due f ++ (all_due fs ++ end)) (Some r) now c (due h ++ (all_due gs ++ end))
+    → due f ≡ told_all (proofs (map proof_of (x ∷ xs))) ++ ends log gives → due g ≡ told_all (proofs (map proof_of xs)) ++ ends log gives → gs ≡ fs ++ g ∷ [] → TellsLine (Some r) now c (row_line (proof_of x)) → due h ≡ below (proof_of x)
+    → IsLineTold (due f ++ (all_due fs ++ end)) (Some r) now c (due h ++ (all_due gs ++ end))
 premise_told x xs log gives f g h fs gs end r now c f_is g_is gs_is told h_is =
     let t = told_all (proofs (map proof_of xs)) in
     let e = ends log gives in
@@ -64,11 +64,11 @@ premise_told x xs log gives f g h fs gs end r now c f_is g_is gs_is told h_is =
     ap (λ z. z ++ (all_due fs ++ end)) (f_is ∙ append_assoc (told_lines y) t e) ∙ append_assoc (told_lines y) (t ++ e) (all_due fs ++ end) in
     (row_line y, told, before ∙ told_split y ((t ++ e) ++ (all_due fs ++ end)) ∙ (λ i. row_line y ∷ (sym h_is i ++ sym others i)))
 
-pub told_next : (before after : List TextLine) (x : Option Line) (log : ElimLog) (c : Conclusion) → IsTold before x log c after → (l : TextLine) (ls : List TextLine) → l ∷ ls ≡ before → Tells x log c l × (ls ≡ after)
+pub told_next : (before after : List TextLine) (x : Option Line) (log : ElimLog) (c : Conclusion) → IsLineTold before x log c after → (l : TextLine) (ls : List TextLine) → l ∷ ls ≡ before → TellsLine x log c l × (ls ≡ after)
 told_next before after x log c t l ls is =
     let both : l ∷ ls ≡ t.0 ∷ after = is ∙ t.2 in
     let first : t.0 ≡ l = cc in
-    let rest : ls ≡ after = cc in (subst (Tells x log c) first t.1, rest)
+    let rest : ls ≡ after = cc in (subst (TellsLine x log c) first t.1, rest)
 
-pub never_ends : (before after : List TextLine) (x : Option Line) (log : ElimLog) (c : Conclusion) → IsTold before x log c after → [] ≡ before → ⊥
+pub never_ends : (before after : List TextLine) (x : Option Line) (log : ElimLog) (c : Conclusion) → IsLineTold before x log c after → [] ≡ before → ⊥
 never_ends before after x log c t is = let both : [] ≡ t.0 ∷ after = is ∙ t.2 in absurd (cc)

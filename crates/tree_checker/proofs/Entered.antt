@@ -15,9 +15,9 @@ use Rattle.sequent.specs.Sequent.{Sequent}
 use Rattle.proof_tree.specs.Proves.{rule_of}
 use Rattle.proof_tree.specs.Proof.{Proof, Proofs, no_proof, and_proof, node}
 use Rattle.proof_tree.specs.Walk.{all_walked, fee, fits, left_at, nodes_in, on_some, walked, width}
-use Rattle.tree_lines.specs.declared.lines.TextLine.{TextLine}
-use Rattle.tree_lines.specs.declared.lines.TextLine.TheVariants as w
-use Rattle.tree_lines.specs.Lines.{last_lines}
+use Rattle.proof_line.specs.declared.lines.TextLine.{TextLine}
+use Rattle.proof_line.specs.declared.lines.TextLine.TheVariants as w
+use Rattle.proof_line.specs.Lines.{last_lines}
 use Rattle.tree_checker.specs.declared.course.Course.{Course}
 use Rattle.tree_checker.specs.Hand.{at_node}
 use Rattle.tree_checker.specs.Told.{HasLevels, HaveLevels, told_all, told_lines, told_width}

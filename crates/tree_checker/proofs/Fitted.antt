@@ -7,10 +7,10 @@ use Rattle.sequent.specs.Rules.{applies, place, premises_of}
 use Rattle.sequent.specs.Sequent.{Sequent}
 use Rattle.proof_tree.specs.Proof.{Proof, Proofs, node, no_proof, and_proof}
 use Rattle.proof_tree.specs.Walk.{eliminates, fits, is_empty, width}
-use Rattle.tree_lines.specs.declared.lines.TextLine.TheVariants as w
-use Rattle.tree_lines.specs.Lines.{last_lines, lines, lines_all}
-use Rattle.tree_lines.specs.Owed.{HasWidth, Shallow}
-use Rattle.tree_text.specs.Shaped.{AreShapedNodes, IsShapedNode}
+use Rattle.proof_line.specs.declared.lines.TextLine.TheVariants as w
+use Rattle.proof_line.specs.Lines.{last_lines, lines, lines_all}
+use Rattle.proof_line.specs.Owed.{HasWidth, Shallow}
+use Rattle.proof_grammar.specs.Shaped.{AreShapedNodes, IsShapedNode}
 use Rattle.tree_checker.specs.Told.{HasLevels, HaveLevels, told_all, told_lines, told_width, too_many}
 
 -- ---- the count that a row tells, at a rule that applies

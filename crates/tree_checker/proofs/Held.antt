@@ -4,16 +4,16 @@ use Rattle.purse.specs.declared.log.ElimLog.{ElimLog}
 use Rattle.formula.specs.Form.{Form}
 use Rattle.proof_tree.specs.declared.node.Conclusion.{Conclusion}
 use Rattle.proof_tree.specs.Proof.{Proof}
-use Rattle.tree_lines.specs.Lines.{lines}
-use Rattle.tree_lines.specs.Owed.{Shallow}
-use Rattle.tree_lines.specs.declared.lines.TextLine.TheVariants as w
-use Rattle.tree_text.specs.Shaped.{IsShapedNode}
-use Rattle.tree_text.specs.declared.walk.Walk.{Walk}
-use Rattle.proof_lines.specs.declared.refusal.ProofRefusal.{ProofRefusal}
-use Rattle.proof_lines.specs.declared.refusal.ProofRefusal.TheVariants as refusal
-use Rattle.proof_lines.specs.Body.{body}
-use Rattle.proof_lines.specs.Coming.{Coming, HoldsAll}
-use Rattle.proof_lines.specs.Refused.{RefusesFile}
+use Rattle.proof_line.specs.Lines.{lines}
+use Rattle.proof_line.specs.Owed.{Shallow}
+use Rattle.proof_line.specs.declared.lines.TextLine.TheVariants as w
+use Rattle.proof_grammar.specs.Shaped.{IsShapedNode}
+use Rattle.proof_grammar.specs.declared.walk.Walk.{Walk}
+use Rattle.proof_file.specs.declared.refusal.ProofRefusal.{ProofRefusal}
+use Rattle.proof_file.specs.declared.refusal.ProofRefusal.TheVariants as refusal
+use Rattle.proof_file.specs.Body.{body}
+use Rattle.proof_file.specs.Coming.{Coming, HoldsAll}
+use Rattle.proof_file.specs.Refused.{RefusesProofFile}
 use Rattle.tree_checker.specs.declared.checking.Checked.{Checked}
 use Rattle.tree_checker.specs.declared.checking.CheckFault.{CheckFault}
 use Rattle.tree_checker.specs.declared.checking.CheckFault.TheVariants as fault
@@ -36,7 +36,7 @@ held_checked f n charges amount ps walk rest r t same is checks bytes h =
     (judged_told f n bytes r (charges, h.0, h.1, h.2, subst (λ k. ChecksAs f n h.0 h.1 k r) same (checks h.0 h.1 (h.2).shaped.root h.3)))
 
 -- a file that holds none is refused
-pub file_refused : (f : Form) (n : ℕ) (bytes : List ℕ) (refusal : ProofRefusal) (e : TextFault) → e ≡ refused_as refusal → RefusesFile bytes refusal → ChecksText f n bytes (Err e)
+pub file_refused : (f : Form) (n : ℕ) (bytes : List ℕ) (refusal : ProofRefusal) (e : TextFault) → e ≡ refused_as refusal → RefusesProofFile bytes refusal → ChecksText f n bytes (Err e)
 file_refused f n bytes (refusal.Syntax at) e is h = subst (λ z. ChecksText f n bytes (Err z)) (sym is) h
 file_refused f n bytes (refusal.Deep at) e is h = subst (λ z. ChecksText f n bytes (Err z)) (sym is) h
 file_refused f n bytes refusal.Memory e is h = subst (λ z. ChecksText f n bytes (Err z)) (sym is) tt

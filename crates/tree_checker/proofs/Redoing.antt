@@ -14,7 +14,7 @@ use Rattle.clause_set.specs.declared.literal.Literal.{Literal}
 use Rattle.formula.specs.Form.{Form}
 use Rattle.formula.specs.Made.{Made}
 use Rattle.formula.specs.Sizes.{depth}
-use Rattle.elim_rules.specs.Logs.{Reader, rest, by_log, by_whole_log, go_on, read_next, reads_none, used_up, every_by_log}
+use Rattle.elim_laws.specs.Logs.{Reader, rest, by_log, by_whole_log, go_on, read_next, reads_none, used_up, every_by_log}
 use Rattle.elim_check.specs.Checked.{Checked, EndsAt}
 use Rattle.elim_check.specs.Reading.{noted, reading}
 use Rattle.elim_check.specs.declared.fault.LogFault.{LogFault}

@@ -11,7 +11,7 @@ use Rattle.clause_set.specs.declared.literal.Literal.{Literal}
 use Rattle.sequent.specs.Sequent.{Sequent}
 use Rattle.proof_tree.specs.Proof.{Proof, Proofs, no_proof, and_proof, given, all_given}
 use Rattle.proof_tree.specs.Walk.{all_walked, nodes_in, nodes_in_all, on_some, walked, width}
-use Rattle.tree_lines.specs.declared.lines.TextLine.{TextLine}
+use Rattle.proof_line.specs.declared.lines.TextLine.{TextLine}
 use Rattle.tree_checker.specs.declared.course.Course.{Course}
 use Rattle.tree_checker.specs.Hand.{at_node}
 use Rattle.tree_checker.specs.Told.{HasLevels, HaveLevels, told_all, told_lines}

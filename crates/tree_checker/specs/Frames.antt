@@ -2,17 +2,17 @@
 use Rattle.std.specs.Prelude.{◌≡◌, List, [], ◌∷◌, ◌++◌, map, Option, None, Some}
 use Rattle.std.specs.Option.{option_copied}
 use Rattle.clause_set.specs.declared.literal.Literal.{Literal}
-use Rattle.proof_stream.specs.Told.{Tells}
-use Rattle.proof_stream.specs.declared.Line.{Line}
+use Rattle.line_source.specs.Told.{TellsLine}
+use Rattle.line_source.specs.declared.Line.{Line}
 use Rattle.proof_tree.specs.declared.node.Conclusion.{Conclusion}
 use Rattle.proof_tree.specs.declared.node.Tree.{Tree}
 use Rattle.proof_tree.specs.Proof.{Proof, node, proofs}
 use Rattle.proof_tree.specs.Views.{proof_of}
 use Rattle.proof_tree.specs.Walk.{width}
 use Rattle.purse.specs.declared.log.ElimLog.{ElimLog}
-use Rattle.tree_lines.specs.Lines.{last_lines}
-use Rattle.tree_lines.specs.declared.lines.TextLine.{TextLine}
-use Rattle.tree_lines.specs.declared.lines.TextLine.TheVariants as w
+use Rattle.proof_line.specs.Lines.{last_lines}
+use Rattle.proof_line.specs.declared.lines.TextLine.{TextLine}
+use Rattle.proof_line.specs.declared.lines.TextLine.TheVariants as w
 use Rattle.tree_checker.specs.Told.{told_all, told_lines, told_width}
 use Rattle.tree_checker.specs.declared.frames.Frame.{Frame}
 use Rattle.tree_checker.specs.declared.frames.Stage.{Stage}
@@ -47,5 +47,5 @@ still_due End t fs = w.End t.conclusion ∷ []
 still_due Done t fs = []
 
 -- the line that was told came first of those that were due, and the others are due
-abbrev pub IsTold : List TextLine → Option Line → ElimLog → Conclusion → List TextLine → Type 0
-IsTold before x log c after = (l : TextLine) × Tells x log c l × (before ≡ l ∷ after)
+abbrev pub IsLineTold : List TextLine → Option Line → ElimLog → Conclusion → List TextLine → Type 0
+IsLineTold before x log c after = (l : TextLine) × TellsLine x log c l × (before ≡ l ∷ after)

@@ -4,9 +4,9 @@ use Rattle.purse.specs.declared.log.Entry.{Entry}
 use Rattle.sequent.specs.declared.member.Pick.{Pick}
 use Rattle.proof_tree.specs.Proof.{Proof, Proofs, node, no_proof, and_proof}
 use Rattle.proof_tree.specs.Walk.{eliminates, is_empty, width}
-use Rattle.tree_lines.specs.declared.lines.TextLine.{TextLine}
-use Rattle.tree_lines.specs.declared.lines.TextLine.TheVariants as w
-use Rattle.tree_lines.specs.Lines.{last_lines}
+use Rattle.proof_line.specs.declared.lines.TextLine.{TextLine}
+use Rattle.proof_line.specs.declared.lines.TextLine.TheVariants as w
+use Rattle.proof_line.specs.Lines.{last_lines}
 
 -- more premises than a rule has
 abbrev pub too_many : ℕ

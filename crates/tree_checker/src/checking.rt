@@ -1,8 +1,8 @@
 // A check of a whole proof: the walk over its tree, and then its conclusion.
 
-ghost use Rattle.formula.specs.Form.{IsFormOver};
-ghost use Rattle.formula.specs.Sizes as sizes;
 ghost use Rattle.formula.specs.Tree.{form};
+ghost use Rattle.limits.specs.Limits.{branch_limit, most_budget};
+ghost use Rattle.formula.specs.Searchable.{IsSearchable};
 ghost use Rattle.open_branch.specs.Standing.{standing};
 ghost use Rattle.proof_tree.specs.Proof.{Proof};
 ghost use Rattle.proof_tree.specs.Proves as proves;
@@ -11,10 +11,10 @@ ghost use Rattle.std.specs.Prelude.{◌≡◌, ◌++◌, ◌∷◌, ◌≤◌, [
 ghost use Rattle.tree_checker.specs.Answering.{ChecksAs, HasChecked, HasConcluded, answer_at};
 ghost use Rattle.tree_checker.specs.Told.{HasLevels, told_lines};
 ghost use Rattle.tree_checker.specs.Walking.{IsPaid};
-ghost use Rattle.tree_lines.specs.Lines as text;
-ghost use Rattle.tree_lines.specs.Owed.{Shallow};
-ghost use Rattle.tree_lines.specs.declared.lines.TextLine.TheVariants as w;
-ghost use Rattle.tree_text.specs.Shaped.{IsShapedNode};
+ghost use Rattle.proof_line.specs.Lines as text;
+ghost use Rattle.proof_line.specs.Owed.{Shallow};
+ghost use Rattle.proof_line.specs.declared.lines.TextLine.TheVariants as w;
+ghost use Rattle.proof_grammar.specs.Shaped.{IsShapedNode};
 
 use crate::conclusion::{conclude, is_exact};
 use crate::course::Course;
@@ -22,9 +22,10 @@ use crate::reading::{read_end, read_row};
 use crate::walk::enter;
 use clause_set::Dnf;
 use formula::Core;
+use limits::BRANCH_LIMIT;
+use line_source::ProofLines;
 use linear_term::{Memory, Place};
 use open_branch::Branch;
-use proof_stream::ProofLines;
 use proof_tree::Verdict;
 use purse::{Purse, StepFault};
 use sequent::{Pick, start};
@@ -61,13 +62,10 @@ pub fn check_lines<L: ProofLines>(
     charges: u64,
     lines: &mut L,
 ) -> Result<Checked, CheckFault>
-    requires over { IsFormOver constants (form root.now) }
-    requires size { sizes.size (form root.now) ≤ 1000000 }
-    requires depth { sizes.depth (form root.now) ≤ 2000 }
-    requires constants { constants ≤ 1000 }
-    requires charges { charges ≤ 1000000000 }
+    requires searchable { IsSearchable (form root.now) constants }
+    requires charges { charges ≤ most_budget }
     ensures read { (x : Proof) (c : tree.Conclusion) → IsShapedNode Shallow 1 x → L.coming lines.old (text.lines x ++ w.End c ∷ []) → ChecksAs (form root.now) constants x c charges result }
-    ensures told { (x : Proof) (c : tree.Conclusion) → HasLevels 2000 x → L.coming lines.old (told_lines x ++ w.End c ∷ []) → ChecksAs (form root.now) constants x c charges result }
+    ensures told { (x : Proof) (c : tree.Conclusion) → HasLevels branch_limit x → L.coming lines.old (told_lines x ++ w.End c ∷ []) → ChecksAs (form root.now) constants x c charges result }
 {
     let mut course = Course::new();
     let mut purse = Purse::new(charges);
@@ -105,13 +103,10 @@ fn walk_proof<L: ProofLines>(
     course: &mut Course,
     purse: &mut Purse,
 ) -> Result<Option<Checked>, StepFault>
-    requires over { IsFormOver constants (form root.now) }
-    requires size { sizes.size (form root.now) ≤ 1000000 }
-    requires depth { sizes.depth (form root.now) ≤ 2000 }
-    requires constants { constants ≤ 1000 }
+    requires searchable { IsSearchable (form root.now) constants }
     requires first { course.old.nodes ≡ 0 }
     requires paid { IsPaid course.old purse.old }
-    ensures { (x : Proof) (c : tree.Conclusion) → HasLevels 2000 x → L.coming lines.old (told_lines x ++ w.End c ∷ [])
+    ensures { (x : Proof) (c : tree.Conclusion) → HasLevels branch_limit x → L.coming lines.old (told_lines x ++ w.End c ∷ [])
         → HasChecked (form root.now) constants x c purse.old course.old.hand result purse.new course.new }
 {
     let mut branch = at_root(alloc, root, constants)?;
@@ -122,7 +117,7 @@ fn walk_proof<L: ProofLines>(
             &mut branch,
             rule,
             count,
-            1999,
+            BRANCH_LIMIT - 1,
             course,
             purse,
         )? {

@@ -1,6 +1,6 @@
 // What follows from the constraint of the root: the conclusion of a proof, checked.
 
-ghost use Rattle.elim_rules.specs.Logs.{by_whole_log, names_by_log};
+ghost use Rattle.elim_laws.specs.Logs.{by_whole_log, names_by_log};
 ghost use Rattle.formula.specs.Form as f;
 ghost use Rattle.formula.specs.Form.{Form};
 ghost use Rattle.formula.specs.Tree.{form};

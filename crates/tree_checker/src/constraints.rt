@@ -2,7 +2,7 @@
 
 ghost use Rattle.clause_set.specs.Dnfs.{top};
 ghost use Rattle.formula.specs.Sizes.{depth};
-ghost use Rattle.elim_rules.specs.Logs.{by_whole_log, name_by_log, reads_none, every_by_log};
+ghost use Rattle.elim_laws.specs.Logs.{by_whole_log, name_by_log, reads_none, every_by_log};
 ghost use Rattle.pred_unify.specs.Pairs.{closing_of};
 ghost use Rattle.open_branch.specs.Standing.{rule_at, standing};
 ghost use Rattle.proof_tree.specs.Rules.{conjoined, first_given};

@@ -1,23 +1,23 @@
 // The lines of a tree in memory, one by one. Each node that was begun has a frame: what is still to come of it.
 
 ghost use Rattle.clause_set.specs.declared.literal.Literal.{Literal};
-ghost use Rattle.proof_stream.specs.Told.{KeepsLog, Tells};
+ghost use Rattle.line_source.specs.Told.{KeepsLog, TellsLine};
 ghost use Rattle.proof_tree.specs.Views.{proof_of};
 ghost use Rattle.proof_tree.specs.declared.node.Conclusion as tree;
 ghost use Rattle.purse.specs.declared.log.ElimLog as logs;
 ghost use Rattle.std.specs.Option.{option_copied};
 ghost use Rattle.std.specs.Prelude.{◌≡◌, ◌++◌, ◌∷◌, [], IfErr, IfOk, List, None, Some};
-ghost use Rattle.tree_checker.specs.Frames.{IsTold, all_due, below, due, ends, row_line, still_due};
+ghost use Rattle.tree_checker.specs.Frames.{IsLineTold, all_due, below, due, ends, row_line, still_due};
 ghost use Rattle.tree_checker.specs.Told as told;
 ghost use Rattle.tree_checker.specs.Told.{told_lines};
-ghost use Rattle.tree_lines.specs.Lines.{last_lines};
-ghost use Rattle.tree_lines.specs.declared.lines.TextLine.{TextLine};
-ghost use Rattle.tree_lines.specs.declared.lines.TextLine.TheVariants as w;
+ghost use Rattle.proof_line.specs.Lines.{last_lines};
+ghost use Rattle.proof_line.specs.declared.lines.TextLine.{TextLine};
+ghost use Rattle.proof_line.specs.declared.lines.TextLine.TheVariants as w;
 
 use crate::nodes::eliminates;
 use clause_set::Literal;
+use line_source::{Line, ProofLines};
 use linear_term::Memory;
-use proof_stream::{Line, ProofLines};
 use proof_tree::{Conclusion, Node, Tree, copy_clauses};
 use purse::ElimLog;
 use sequent::Pick;
@@ -65,7 +65,7 @@ fn told_width(rule: Pick, premises: usize, log: &ElimLog) -> u32
 
 /// The row of a node.
 fn row(node: &Node) -> Line
-    ensures { (log : logs.ElimLog) (c : tree.Conclusion) → Tells (Some result) log c (row_line (proof_of node.now)) }
+    ensures { (log : logs.ElimLog) (c : tree.Conclusion) → TellsLine (Some result) log c (row_line (proof_of node.now)) }
 {
     let premises = told_width(node.rule, node.children.len(), &node.log);
     Line::Row(node.rule, premises)
@@ -104,7 +104,7 @@ impl<'a> TreeLines<'a> {
 
     /// The root is begun: its row.
     fn begin(&mut self) -> Line
-        ensures told { (log : logs.ElimLog) (c : tree.Conclusion) → IsTold (told_lines (proof_of self.old.tree.now.root) ++ (all_due self.old.outer ++ w.End self.old.tree.now.conclusion ∷ [])) (Some result) log c (still_due self.new.stage self.new.tree.now self.new.outer) }
+        ensures told { (log : logs.ElimLog) (c : tree.Conclusion) → IsLineTold (told_lines (proof_of self.old.tree.now.root) ++ (all_due self.old.outer ++ w.End self.old.tree.now.conclusion ∷ [])) (Some result) log c (still_due self.new.stage self.new.tree.now self.new.outer) }
         ensures kept { (self.new.tree ≡ self.old.tree) × (self.new.log ≡ self.old.log) }
     {
         let root = &self.tree.root;
@@ -126,7 +126,7 @@ impl<'a> TreeLines<'a> {
     /// The trees of a node's premises have come: its log, where it is still to come, or else its constraint.
     fn end(&mut self, alloc: Global, frame: Frame<'a>) -> Result<Line, Memory>
         requires { frame.rest.now ≡ [] }
-        ensures told { IfOk result (λ x. (c : tree.Conclusion) → IsTold (ends (option_copied frame.entry.log) frame.entry.gives.now ++ (all_due self.old.outer ++ w.End self.old.tree.now.conclusion ∷ [])) (Some x) self.new.log.now c (still_due self.new.stage self.new.tree.now self.new.outer)) }
+        ensures told { IfOk result (λ x. (c : tree.Conclusion) → IsLineTold (ends (option_copied frame.entry.log) frame.entry.gives.now ++ (all_due self.old.outer ++ w.End self.old.tree.now.conclusion ∷ [])) (Some x) self.new.log.now c (still_due self.new.stage self.new.tree.now self.new.outer)) }
         ensures tree { self.new.tree ≡ self.old.tree }
         ensures log { IfOk result (λ x. KeepsLog (Some x) self.old.log.now self.new.log.now) }
         ensures memory { IfErr result (λ _. self.new ≡ self.old) }
@@ -151,7 +151,7 @@ impl<'a> TreeLines<'a> {
 
     /// The node at hand goes on: with the tree of a premise, or with its end.
     fn go_on(&mut self, alloc: Global, frame: Frame<'a>) -> Result<Line, Memory>
-        ensures told { IfOk result (λ x. (c : tree.Conclusion) → IsTold (due frame.entry ++ (all_due self.old.outer ++ w.End self.old.tree.now.conclusion ∷ [])) (Some x) self.new.log.now c (still_due self.new.stage self.new.tree.now self.new.outer)) }
+        ensures told { IfOk result (λ x. (c : tree.Conclusion) → IsLineTold (due frame.entry ++ (all_due self.old.outer ++ w.End self.old.tree.now.conclusion ∷ [])) (Some x) self.new.log.now c (still_due self.new.stage self.new.tree.now self.new.outer)) }
         ensures tree { self.new.tree ≡ self.old.tree }
         ensures log { IfOk result (λ x. KeepsLog (Some x) self.old.log.now self.new.log.now) }
         ensures memory { IfErr result (λ _. self.new ≡ self.old) }
@@ -172,10 +172,10 @@ impl<'a> TreeLines<'a> {
 }
 
 impl<'a> ProofLines for TreeLines<'a> {
-    ghost use Rattle.proof_stream.specs.Told.{KeepsLog, Tells};
+    ghost use Rattle.line_source.specs.Told.{KeepsLog, TellsLine};
     ghost use Rattle.std.specs.Prelude.{◌≡◌, ◌∷◌, [], IfErr, IfOk, List, None};
     ghost use Rattle.tree_checker.specs.Frames.{still_due};
-    ghost use Rattle.tree_lines.specs.declared.lines.TextLine.{TextLine};
+    ghost use Rattle.proof_line.specs.declared.lines.TextLine.{TextLine};
 
     ghost coming = { λ s ls. ls ≡ still_due s.stage s.tree.now s.outer };
 
@@ -184,7 +184,7 @@ impl<'a> ProofLines for TreeLines<'a> {
     ghost end_of = { λ s. s.tree.now.conclusion };
 
     fn next(&mut self, alloc: Global) -> Result<Option<Line>, Memory>
-        ensures line { (l : TextLine) (ls : List TextLine) → l ∷ ls ≡ still_due self.old.stage self.old.tree.now self.old.outer → IfOk result (λ x. Tells x self.new.log.now self.new.tree.now.conclusion l × (ls ≡ still_due self.new.stage self.new.tree.now self.new.outer)) }
+        ensures line { (l : TextLine) (ls : List TextLine) → l ∷ ls ≡ still_due self.old.stage self.old.tree.now self.old.outer → IfOk result (λ x. TellsLine x self.new.log.now self.new.tree.now.conclusion l × (ls ≡ still_due self.new.stage self.new.tree.now self.new.outer)) }
         ensures log { IfOk result (λ x. KeepsLog x self.old.log.now self.new.log.now) }
         ensures end { [] ≡ still_due self.old.stage self.old.tree.now self.old.outer → IfOk result (λ x. (x ≡ None) × (self.new ≡ self.old)) }
         ensures memory { IfErr result (λ _. self.new ≡ self.old) }

@@ -17,8 +17,8 @@ ghost use Rattle.std.specs.Prelude.{◌≡◌, ◌&&◌, ◌++◌, [], false, is
 ghost use Rattle.tree_checker.specs.Hand.{at_node};
 ghost use Rattle.tree_checker.specs.Told.{told_all, told_width};
 ghost use Rattle.tree_checker.specs.Walking.{HasLeft, HasWalked, IfGiven, IsPaid};
-ghost use Rattle.tree_lines.specs.Lines.{last_lines};
-ghost use Rattle.tree_lines.specs.declared.lines.TextLine.{TextLine};
+ghost use Rattle.proof_line.specs.Lines.{last_lines};
+ghost use Rattle.proof_line.specs.declared.lines.TextLine.{TextLine};
 
 use crate::constraints::{redo, redo_leaf};
 use crate::course::Course;
@@ -26,9 +26,9 @@ use crate::nodes::is_leaf;
 use crate::reading::read_last;
 use crate::same::is_same;
 use clause_set::{Dnf, Literal};
+use line_source::ProofLines;
 use node_steps::closing_fee;
 use open_branch::{Branch, Principal};
-use proof_stream::ProofLines;
 use purse::{Purse, StepFault};
 use sequent::{Pick, Sequent};
 use sqlite_items::Items;

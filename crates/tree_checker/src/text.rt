@@ -1,17 +1,17 @@
 // The check of the proof in a file, line by line.
 
-ghost use Rattle.formula.specs.Form.{IsFormOver};
-ghost use Rattle.formula.specs.Sizes.{depth, size};
 ghost use Rattle.formula.specs.Tree.{form};
-ghost use Rattle.proof_lines.specs.Body.{body};
-ghost use Rattle.proof_lines.specs.Coming.{HoldsAll};
+ghost use Rattle.limits.specs.Limits.{most_budget};
+ghost use Rattle.formula.specs.Searchable.{IsSearchable};
+ghost use Rattle.proof_file.specs.Body.{body};
+ghost use Rattle.proof_file.specs.Coming.{HoldsAll};
 ghost use Rattle.std.specs.Prelude.{◌≡◌, ◌≤◌, List, ℕ};
 ghost use Rattle.tree_checker.specs.Texts.{ChecksText, refused_as, told_as};
 
 use crate::checking::{CheckFault, Checked, check_lines};
 use formula::Core;
 use linear_term::Place;
-use proof_lines::{Lines, ProofRefusal};
+use proof_file::{Lines, ProofRefusal};
 use std::alloc::Global;
 
 /// Why the proof in a file is not accepted: the place in the file where no proof goes on, or where a node stands too deep; or the
@@ -34,10 +34,7 @@ pub fn check_text(
     constants: u32,
     bytes: &[u8],
 ) -> Result<Checked, TextFault>
-    requires over { IsFormOver constants (form root.now) }
-    requires size { size (form root.now) ≤ 1000000 }
-    requires depth { depth (form root.now) ≤ 2000 }
-    requires constants { constants ≤ 1000 }
+    requires { IsSearchable (form root.now) constants }
     ensures { ChecksText (form root.now) constants bytes.now result }
 {
     match Lines::new(alloc, bytes) {
@@ -53,11 +50,8 @@ fn check_held(
     constants: u32,
     lines: &mut Lines<'_>,
 ) -> Result<Checked, TextFault>
-    requires over { IsFormOver constants (form root.now) }
-    requires size { size (form root.now) ≤ 1000000 }
-    requires depth { depth (form root.now) ≤ 2000 }
-    requires constants { constants ≤ 1000 }
-    requires charges { lines.old.charges ≤ 1000000000 }
+    requires searchable { IsSearchable (form root.now) constants }
+    requires charges { lines.old.charges ≤ most_budget }
     ensures { (bytes : List ℕ) → HoldsAll (body bytes) lines.old.charges lines.old.parts lines.old.walk lines.old.rest.now → ChecksText (form root.now) constants bytes result }
 {
     let charges = lines.charges();

@@ -1,8 +1,8 @@
 // A check of a proof that is a tree in memory, by the same walk as over the lines of a text.
 
-ghost use Rattle.formula.specs.Form.{IsFormOver};
-ghost use Rattle.formula.specs.Sizes as sizes;
 ghost use Rattle.formula.specs.Tree.{form};
+ghost use Rattle.limits.specs.Limits.{branch_limit, most_budget};
+ghost use Rattle.formula.specs.Searchable.{IsSearchable};
 ghost use Rattle.proof_tree.specs.Views.{proof_of};
 ghost use Rattle.std.specs.Prelude.{◌≤◌};
 ghost use Rattle.tree_checker.specs.Answering.{ChecksAs};
@@ -17,12 +17,9 @@ use std::alloc::Global;
 /// Whether the tree, of at most 2,000 levels, is a proof of the formula over so many constants: what it says, or the first thing
 /// that is wrong.
 pub fn check(alloc: Global, root: &Core, constants: u32, tree: &Tree) -> Result<Checked, CheckFault>
-    requires over { IsFormOver constants (form root.now) }
-    requires size { sizes.size (form root.now) ≤ 1000000 }
-    requires depth { sizes.depth (form root.now) ≤ 2000 }
-    requires constants { constants ≤ 1000 }
-    requires charges { tree.now.charges ≤ 1000000000 }
-    ensures { HasLevels 2000 (proof_of tree.now.root) → ChecksAs (form root.now) constants (proof_of tree.now.root) tree.now.conclusion tree.now.charges result }
+    requires searchable { IsSearchable (form root.now) constants }
+    requires charges { tree.now.charges ≤ most_budget }
+    ensures { HasLevels branch_limit (proof_of tree.now.root) → ChecksAs (form root.now) constants (proof_of tree.now.root) tree.now.conclusion tree.now.charges result }
 {
     let mut lines = TreeLines::new(alloc, tree);
     check_lines(alloc, root, constants, tree.charges, &mut lines)

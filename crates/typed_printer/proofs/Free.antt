@@ -14,7 +14,7 @@ use Rattle.pri_typing.specs.WellFormed.{names_of_symbols}
 use Rattle.pri_typing.proofs.Distinct.{text_same}
 use Rattle.typed_printer.specs.Variables.{variable_name, free_from, next_number, variable_number, variable_text}
 use Rattle.pri_printer.proofs.Lexing.{digit_is_name_byte}
-use Rattle.pri_printer.proofs.Terms.{decimal_is}
+use Rattle.pri_tokens.proofs.Decimals.{decimal_is}
 
 -- the others
 without : List ℕ → List (List ℕ) → List (List ℕ)

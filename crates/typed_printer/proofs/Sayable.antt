@@ -4,12 +4,12 @@ use Rattle.typed_formula.specs.Formula.{Formula, Formulas, Expression, Expressio
 use Rattle.typed_formula.specs.declared.typed.Typed.{Typed}
 use Rattle.pri_typing.specs.declared.problem.Problem.{Problem}
 use Rattle.pri_typing.specs.declared.problem.Symbol.{Symbol}
-use Rattle.pri_typing.specs.Files.{most_symbols}
+use Rattle.limits.specs.Limits.{most_symbols}
 use Rattle.pri_typing.specs.Everywhere.{Property, Everywhere, AllEverywhere, TermEverywhere, TermsEverywhere}
 use Rattle.pri_typing.specs.WellFormed.{IsWellFormed, names_of_symbols, IsNumberRanged, IsNameBelow, IsFunctionDeclared, IsLinear, IsPredicateDeclared, IsBinderRanged, of_formulas, of_terms}
 use Rattle.pri_typing.proofs.Everywhere.{everywhere_more}
 use Rattle.pri_printer.specs.Printed.{constants_of}
-use Rattle.typed_printer.specs.Pieces.{IsTermFit}
+use Rattle.typed_printer.specs.Pieces.{IsPrintableTerm}
 use Rattle.typed_printer.specs.Replaced.{with_formula}
 
 -- fewer than 2^64 quantifiers stand around a quantifier
@@ -29,7 +29,7 @@ pub record IsFormulaFit (p : Problem) (n : ℕ) (f : Formula) : Type 0 where
   pub shallow : IsShallow n f
 
 abbrev pub sayable : Problem → Property
-sayable p = record { of_formula = IsFormulaFit p; of_term = IsTermFit p }
+sayable p = record { of_formula = IsFormulaFit p; of_term = IsPrintableTerm p }
 
 -- Two properties at once.
 
@@ -96,11 +96,11 @@ terms_fit_by p f good =
 
 -- the terms of a well-formed problem's formula are fit, and its predicates declared, beside what else is known of its formulas
 pub fit_with : (p : Problem) (f : Typed) (S : ℕ → Formula → Type 0) → IsWellFormed (with_formula p f) → Everywhere (of_formulas S) 0 (formula f)
-    → Everywhere (record { of_formula = λ n g. IsPredicateDeclared p.predicates n g × S n g; of_term = IsTermFit p }) 0 (formula f)
+    → Everywhere (record { of_formula = λ n g. IsPredicateDeclared p.predicates n g × S n g; of_term = IsPrintableTerm p }) 0 (formula f)
 fit_with p f S good known =
     let Q = of_formulas (IsPredicateDeclared p.predicates) in
     let P = both (terms_fit p) (both Q (of_formulas S)) in
-    everywhere_more P (record { of_formula = λ n g. IsPredicateDeclared p.predicates n g × S n g; of_term = IsTermFit p }) (record {
+    everywhere_more P (record { of_formula = λ n g. IsPredicateDeclared p.predicates n g × S n g; of_term = IsPrintableTerm p }) (record {
       of_formula = λ n g h. h.1;
       of_term = λ n t h. record { ranged = h.0.0; named = h.0.1.0; declared = h.0.1.1.0; linear = h.0.1.1.1 };
     }) 0 (formula f)
@@ -115,7 +115,7 @@ sayable_by p f good nested =
     let known : Everywhere (of_formulas S) 0 (formula f) =
     everywhere_more (both B (of_formulas IsShallow)) (of_formulas S) (record { of_formula = λ n g h. h; of_term = λ n t h. tt }) 0 (formula f)
     (both_everywhere B (of_formulas IsShallow) 0 (formula f) good.binders nested) in
-    everywhere_more (record { of_formula = λ n g. IsPredicateDeclared p.predicates n g × S n g; of_term = IsTermFit p }) (sayable p) (record {
+    everywhere_more (record { of_formula = λ n g. IsPredicateDeclared p.predicates n g × S n g; of_term = IsPrintableTerm p }) (sayable p) (record {
       of_formula = λ n g h. record { declared = h.0; ranged = h.1.0; shallow = h.1.1 };
       of_term = λ n t h. h;
     }) 0 (formula f) (fit_with p f S good known)

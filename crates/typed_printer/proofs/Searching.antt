@@ -3,13 +3,10 @@ use Rattle.std.proofs.Common.{◌≡◌, ℕ, zero, suc, ◌+◌, ◌-◌, ◌<�
 use Rattle.pri_typing.specs.declared.problem.Problem.{Problem}
 use Rattle.texts.specs.Texts.{is_among}
 use Rattle.pri_typing.specs.WellFormed.{names_of_symbols}
-use Rattle.pri_typing.proofs.Distinct.{among-append}
 use Rattle.typed_printer.specs.Variables.{variable_name, variable_number, next_number, free_from}
 use Rattle.typed_printer.specs.Numbers.{AreNumbers}
 use Rattle.typed_printer.proofs.Free.{variable_bound}
 use Rattle.std.proofs.lemmas.Bool.{cases_lt}
-
-pub ruleset among = among-append
 
 -- the search from some number on
 unfoldable pub free_within : ℕ → ℕ → List (List ℕ) → ℕ

@@ -26,7 +26,7 @@ use Rattle.pri_printer.proofs.Writing.{Ends, tokens_at, is_parted, lexeme_at}
 use Rattle.pri_printer.proofs.Spells.{Derived, Spells}
 use Rattle.pri_printer.proofs.Lexing.{ends_behind, sign_lexed, name_lexed, number_lexed, command_lexed, blank_lexed, text-lexed}
 use Rattle.pri_printer.proofs.Spelling.{heads}
-use Rattle.pri_printer.proofs.Terms.{decimal_is}
+use Rattle.pri_tokens.proofs.Decimals.{decimal_is}
 use Rattle.typed_printer.specs.TypedText.{sort_text}
 use Rattle.typed_printer.proofs.Decimals.{number_by, number_heads}
 use Rattle.typed_printer.proofs.Productions.{comma_sign}

@@ -13,7 +13,7 @@ use Rattle.typed_printer.specs.TypedText.{quantifier_text, sort_text}
 
 -- a number is in the range, a name is that of a constant or of a variable bound around it, a function is declared with so
 -- many arguments, and a product has a numeral side
-pub record IsTermFit (p : Problem) (n : ℕ) (t : Expression) : Type 0 where
+pub record IsPrintableTerm (p : Problem) (n : ℕ) (t : Expression) : Type 0 where
   pub ranged : IsNumberRanged n t
   pub named : IsNameBelow (length (constants_of p)) n t
   pub declared : IsFunctionDeclared p.functions n t
@@ -21,7 +21,7 @@ pub record IsTermFit (p : Problem) (n : ℕ) (t : Expression) : Type 0 where
 
 -- the symbols are declared, and numbers of k variables are enough
 abbrev pub printable : Problem → ℕ → Property
-printable p k = record { of_formula = λ n f. IsPredicateDeclared p.predicates n f × IsAbove k n f; of_term = IsTermFit p }
+printable p k = record { of_formula = λ n f. IsPredicateDeclared p.predicates n f × IsAbove k n f; of_term = IsPrintableTerm p }
 
 -- arguments in parentheses, if there are any
 abbrev pub arguments_text : List (List ℕ) → List ℕ

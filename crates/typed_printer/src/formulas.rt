@@ -1,6 +1,7 @@
 // The text of a formula below some quantifiers, one form after another.
 #![tactic(auto, using(crate::proofs::Together::separating))]
 
+ghost use Rattle.limits.specs.Limits.{most_constants};
 ghost use Rattle.std.specs.Prelude.{◌≡◌, ◌++◌, ◌≤◌, ◌+◌, codes, false, length, map, OnOk, true};
 ghost use Rattle.std.specs.List.{concat};
 ghost use Rattle.pri_printer.specs.Printed.{constants_of};
@@ -28,7 +29,7 @@ pub(crate) fn put_formula(
     f: &Typed,
     out: &mut Vec<u8>,
 ) -> Result<(), Memory>
-    requires few { length (constants_of p.now) ≤ 1000 }
+    requires few { length (constants_of p.now) ≤ most_constants }
     requires numbers { AreNumbers p.now numbers.now }
     requires depth { depth ≤ length numbers.now }
     requires fit { Everywhere (printable p.now (length numbers.now)) depth (formula f.now) }
@@ -83,7 +84,7 @@ pub(crate) fn put_grouped(
     f: &Typed,
     out: &mut Vec<u8>,
 ) -> Result<(), Memory>
-    requires few { length (constants_of p.now) ≤ 1000 }
+    requires few { length (constants_of p.now) ≤ most_constants }
     requires numbers { AreNumbers p.now numbers.now }
     requires depth { depth ≤ length numbers.now }
     requires fit { Everywhere (printable p.now (length numbers.now)) depth (formula f.now) }
@@ -106,7 +107,7 @@ fn put_chain(
     formulas: &[Typed],
     out: &mut Vec<u8>,
 ) -> Result<(), Memory>
-    requires few { length (constants_of p.now) ≤ 1000 }
+    requires few { length (constants_of p.now) ≤ most_constants }
     requires numbers { AreNumbers p.now numbers.now }
     requires depth { depth ≤ length numbers.now }
     requires fit { AllEverywhere (printable p.now (length numbers.now)) depth (formulas_of formulas.now) }
@@ -131,7 +132,7 @@ fn put_only(
     formulas: &[Typed],
     out: &mut Vec<u8>,
 ) -> Result<(), Memory>
-    requires few { length (constants_of p.now) ≤ 1000 }
+    requires few { length (constants_of p.now) ≤ most_constants }
     requires numbers { AreNumbers p.now numbers.now }
     requires depth { depth ≤ length numbers.now }
     requires fit { AllEverywhere (printable p.now (length numbers.now)) depth (formulas_of formulas.now) }
@@ -154,7 +155,7 @@ fn put_members(
     formulas: &[Typed],
     out: &mut Vec<u8>,
 ) -> Result<(), Memory>
-    requires few { length (constants_of p.now) ≤ 1000 }
+    requires few { length (constants_of p.now) ≤ most_constants }
     requires numbers { AreNumbers p.now numbers.now }
     requires depth { depth ≤ length numbers.now }
     requires fit { AllEverywhere (printable p.now (length numbers.now)) depth (formulas_of formulas.now) }

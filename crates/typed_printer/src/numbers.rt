@@ -1,55 +1,14 @@
 // The numbers of bound variables: those with which no symbol of the problem is named, from the least on.
 
-ghost use Rattle.std.specs.Prelude.{◌≡◌, ◌<◌, ◌^◌, IfOk, length, map};
-ghost use Rattle.pri_typing.specs.WellFormed.{names_of_symbols};
-ghost use Rattle.texts.specs.Texts.{is_among, is_text};
+ghost use Rattle.std.specs.Prelude.{◌≡◌, ◌<◌, ◌^◌, IfOk, length};
 ghost use Rattle.typed_printer.specs.Numbers.{AreNumbers};
 ghost use Rattle.typed_printer.specs.Variables.{next_number, variable_name};
 
 use crate::pieces::put_variable;
 use linear_term::Memory;
-use pri_typing::{Problem, Symbol};
-use sqlite_items::Items;
+use pri_printer::is_taken;
+use pri_typing::Problem;
 use std::alloc::Global;
-
-fn is_same(a: &[u8], b: &[u8]) -> bool
-    ensures { result ≡ is_text a.now b.now }
-{
-    a == b
-}
-
-fn is_listed(names: &[Items<u8>], name: &[u8]) -> bool
-    ensures { result ≡ is_among name.now names.now }
-{
-    for other in names {
-        if is_same(name, other.as_slice()) {
-            return true;
-        }
-    }
-    false
-}
-
-fn is_symbol(symbols: &[Symbol], name: &[u8]) -> bool
-    ensures { result ≡ is_among name.now (map (λ y. y.name) symbols.now) }
-{
-    for symbol in symbols {
-        if is_same(name, symbol.name.as_slice()) {
-            return true;
-        }
-    }
-    false
-}
-
-/// Whether a symbol has this name.
-#[tactic(auto, using(crate::proofs::Searching::among))]
-fn is_taken(p: &Problem, name: &[u8]) -> bool
-    ensures { result ≡ is_among name.now (names_of_symbols p.now) }
-{
-    is_listed(p.existentials.as_slice(), name)
-        || is_listed(p.universals.as_slice(), name)
-        || is_symbol(p.functions.as_slice(), name)
-        || is_symbol(p.predicates.as_slice(), name)
-}
 
 fn variable_text(alloc: Global, n: u128) -> Result<Vec<u8>, Memory>
     ensures { IfOk result (λ v. v.items ≡ variable_name n) }

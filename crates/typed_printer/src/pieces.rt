@@ -1,5 +1,6 @@
 // The pieces of the text of a formula: numbers, names, signs, types and quantifiers.
 
+ghost use Rattle.limits.specs.Limits.{most_constants};
 ghost use Rattle.std.specs.Prelude.{◌≡◌, ◌++◌, ◌<◌, ◌≤◌, ◌+◌, codes, cond, length, OnOk, slice_index_or, []};
 ghost use Rattle.std.specs.Fmt.{decimal, signed_decimal};
 ghost use Rattle.pri_printer.specs.Printed.{constants_of};
@@ -63,7 +64,7 @@ pub(crate) fn put_name(
 ) -> Result<(), Memory>
     requires numbers { AreNumbers p.now numbers.now }
     requires named { x < length (constants_of p.now) + length numbers.now }
-    requires few { length (constants_of p.now) ≤ 1000 }
+    requires few { length (constants_of p.now) ≤ most_constants }
     ensures { OnOk result (out.new.items ≡ out.old.items ++ name_text p.now x) }
 {
     let constants = p.existentials.len() + p.universals.len();

@@ -1,6 +1,7 @@
 // The text of a term below some quantifiers, one form after another.
 #![tactic(auto, using(crate::proofs::Together::separating))]
 
+ghost use Rattle.limits.specs.Limits.{most_constants};
 ghost use Rattle.std.specs.Prelude.{◌≡◌, ◌++◌, ◌≤◌, ◌+◌, codes, false, length, map, OnOk, true};
 ghost use Rattle.std.specs.List.{concat};
 ghost use Rattle.pri_printer.specs.Printed.{constants_of};
@@ -28,7 +29,7 @@ pub(crate) fn put_term(
     t: &TypedTerm,
     out: &mut Vec<u8>,
 ) -> Result<(), Memory>
-    requires few { length (constants_of p.now) ≤ 1000 }
+    requires few { length (constants_of p.now) ≤ most_constants }
     requires numbers { AreNumbers p.now numbers.now }
     requires depth { depth ≤ length numbers.now }
     requires fit { TermEverywhere (printable p.now (length numbers.now)) depth (expression t.now) }
@@ -86,7 +87,7 @@ fn put_grouped_term(
     t: &TypedTerm,
     out: &mut Vec<u8>,
 ) -> Result<(), Memory>
-    requires few { length (constants_of p.now) ≤ 1000 }
+    requires few { length (constants_of p.now) ≤ most_constants }
     requires numbers { AreNumbers p.now numbers.now }
     requires depth { depth ≤ length numbers.now }
     requires fit { TermEverywhere (printable p.now (length numbers.now)) depth (expression t.now) }
@@ -108,7 +109,7 @@ fn put_first(
     t: &TypedTerm,
     out: &mut Vec<u8>,
 ) -> Result<(), Memory>
-    requires few { length (constants_of p.now) ≤ 1000 }
+    requires few { length (constants_of p.now) ≤ most_constants }
     requires numbers { AreNumbers p.now numbers.now }
     requires depth { depth ≤ length numbers.now }
     requires fit { TermEverywhere (printable p.now (length numbers.now)) depth (expression t.now) }
@@ -129,7 +130,7 @@ fn put_last(
     t: &TypedTerm,
     out: &mut Vec<u8>,
 ) -> Result<(), Memory>
-    requires few { length (constants_of p.now) ≤ 1000 }
+    requires few { length (constants_of p.now) ≤ most_constants }
     requires numbers { AreNumbers p.now numbers.now }
     requires depth { depth ≤ length numbers.now }
     requires fit { TermEverywhere (printable p.now (length numbers.now)) depth (expression t.now) }
@@ -150,7 +151,7 @@ pub(crate) fn put_arguments(
     terms: &[TypedTerm],
     out: &mut Vec<u8>,
 ) -> Result<(), Memory>
-    requires few { length (constants_of p.now) ≤ 1000 }
+    requires few { length (constants_of p.now) ≤ most_constants }
     requires numbers { AreNumbers p.now numbers.now }
     requires depth { depth ≤ length numbers.now }
     requires fit { TermsEverywhere (printable p.now (length numbers.now)) depth (expressions_of terms.now) }
@@ -175,7 +176,7 @@ fn put_listed(
     terms: &[TypedTerm],
     out: &mut Vec<u8>,
 ) -> Result<(), Memory>
-    requires few { length (constants_of p.now) ≤ 1000 }
+    requires few { length (constants_of p.now) ≤ most_constants }
     requires numbers { AreNumbers p.now numbers.now }
     requires depth { depth ≤ length numbers.now }
     requires fit { TermsEverywhere (printable p.now (length numbers.now)) depth (expressions_of terms.now) }
@@ -200,7 +201,7 @@ fn put_sum(
     terms: &[TypedTerm],
     out: &mut Vec<u8>,
 ) -> Result<(), Memory>
-    requires few { length (constants_of p.now) ≤ 1000 }
+    requires few { length (constants_of p.now) ≤ most_constants }
     requires numbers { AreNumbers p.now numbers.now }
     requires depth { depth ≤ length numbers.now }
     requires fit { TermsEverywhere (printable p.now (length numbers.now)) depth (expressions_of terms.now) }
@@ -226,7 +227,7 @@ fn put_only_term(
     terms: &[TypedTerm],
     out: &mut Vec<u8>,
 ) -> Result<(), Memory>
-    requires few { length (constants_of p.now) ≤ 1000 }
+    requires few { length (constants_of p.now) ≤ most_constants }
     requires numbers { AreNumbers p.now numbers.now }
     requires depth { depth ≤ length numbers.now }
     requires fit { TermsEverywhere (printable p.now (length numbers.now)) depth (expressions_of terms.now) }
@@ -248,7 +249,7 @@ fn put_addends(
     terms: &[TypedTerm],
     out: &mut Vec<u8>,
 ) -> Result<(), Memory>
-    requires few { length (constants_of p.now) ≤ 1000 }
+    requires few { length (constants_of p.now) ≤ most_constants }
     requires numbers { AreNumbers p.now numbers.now }
     requires depth { depth ≤ length numbers.now }
     requires fit { TermsEverywhere (printable p.now (length numbers.now)) depth (expressions_of terms.now) }

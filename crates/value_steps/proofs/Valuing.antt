@@ -8,7 +8,7 @@ use Rattle.purse.proofs.Charging.{work_ok, work_err, work_just}
 use Rattle.clause_set.specs.declared.literal.Literal.{Literal}
 use Rattle.clause_set.specs.declared.literal.Literal.TheVariants.{Eq, Geq, Div, NDiv}
 use Rattle.clause_set.specs.Literals.{term_of}
-use Rattle.solution_rules.specs.Solutions.{valued_term, valued}
+use Rattle.solution_laws.specs.Solutions.{valued_term, valued}
 use Rattle.value_steps.specs.Literals.{with_term}
 
 -- the work is that of the term, whatever the kind of the literal

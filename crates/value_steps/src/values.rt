@@ -5,16 +5,16 @@ ghost use Rattle.linear_term.specs.Linear.{Linear};
 ghost use Rattle.linear_term.specs.Range.{InRange};
 ghost use Rattle.purse.specs.Trace.{each};
 ghost use Rattle.purse.specs.Work.{Worked};
-ghost use Rattle.solution_rules.specs.Solutions.{valued, valued_clause, valued_term};
+ghost use Rattle.solution_laws.specs.Solutions.{valued, valued_clause, valued_term};
 ghost use Rattle.std.specs.Prelude.{◌≡◌, [], All, IfOk};
 ghost use Rattle.value_steps.specs.Literals.{with_term};
 
 use clause_set::{Clause, Literal};
 use linear_term::Term;
 use purse::StepFault;
-use rule_steps::{alone, combining, in_form};
 use sqlite_items::Items;
 use std::alloc::Global;
+use step_code::{alone, combining, in_form};
 
 /// b·v + t for the term b·j + t.
 #[tactic(auto, using(purse::proofs::Charging::working))]

@@ -1,7 +1,7 @@
 use Rattle.std.proofs.Common.{◌+◌, ◌-◌, ◌*◌, ◌<◌, ◌≤◌, [], ◌∷◌, length, false}
 use Rattle.pri_reader.specs.Grammar.{conjunction, disjunction, equivalence, added}
 use Rattle.pri_reader.specs.MachineStates.{a_minus, a_unary, arguments_of, chain_of, sum_of, under_chain, under_product, under_right, under_sum}
-use Rattle.pri_reader.specs.Reading.{Leads}
+use Rattle.pri_reader.specs.Reading.{LeadsReader}
 use Rattle.pri_reader.proofs.Chains.{BeginsAt}
 use Rattle.pri_reader.proofs.+reader.Given as goal
 
@@ -55,7 +55,7 @@ decreases-formulas::whole l = 20 * (200 - l.depth) + 13
 
 abbrev pub invariant-formulas::and-members : goal.invariant-formulas::and-members
 invariant-formulas::and-members l = record {
-  leads : Leads l.bytes l.tokens (a_unary l.depth) (under_chain conjunction l.depth []) l.inner (a_unary l.depth) (chain_of conjunction l.depth l.members ∷ []);
+  leads : LeadsReader l.bytes l.tokens (a_unary l.depth) (under_chain conjunction l.depth []) l.inner (a_unary l.depth) (chain_of conjunction l.depth l.members ∷ []);
   begins : BeginsAt l.at l.members;
   shorter : length l.inner < length l.tokens;
 }
@@ -65,7 +65,7 @@ decreases-formulas::and-members l = length l.inner
 
 abbrev pub invariant-formulas::or-members : goal.invariant-formulas::or-members
 invariant-formulas::or-members l = record {
-  leads : Leads l.bytes l.tokens (a_unary l.depth) (under_chain disjunction l.depth []) l.inner (a_unary l.depth) (chain_of conjunction l.depth [] ∷ chain_of disjunction l.depth l.members ∷ []);
+  leads : LeadsReader l.bytes l.tokens (a_unary l.depth) (under_chain disjunction l.depth []) l.inner (a_unary l.depth) (chain_of conjunction l.depth [] ∷ chain_of disjunction l.depth l.members ∷ []);
   begins : BeginsAt l.at l.members;
   shorter : length l.inner < length l.tokens;
 }
@@ -75,7 +75,7 @@ decreases-formulas::or-members l = length l.inner
 
 abbrev pub invariant-terms::sum-terms : goal.invariant-terms::sum-terms
 invariant-terms::sum-terms l = record {
-  leads : Leads l.bytes l.tokens (a_minus l.depth) (under_sum l.depth []) l.inner (a_minus l.depth) (under_product l.depth (sum_of l.depth (added false l.first ∷ l.later) l.minus ∷ []));
+  leads : LeadsReader l.bytes l.tokens (a_minus l.depth) (under_sum l.depth []) l.inner (a_minus l.depth) (under_product l.depth (sum_of l.depth (added false l.first ∷ l.later) l.minus ∷ []));
   shorter : length l.inner < length l.tokens;
 }
 
@@ -84,7 +84,7 @@ decreases-terms::sum-terms l = length l.inner
 
 abbrev pub invariant-terms::arguments-arguments : goal.invariant-terms::arguments-arguments
 invariant-terms::arguments-arguments l = record {
-  leads : Leads l.bytes l.tokens (a_unary l.depth) (under_right equivalence l.depth (arguments_of l.name l.depth [] ∷ [])) l.inner (a_unary l.depth) (under_right equivalence l.depth (arguments_of l.name l.depth l.list ∷ []));
+  leads : LeadsReader l.bytes l.tokens (a_unary l.depth) (under_right equivalence l.depth (arguments_of l.name l.depth [] ∷ [])) l.inner (a_unary l.depth) (under_right equivalence l.depth (arguments_of l.name l.depth l.list ∷ []));
   shorter : length l.inner ≤ length l.tokens;
 }
 

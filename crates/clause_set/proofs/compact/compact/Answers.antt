@@ -18,4 +18,4 @@ returns-then-are_apart-2 c =
 
 pub returns : goal.returns
 returns c =
-    subst (λ form. IfOk c.by_table.result (λ answer. answer ≡ form)) (ap compact c.as_slice-3.ensures ∙ compact-sorted c.args.literals c.in_ok-sorted.sorted c.in_ok-sorted.ensures) c.by_table.ensures
+    subst (λ form. IfOk c.by_bounds.result (λ answer. answer ≡ form)) (ap compact c.as_slice-3.ensures ∙ compact-sorted c.args.literals c.in_ok-sorted.sorted c.in_ok-sorted.ensures) c.by_bounds.ensures

@@ -1,8 +1,8 @@
 use Rattle.std.proofs.Common.{refl, subst}
 use Rattle.clause_set.specs.Kept.{AreFormed}
-use Rattle.elim_rules.specs.Elimination.{IsOut}
-use Rattle.elim_rules.specs.Logs.{name_by_log}
-use Rattle.elim_rules.proofs.Accepted.{name_yields}
+use Rattle.elim_laws.specs.Elimination.{IsOut}
+use Rattle.elim_laws.specs.Logs.{name_by_log}
+use Rattle.elim_laws.proofs.Accepted.{name_yields}
 use Rattle.elim_check.proofs.Telling.{checked, accepted}
 use Rattle.elim_check.proofs.checks.check_exists.Goals as goal
 

@@ -1,8 +1,8 @@
 use Rattle.std.proofs.Common.{refl, subst, ◌-◌}
 use Rattle.clause_set.specs.Kept.{AreFormed}
-use Rattle.elim_rules.specs.Elimination.{IsEvery}
-use Rattle.elim_rules.specs.Logs.{every_by_log}
-use Rattle.elim_rules.proofs.Always.{every_yields}
+use Rattle.elim_laws.specs.Elimination.{IsEvery}
+use Rattle.elim_laws.specs.Logs.{every_by_log}
+use Rattle.elim_laws.proofs.Always.{every_yields}
 use Rattle.elim_check.proofs.Telling.{checked, accepted}
 use Rattle.elim_check.proofs.checks.check_forall.Goals as goal
 

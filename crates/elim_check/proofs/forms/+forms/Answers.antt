@@ -3,8 +3,8 @@ use Rattle.linear_term.specs.Linear.{Linear}
 use Rattle.clause_set.specs.declared.literal.Literal.TheVariants.{Eq, Geq}
 use Rattle.clause_set.specs.Clauses.{clauses_of}
 use Rattle.clause_set.specs.Dnfs.{negation}
-use Rattle.elim_rules.specs.Logs.{name_by_log, reads_none, read_next}
-use Rattle.elim_rules.specs.Whole.{paid, two_sides}
+use Rattle.elim_laws.specs.Logs.{name_by_log, reads_none, read_next}
+use Rattle.elim_laws.specs.Whole.{paid, two_sides}
 use Rattle.formula.specs.Sizes.{size}
 use Rattle.formula.specs.Tree.{form}
 use Rattle.purse.specs.Trace.{just}

@@ -1,6 +1,6 @@
 use Rattle.std.proofs.Common.{[], ◌+◌, ◌*◌, drop}
 use Rattle.clause_set.specs.Dnfs.{top}
-use Rattle.elim_rules.specs.Logs.{all_by_log, any_by_log}
+use Rattle.elim_laws.specs.Logs.{all_by_log, any_by_log}
 use Rattle.formula.specs.Sizes.{depth, depths}
 use Rattle.formula.specs.Tree.{form, forms_of}
 use Rattle.elim_check.specs.Reading.{reading}

@@ -1,5 +1,5 @@
 use Rattle.clause_set.specs.Dnfs.{negation}
-use Rattle.elim_rules.specs.Logs.{name_by_log, reads_none, read_next}
+use Rattle.elim_laws.specs.Logs.{name_by_log, reads_none, read_next}
 use Rattle.elim_check.proofs.Chained.{read_ok, read_err, quiet_ok, quiet_err, quiet_stopped}
 use Rattle.elim_check.proofs.names.every_value.Goals as goal
 

@@ -1,4 +1,4 @@
-use Rattle.elim_rules.specs.Logs.{names_by_log}
+use Rattle.elim_laws.specs.Logs.{names_by_log}
 use Rattle.elim_check.proofs.Chained.{Reads}
 use Rattle.elim_check.proofs.names.some_values.Given as goal
 

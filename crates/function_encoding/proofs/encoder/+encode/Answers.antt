@@ -12,7 +12,7 @@ use Rattle.encoding.specs.Encoding.{all_encoded, junction, related}
 use Rattle.encoding.specs.Extent.{above_two, extent, extents, leaf}
 use Rattle.function_encoding.specs.Instructions.{actions_of}
 use Rattle.function_encoding.specs.Ranged.{IsRanged}
-use Rattle.function_encoding.specs.Room.{HasRoom, extent_left}
+use Rattle.function_encoding.specs.Room.{HasNamesLeft, extent_left}
 use Rattle.function_encoding.specs.Stops as stops
 use Rattle.function_encoding.specs.Stops.{Halts, IsTestRanged, test_extent, test_weight}
 use Rattle.function_encoding.specs.Weight.{weight, weights, weight_left}
@@ -27,7 +27,7 @@ encoded-run-requires t c =
     let measure : weight (formula c.args.f.now) ≡ t = c.decreases in
     let is = ap weight same in
     let ranged = subst IsRanged same c.requires.ranged in
-    let room = subst (λ z. HasRoom c.args.n (extent z)) same c.requires.room in
+    let room = subst (λ z. HasNamesLeft c.args.n (extent z)) same c.requires.room in
     let ready = relation_ready (expression c.in-Rel.s) (expression c.in-Rel.t) c.signed.result c.in-Rel.r (actions_of c.as_slice.result.now) c.args.n (ap actions_of c.as_slice.ensures ∙ c.in_ok-code-in-Rel.ensures) ranged room in
     let less = ready.0 in
     (omega (arith, is, measure, less), (ready.1, ready.2))
@@ -47,7 +47,7 @@ encoded-run-requires-in-Pred t c =
     let measure : weight (formula c.args.f.now) ≡ t = c.decreases in
     let is = ap weight same in
     let ranged = subst IsRanged same c.requires.ranged in
-    let room = subst (λ z. HasRoom c.args.n (extent z)) same c.requires.room in
+    let room = subst (λ z. HasNamesLeft c.args.n (extent z)) same c.requires.room in
     let ready = predicate_ready (expressions_of c.as_slice-in-Pred.result.now) c.args.plus c.in-Pred.p (actions_of c.as_slice-in-Pred-2.result.now) c.args.n (ap actions_of c.as_slice-in-Pred-2.ensures ∙ c.in_ok-code-in-Pred.ensures) ranged room in
     let less = ready.0 in
     (omega (arith, is, measure, less), (ready.1, ready.2))
@@ -67,7 +67,7 @@ encoded-encoded-requires t c =
     let measure : weight (formula c.args.f.now) ≡ t = c.decreases in
     let is = ap weight same in
     let ranged = subst IsRanged same c.requires.ranged in
-    let room = subst (λ z. HasRoom c.args.n (extent z)) same c.requires.room in
+    let room = subst (λ z. HasNamesLeft c.args.n (extent z)) same c.requires.room in
     (omega (arith, is, measure), (ranged, room))
 
 pub encoded-returns-in-Not : goal.encoded-returns-in-Not
@@ -79,7 +79,7 @@ encoded-encoded-requires-in-Part t c =
     let measure : weight (formula c.args.f.now) ≡ t = c.decreases in
     let is = ap weight same in
     let ranged = subst IsRanged same c.requires.ranged in
-    let room = subst (λ z. HasRoom c.args.n (extent z)) same c.requires.room in
+    let room = subst (λ z. HasNamesLeft c.args.n (extent z)) same c.requires.room in
     (omega (arith, is, measure), (ranged, room))
 
 pub encoded-returns-in-Part : goal.encoded-returns-in-Part
@@ -91,7 +91,7 @@ encoded-all_encoded-requires t c =
     let measure : weight (formula c.args.f.now) ≡ t = c.decreases in
     let is = ap weight same in
     let ranged = subst IsRanged same c.requires.ranged in
-    let room = subst (λ z. HasRoom c.args.n (extent z)) same c.requires.room in
+    let room = subst (λ z. HasNamesLeft c.args.n (extent z)) same c.requires.room in
     (omega (arith, is, measure), (ranged, room_under c.args.n (extents (formulas_of c.as_slice-in-And.result.now)) room))
 
 pub encoded-returns-in_err-all_encoded-in-And : goal.encoded-returns-in_err-all_encoded-in-And
@@ -110,7 +110,7 @@ encoded-all_encoded-requires-in-Or t c =
     let measure : weight (formula c.args.f.now) ≡ t = c.decreases in
     let is = ap weight same in
     let ranged = subst IsRanged same c.requires.ranged in
-    let room = subst (λ z. HasRoom c.args.n (extent z)) same c.requires.room in
+    let room = subst (λ z. HasNamesLeft c.args.n (extent z)) same c.requires.room in
     (omega (arith, is, measure), (ranged, room_under c.args.n (extents (formulas_of c.as_slice-in-Or.result.now)) room))
 
 pub encoded-returns-in_err-all_encoded-in-Or : goal.encoded-returns-in_err-all_encoded-in-Or
@@ -129,7 +129,7 @@ encoded-implied-requires t c =
     let measure : weight (formula c.args.f.now) ≡ t = c.decreases in
     let is = ap weight same in
     let ranged = subst IsRanged same c.requires.ranged in
-    let room = subst (λ z. HasRoom c.args.n (extent z)) same c.requires.room in
+    let room = subst (λ z. HasNamesLeft c.args.n (extent z)) same c.requires.room in
     (omega (arith, is, measure), (ranged, room))
 
 pub encoded-returns-in-Implies : goal.encoded-returns-in-Implies
@@ -141,7 +141,7 @@ encoded-equivalent-requires t c =
     let measure : weight (formula c.args.f.now) ≡ t = c.decreases in
     let is = ap weight same in
     let ranged = subst IsRanged same c.requires.ranged in
-    let room = subst (λ z. HasRoom c.args.n (extent z)) same c.requires.room in
+    let room = subst (λ z. HasNamesLeft c.args.n (extent z)) same c.requires.room in
     (omega (arith, is, measure), (ranged, room))
 
 pub encoded-returns-in-Iff : goal.encoded-returns-in-Iff
@@ -153,7 +153,7 @@ encoded-bound-requires t c =
     let measure : weight (formula c.args.f.now) ≡ t = c.decreases in
     let is = ap weight same in
     let ranged = subst IsRanged same c.requires.ranged in
-    let room = subst (λ z. HasRoom c.args.n (extent z)) same c.requires.room in
+    let room = subst (λ z. HasNamesLeft c.args.n (extent z)) same c.requires.room in
     (omega (arith, is, measure), (ranged.0, (ranged.1, room)))
 
 pub encoded-returns-in-Forall : goal.encoded-returns-in-Forall
@@ -165,7 +165,7 @@ encoded-bound-requires-in-Exists t c =
     let measure : weight (formula c.args.f.now) ≡ t = c.decreases in
     let is = ap weight same in
     let ranged = subst IsRanged same c.requires.ranged in
-    let room = subst (λ z. HasRoom c.args.n (extent z)) same c.requires.room in
+    let room = subst (λ z. HasNamesLeft c.args.n (extent z)) same c.requires.room in
     (omega (arith, is, measure), (ranged.0, (ranged.1, room)))
 
 pub encoded-returns-in-Exists : goal.encoded-returns-in-Exists
@@ -286,14 +286,14 @@ run-graph-requires t c =
     let measure : weight_left (actions_of c.args.code.now) + 2 ≡ t = c.decreases in
     let halts = (subst (λ s. Halts c.args.at.now (actions_of c.args.code.now) (reverse c.args.stack) s (actions_of c.in_ok-stop.field-0.rest.now)) c.in-Graph.is c.in_ok-stop.ensures.ok) in
     let less = halts.weight in
-    (omega (arith, measure, less), (halts.ranged.1, subst (HasRoom c.args.n) (sym halts.extent) c.requires.room))
+    (omega (arith, measure, less), (halts.ranged.1, subst (HasNamesLeft c.args.n) (sym halts.extent) c.requires.room))
 
 pub run-cases-requires : goal.run-cases-requires
 run-cases-requires t c =
     let measure : weight_left (actions_of c.args.code.now) + 2 ≡ t = c.decreases in
     let halts = (subst (λ s. Halts c.args.at.now (actions_of c.args.code.now) (reverse c.args.stack) s (actions_of c.in_ok-stop.field-0.rest.now)) c.in-Cases.is c.in_ok-stop.ensures.ok) in
     let less = halts.weight in
-    (omega (arith, measure, less), (halts.ranged.0, (halts.ranged.1, subst (HasRoom c.args.n) (sym halts.extent) c.requires.room)))
+    (omega (arith, measure, less), (halts.ranged.0, (halts.ranged.1, subst (HasNamesLeft c.args.n) (sym halts.extent) c.requires.room)))
 
 pub run-returns-in-Nothing : goal.run-returns-in-Nothing
 run-returns-in-Nothing t c = halt_made c.args.at.now (actions_of c.args.code.now) (reverse c.args.stack) _ (actions_of c.in_ok-stop.field-0.rest.now) c.args.n _ (subst (λ s. Halts c.args.at.now (actions_of c.args.code.now) (reverse c.args.stack) s (actions_of c.in_ok-stop.field-0.rest.now)) c.in-Nothing.is c.in_ok-stop.ensures.ok) (made_just form _ _ (c.junction.ensures ∙ ap (λ l. conjunction (forms_of l)) c.new.ensures))
@@ -377,7 +377,7 @@ pub tested-encoded-requires : goal.tested-encoded-requires
 tested-encoded-requires t c =
     let measure : test_weight c.args.test.now + 1 ≡ t = c.decreases in
     let is = ap test_weight c.in-Formula.is in
-    (omega (arith, is, measure), (subst IsTestRanged c.in-Formula.is c.requires.ranged, subst (λ z. HasRoom c.args.n (test_extent z)) c.in-Formula.is c.requires.room))
+    (omega (arith, is, measure), (subst IsTestRanged c.in-Formula.is c.requires.ranged, subst (λ z. HasNamesLeft c.args.n (test_extent z)) c.in-Formula.is c.requires.room))
 
 pub tested-returns-in-Formula : goal.tested-returns-in-Formula
 tested-returns-in-Formula t c = subst (λ z. Made form (stops.tested c.args.at.now c.args.n z c.args.plus) c.encoded.result) (sym c.in-Formula.is) c.encoded.ensures

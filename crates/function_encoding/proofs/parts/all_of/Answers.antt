@@ -8,7 +8,7 @@ use Rattle.encoding.specs.Problems.{constants, types}
 use Rattle.encoding.specs.Root.{conditions, names_from}
 use Rattle.function_encoding.specs.Encoded.{all_assumed}
 use Rattle.function_encoding.specs.Marks.{is_marked}
-use Rattle.function_encoding.specs.Room.{HasRoom}
+use Rattle.function_encoding.specs.Room.{HasNamesLeft}
 use Rattle.function_encoding.proofs.Chosen.{members_as, members_err, members_ok, parts_made, parts_ranged, parts_room}
 use Rattle.function_encoding.proofs.parts.all_of.Goals as goal
 
@@ -22,7 +22,7 @@ pub members-requires-clause-room : goal.members-requires-clause-room
 members-requires-clause-room c =
     let few : constants c.args.p.now ≤ 1000 = (let h = c.requires.formed.few in omega arith) in
     let many : constants c.args.p.now ≡ c.len.result + c.len-2.result = λ i. sym c.len.ensures i + sym c.len-2.ensures i in
-    subst (λ n. HasRoom n (extents (all_assumed c.args.components.now))) many
+    subst (λ n. HasNamesLeft n (extents (all_assumed c.args.components.now))) many
     (parts_room c.args.p.now c.args.set.now c.args.marks.now c.args.components.now c.requires.formed c.requires.marked few c.requires.small c.requires.chosen)
 
 pub returns-in_err-members : goal.returns-in_err-members

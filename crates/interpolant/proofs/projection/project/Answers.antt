@@ -1,6 +1,6 @@
 use Rattle.std.proofs.Common.{◌^◌, length}
 use Rattle.formula.specs.Tree.{form}
-use Rattle.elim_rules.specs.Whole.{eliminating}
+use Rattle.elim_laws.specs.Whole.{eliminating}
 use Rattle.function_encoding.specs.Marks.{is_marked}
 use Rattle.interpolant.specs.Run.{in_new_log, others_out}
 use Rattle.interpolant.proofs.Steps.{elim_budget, elim_err, elim_ok, own_fault, own_ok}

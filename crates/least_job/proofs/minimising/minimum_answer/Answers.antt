@@ -2,7 +2,7 @@ use Rattle.std.proofs.Common.{◌≡◌, length, Err, subst}
 use Rattle.purse.specs.Trace.{Funds, at}
 use Rattle.answers.specs.Answer.{Answer}
 use Rattle.pri_typing.specs.declared.problem.Problem.{Problem}
-use Rattle.least_rules.specs.Least.{Minimum, minimising}
+use Rattle.least_laws.specs.Least.{Minimum, minimising}
 use Rattle.optimiser.specs.Answers.{Minimises, minimum_of}
 use Rattle.least_job.specs.Leasts.{minimum_answer}
 use Rattle.least_job.proofs.Stages.{cut_minimum, gave}

@@ -7,8 +7,8 @@ use Rattle.linear_term.proofs.numbers.floor_div.Goals as goal
 
 pub returns-clause-floor : goal.returns-clause-floor
 returns-clause-floor c =
-    let f : SFits w128 c.div_euclid.result = search rules in
+    let f : SFits w128 c.rounded_down.result = search rules in
     let a : SFits w128 c.args.a = c.ranges.a in
     let b : SFits w128 c.args.b = c.ranges.b in
-    let is = simp to_z-of_z at c.div_euclid.ensures in
+    let is = simp to_z-of_z at c.rounded_down.ensures in
     rw (to_z-of_z, is) (floor-is _ _ c.requires.b_positive)

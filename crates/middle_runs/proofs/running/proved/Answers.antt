@@ -1,5 +1,9 @@
+use Rattle.problem_file.proofs.Sizes.{searchable}
 use Rattle.middle_runs.proofs.Outcomes.{ends_at, not_invalid, not_saturated, valid_proved, valid_runs}
 use Rattle.middle_runs.proofs.running.proved.Goals as goal
+
+pub prove-requires-clause-searchable : goal.prove-requires-clause-searchable
+prove-requires-clause-searchable c = searchable c.requires.sound.problem c.args.encoded c.requires.sound.formed c.requires.sound.encoded
 
 pub unreachable-requires : goal.unreachable-requires
 unreachable-requires c = not_invalid c.args.encoded _ _ c.in-Invalid.constraint c.in-Invalid.tree c.requires.sound (ends_at _ _ _ _ _ _ c.in_ok-tree.ensures c.in-Invalid.is)

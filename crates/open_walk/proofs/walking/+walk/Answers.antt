@@ -2,13 +2,13 @@ use Rattle.std.proofs.Common.{◌≡◌, ◌+◌, ◌-◌, ◌<◌, ◌≤◌, �
 use Rattle.std.proofs.lemmas.Option.{slice_get_within}
 use Rattle.sequent.specs.Rules.{premises_of}
 use Rattle.sequent.specs.Views.{sequent_of}
-use Rattle.open_walk.specs.Ready.{AreReady}
+use Rattle.open_walk.specs.Ready.{AreWalkReady}
 use Rattle.open_walk.specs.Stopped.{stopped}
 use Rattle.std.specs.List.{AllByRecursion, slice_get}
 use Rattle.proof_tree.specs.declared.node.Node.{Node, out-Node}
 use Rattle.proof_tree.specs.Proof.{Proof, given, proofs}
 use Rattle.proof_tree.specs.Views.{proof_of}
-use Rattle.solution_rules.specs.Solutions.{IsGiven}
+use Rattle.solution_laws.specs.Solutions.{IsGiven}
 use Rattle.open_walk.proofs.Nodes.{first_is_given, fork_cut, fork_ends, fork_more, fork_on, get_at, given_at, none_first, nothing_there, nowhere_gamma, nowhere_trivial, ready_child, ready_drop, ready_here, stops, turn_cut, turn_none, turn_on, walked_here, walks_alpha, walks_beta, walks_delta, wants_memory}
 use Rattle.open_walk.proofs.Below.{few_constants}
 use Rattle.open_walk.proofs.Beneath.{alpha_below, beta_below, beta_few, beta_given, delta_below, delta_child, delta_given, ready_room}
@@ -89,7 +89,7 @@ fork-step-requires t c = (
   (
     c.requires.room,
     (
-      subst (λ z. AreReady c.args.left (drop c.loop-i.i (premises_of (sequent_of c.args.s.now) c.args.rule)) (proofs (map proof_of (drop c.loop-i.i c.args.children.now))) z) (sym c.loop-i.invariant.0)
+      subst (λ z. AreWalkReady c.args.left (drop c.loop-i.i (premises_of (sequent_of c.args.s.now) c.args.rule)) (proofs (map proof_of (drop c.loop-i.i c.args.children.now))) z) (sym c.loop-i.invariant.0)
           (ready_drop c.args.left (premises_of (sequent_of c.args.s.now) c.args.rule) c.args.children.now c.loop-i.i c.args.values c.requires.ready),
       below_budget (2 ^ 32) c.in_ok-affirmed.ensures.charged c.loop-i.invariant.1,
     ),
@@ -118,7 +118,7 @@ walk-step-requires t c = (
   omega (arith, c.decreases, c.if-left-eq0.false),
   (
     ready_room c.args.left c.args.s (proof_of c.args.x.now) c.args.values c.requires.ready,
-    ((subst (λ (ys : List Node). AreReady (c.args.left - 1) (premises_of (sequent_of c.args.s) (out-Node c.args.x.now).rule) (proofs (map proof_of ys)) c.args.values) (sym c.as_slice.ensures) (alpha_below c.args.left (sequent_of c.args.s) c.args.x.now c.in-Alpha.field-0 c.args.values c.in-Alpha.is c.if-left-eq0.false c.requires.ready)), c.requires.budget),
+    ((subst (λ (ys : List Node). AreWalkReady (c.args.left - 1) (premises_of (sequent_of c.args.s) (out-Node c.args.x.now).rule) (proofs (map proof_of ys)) c.args.values) (sym c.as_slice.ensures) (alpha_below c.args.left (sequent_of c.args.s) c.args.x.now c.in-Alpha.field-0 c.args.values c.in-Alpha.is c.if-left-eq0.false c.requires.ready)), c.requires.budget),
   ),
 )
 
@@ -135,7 +135,7 @@ walk-turn-requires t c = (
           subst (λ (ys : List Node). (child : Proof) → slice_get (map proof_of ys) 0 ≡ Some child → IsGiven (c.args.s.count + 1) (given child)) (sym c.as_slice-in-Delta.ensures)
               (delta_given c.args.left (sequent_of c.args.s) c.args.x.now c.in-Delta.field-0 c.args.values c.in-Delta.is c.requires.ready),
           (
-            (λ u inside many. (subst (λ (ys : List Node). AreReady (c.args.left - 1) (premises_of (sequent_of c.args.s) (out-Node c.args.x.now).rule) (proofs (map proof_of ys)) u) (sym c.as_slice-in-Delta.ensures) (delta_below c.args.left (sequent_of c.args.s) c.args.x.now c.in-Delta.field-0 c.args.values c.in-Delta.is c.if-left-eq0.false c.requires.ready u inside many))),
+            (λ u inside many. (subst (λ (ys : List Node). AreWalkReady (c.args.left - 1) (premises_of (sequent_of c.args.s) (out-Node c.args.x.now).rule) (proofs (map proof_of ys)) u) (sym c.as_slice-in-Delta.ensures) (delta_below c.args.left (sequent_of c.args.s) c.args.x.now c.in-Delta.field-0 c.args.values c.in-Delta.is c.if-left-eq0.false c.requires.ready u inside many))),
             (c.requires.ready.values, (c.requires.ready.many, c.requires.budget)),
           ),
         ),
@@ -154,7 +154,7 @@ walk-fork-requires t c = (
       (
         subst (λ (ys : List Node). AllByRecursion (λ y. IsGiven c.args.s.count (given y)) (map proof_of ys)) (sym c.as_slice-in-Beta.ensures) (beta_given c.args.left (sequent_of c.args.s) c.args.x.now c.in-Beta.field-0 c.args.values c.in-Beta.is c.requires.ready),
         (
-          (subst (λ (ys : List Node). AreReady (c.args.left - 1) (premises_of (sequent_of c.args.s) (out-Node c.args.x.now).rule) (proofs (map proof_of ys)) c.args.values) (sym c.as_slice-in-Beta.ensures) (beta_below c.args.left (sequent_of c.args.s) c.args.x.now c.in-Beta.field-0 c.args.values c.in-Beta.is c.if-left-eq0.false c.requires.ready)),
+          (subst (λ (ys : List Node). AreWalkReady (c.args.left - 1) (premises_of (sequent_of c.args.s) (out-Node c.args.x.now).rule) (proofs (map proof_of ys)) c.args.values) (sym c.as_slice-in-Beta.ensures) (beta_below c.args.left (sequent_of c.args.s) c.args.x.now c.in-Beta.field-0 c.args.values c.in-Beta.is c.if-left-eq0.false c.requires.ready)),
           (c.requires.ready.values, (c.requires.ready.many, c.requires.budget)),
         ),
       ),

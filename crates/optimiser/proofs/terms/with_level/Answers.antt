@@ -4,7 +4,7 @@ use mir.Val.{SFits}
 use Rattle.linear_term.specs.Linear.{number}
 use Rattle.purse.specs.Trace.{combining}
 use Rattle.purse.proofs.Charging.{then_ok, then_err, free}
-use Rattle.least_rules.specs.Least.{with_zero}
+use Rattle.least_laws.specs.Least.{with_zero}
 use Rattle.optimiser.proofs.terms.with_level.Goals as goal
 
 pub returns-in_err-s : goal.returns-in_err-s

@@ -4,7 +4,7 @@ use Rattle.linear_term.specs.Range.{InRange}
 use Rattle.clause_set.specs.Rules.{measure}
 use Rattle.purse.specs.Trace.{at, each}
 use Rattle.purse.specs.Work.{Remains}
-use Rattle.solution_rules.specs.Candidates.{candidates}
+use Rattle.solution_laws.specs.Candidates.{candidates}
 use Rattle.parameter_solver.proofs.Parting.{above}
 use Rattle.parameter_solver.proofs.steps.+splitting.Given as goal
 

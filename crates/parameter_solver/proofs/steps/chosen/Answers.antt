@@ -5,8 +5,8 @@ use mir.Syntax.{w128}
 use mir.Val.{SFits}
 use Rattle.linear_term.specs.Range.{InRange}
 use Rattle.purse.proofs.Charging.{drop-item, drop_all, remains_next, remains_ends, then_ok, then_err, then_just, then_fault, no_memory}
-use Rattle.solution_rules.specs.Nearest.{nearest}
-use Rattle.solution_rules.specs.Solutions.{chosen}
+use Rattle.solution_laws.specs.Nearest.{nearest}
+use Rattle.solution_laws.specs.Solutions.{chosen}
 use Rattle.parameter_solver.proofs.Parting.{name_item, range_append, nearest_range}
 use Rattle.parameter_solver.proofs.steps.chosen.Goals as goal
 

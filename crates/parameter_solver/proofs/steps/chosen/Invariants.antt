@@ -3,7 +3,7 @@ use Rattle.std.specs.Prelude.{All}
 use Rattle.linear_term.specs.Range.{InRange}
 use Rattle.purse.specs.Trace.{at, each}
 use Rattle.purse.specs.Work.{Remains}
-use Rattle.solution_rules.specs.Candidates.{charged_candidates}
+use Rattle.solution_laws.specs.Candidates.{charged_candidates}
 use Rattle.parameter_solver.proofs.steps.chosen.Given as goal
 
 abbrev pub invariant-loop-c : goal.invariant-loop-c

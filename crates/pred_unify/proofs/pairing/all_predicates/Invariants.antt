@@ -4,7 +4,8 @@ use Rattle.purse.specs.Trace.{each}
 use Rattle.pred_unify.specs.Pairs.{with_predicates}
 use Rattle.formula.specs.Tree.{form}
 use Rattle.sequent.specs.Views.{members_of}
+use Rattle.pred_unify.specs.Reading.{behind}
 use Rattle.pred_unify.proofs.pairing.all_predicates.Given as goal
 
 abbrev pub invariant-loop-m : goal.invariant-loop-m
-invariant-loop-m l = Left (each (λ m. with_predicates (members_of l.members) m.formula) (members_of (drop l.m-index l.members)) (map form l.out)) (each (λ m. with_predicates (members_of l.members) m.formula) (members_of l.members) [])
+invariant-loop-m l = Left (each (λ m. with_predicates (members_of (behind l.holding)) m.formula) (members_of (behind (drop l.m-index l.members))) (map form l.out)) (each (λ m. with_predicates (members_of (behind l.holding)) m.formula) (members_of (behind l.members)) [])

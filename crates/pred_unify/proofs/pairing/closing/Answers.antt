@@ -1,21 +1,17 @@
-use Rattle.std.proofs.Common.{◌∙◌, ap, map}
-use Rattle.pred_unify.specs.Pairs.{pures}
+use Rattle.std.proofs.Common.{subst, sym}
+use Rattle.formula.specs.Made.{Made}
 use Rattle.formula.specs.Tree.{form}
-use Rattle.sequent.specs.Views.{members_of}
-use Rattle.formula.proofs.Making.{made_ok, made_err, made_just, made_memory}
-use Rattle.pred_unify.proofs.Making.{closing_is}
+use Rattle.formula.proofs.Making.{made_memory}
+use Rattle.sequent.specs.Views.{sequent_of, HasRoom}
+use Rattle.sequent.specs.declared.member.Sequent.{Sequent}
+use Rattle.pred_unify.specs.Pairs.{closing_of}
 use Rattle.pred_unify.proofs.pairing.closing.Goals as goal
 
-pub returns-in_err-ps : goal.returns-in_err-ps
-returns-in_err-ps c = made_err (map form) form _ _ _ c.from_residual.ensures.1 c.in_err-ps.ensures
+pub returns-in_err-leaf : goal.returns-in_err-leaf
+returns-in_err-leaf c = made_memory form _ c.from_residual.ensures.1
 
-pub returns-in_err-all : goal.returns-in_err-all
-returns-in_err-all c = made_memory form _ c.from_residual-in_err-all.ensures.1
-
-pub returns-in_err-append : goal.returns-in_err-append
-returns-in_err-append c = made_memory form _ c.from_residual-in_err-append.ensures.1
+pub closing_at-requires-clause-room : goal.closing_at-requires-clause-room
+closing_at-requires-clause-room c = subst HasRoom (sym c.in_ok-leaf.ensures.sequent) c.requires
 
 pub returns : goal.returns
-returns c =
-    made_ok (map form) form _ _ c.in_ok-ps.ensures
-    (made_just form _ _ (closing_is _ _ _ _ c.in_ok-append.ensures (c.in_ok-all.ensures ∙ ap (λ ms. pures c.args.s.now.count (members_of ms)) c.as_slice.ensures)))
+returns c = subst (λ (s : Sequent). Made form (closing_of (sequent_of s)) c.closing_at.result) c.in_ok-leaf.ensures.sequent c.closing_at.ensures

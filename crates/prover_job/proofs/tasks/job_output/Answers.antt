@@ -15,8 +15,8 @@ pub returns-in-Least-clause-answered : goal.returns-in-Least-clause-answered
 returns-in-Least-clause-answered g c =
     let is : task_of c.args.job.now ≡ minimise c.as_str-in-Least.result.now c.as_str-in-Least-2.result.now c.in-Least.budget = search rules in rw is c.least_output.ensures.answered
 
-pub returns-in_ok-answer-in-Drill-clause-answered : goal.returns-in_ok-answer-in-Drill-clause-answered
-returns-in_ok-answer-in-Drill-clause-answered g c = let is : task_of c.args.job.now ≡ drill c.in-Drill.count c.in-Drill.budget = search rules in rw is c.in_ok-answer-in-Drill.ensures
+pub returns-in_ok-drilled-in-Drill-clause-answered : goal.returns-in_ok-drilled-in-Drill-clause-answered
+returns-in_ok-drilled-in-Drill-clause-answered g c = let is : task_of c.args.job.now ≡ drill c.in-Drill.count c.in-Drill.budget = search rules in rw is c.in_ok-drilled-in-Drill.ensures
 
 pub returns-in-Check-clause-answered : goal.returns-in-Check-clause-answered
 returns-in-Check-clause-answered g c =

@@ -1,5 +1,5 @@
 use Rattle.std.proofs.Common.{ℕ}
-use Rattle.elim_rules.specs.Whole.{IsExact, eliminating}
+use Rattle.elim_laws.specs.Whole.{IsExact, eliminating}
 use Rattle.formula.specs.Tree.{form}
 use Rattle.quant_elim.proofs.Atomic.{atom_exact}
 use Rattle.quant_elim.proofs.Outcomes.{value_of_call}

@@ -1,5 +1,5 @@
 use Rattle.formula.specs.Tree.{form}
-use Rattle.elim_rules.proofs.Reduced.{presburger_of}
+use Rattle.elim_laws.proofs.Reduced.{presburger_of}
 use Rattle.quant_elim.proofs.knowing.know_terms.Goals as goal
 
 pub returns : goal.returns

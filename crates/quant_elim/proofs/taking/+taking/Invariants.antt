@@ -1,5 +1,5 @@
 use Rattle.std.proofs.Common.{[], ◌+◌, ◌*◌, ◌^◌, ◌<◌, drop}
-use Rattle.elim_rules.specs.Elimination.{taken_out}
+use Rattle.elim_laws.specs.Elimination.{taken_out}
 use Rattle.clause_set.specs.Rules.{measure}
 use Rattle.purse.specs.Trace.{at, each}
 use Rattle.purse.specs.Work.{Remains, marks_of}

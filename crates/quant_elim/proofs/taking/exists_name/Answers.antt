@@ -1,7 +1,7 @@
 use Rattle.std.proofs.Common.{subst}
 use Rattle.clause_set.specs.Kept.{AreFormed}
-use Rattle.elim_rules.specs.Elimination.{IsOut, exists_name}
-use Rattle.elim_rules.proofs.Taking.{exists_name-out}
+use Rattle.elim_laws.specs.Elimination.{IsOut, exists_name}
+use Rattle.elim_laws.proofs.Taking.{exists_name-out}
 use Rattle.quant_elim.proofs.Outcomes.{logged_by, value_with}
 use Rattle.quant_elim.proofs.taking.exists_name.Goals as goal
 

@@ -1,7 +1,7 @@
 use Rattle.std.proofs.Common.{subst, ◌-◌}
 use Rattle.clause_set.specs.Kept.{AreFormed}
-use Rattle.elim_rules.specs.Elimination.{IsEvery, for_all_name}
-use Rattle.elim_rules.proofs.Always.{for_all_name-every}
+use Rattle.elim_laws.specs.Elimination.{IsEvery, for_all_name}
+use Rattle.elim_laws.proofs.Always.{for_all_name-every}
 use Rattle.quant_elim.proofs.Outcomes.{logged_by, value_with}
 use Rattle.quant_elim.proofs.taking.forall_last.Goals as goal
 

@@ -1,7 +1,7 @@
 use Rattle.std.proofs.Common.{◌+◌, ◌^◌, arith}
 use Rattle.clause_set.specs.Dnfs.{negation}
-use Rattle.elim_rules.specs.Elimination.{exists_name}
-use Rattle.elim_rules.specs.Whole.{eliminating}
+use Rattle.elim_laws.specs.Elimination.{exists_name}
+use Rattle.elim_laws.specs.Whole.{eliminating}
 use Rattle.formula.specs.Sizes.{size}
 use Rattle.formula.specs.Tree.{form}
 use Rattle.purse.proofs.Charging.{then_ok, then_err, unnoted, drop-item, remains_next}

@@ -1,6 +1,6 @@
 use Rattle.std.proofs.Common.{[], ◌+◌, ◌*◌, ◌^◌, ◌<◌, drop}
 use Rattle.clause_set.specs.Dnfs.{top}
-use Rattle.elim_rules.specs.Whole.{all_of, any_of, eliminating}
+use Rattle.elim_laws.specs.Whole.{all_of, any_of, eliminating}
 use Rattle.formula.specs.Sizes.{depth, depths}
 use Rattle.formula.specs.Tree.{form, forms_of}
 use Rattle.purse.specs.Trace.{at}

@@ -1,5 +1,5 @@
-use Rattle.elim_rules.specs.Whole.{AreOver, IsExact, eliminating}
-use Rattle.elim_rules.proofs.Whole.{eliminating-exact}
+use Rattle.elim_laws.specs.Whole.{AreOver, IsExact, eliminating}
+use Rattle.elim_laws.proofs.Whole.{eliminating-exact}
 use Rattle.formula.specs.Tree.{form}
 use Rattle.quant_elim.proofs.Outcomes.{logged_by, value_with}
 use Rattle.quant_elim.proofs.Unfolded.{eliminating-over}

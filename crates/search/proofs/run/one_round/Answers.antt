@@ -41,7 +41,7 @@ solution-requires-clause-over c =
     let f = form c.args.root.now in
     let begun = ap sequent_of c.in_ok-branch.ensures ∙ c.in_ok-s.ensures in
     let made = c.in_ok-tree.ensures.work.some c.in-Some.tree (ap Ok c.in-Some.is) in
-    tree_over c.args.keeps f c.args.constants c.args.limit (standing c.in_ok-branch.branch) made.0 c.in-Some.tree begun c.requires.over (subst IsReducedSequent (sym (ap sequent_of c.in_ok-branch.ensures)) c.know_reduced.ensures)
+    tree_over c.args.keeps f c.args.constants c.args.limit (standing c.in_ok-branch.branch) made.0 c.in-Some.tree begun c.requires.searchable.over (subst IsReducedSequent (sym (ap sequent_of c.in_ok-branch.ensures)) c.know_reduced.ensures)
     (subst (λ (q : Sequent). IsGrown c.args.keeps q made.0 c.in-Some.tree) begun made.2.tree)
     (of_round f c.args.constants c.args.limit (standing c.in_ok-branch.branch) c.args.course.now (Ok (Some made.0)) begun c.begin_round.ensures made.1)
 

@@ -1,28 +1,18 @@
-use Rattle.std.proofs.Common.{◌^◌, length, refl, sym, ◌∙◌, ap, subst, arith}
-use Rattle.formula.specs.Form.{IsFormOver}
+use Rattle.std.proofs.Common.{◌^◌, length, refl, ◌∙◌, ap, subst, arith}
 use Rattle.formula.specs.Tree.{form}
 use Rattle.proof_tree.specs.Views.{proof_of}
 use Rattle.search.specs.declared.judge.Outcome.TheVariants.{Valid, Invalid, Saturated, Unknown}
 use Rattle.encoding.proofs.Problems.{root_over}
 use Rattle.answers.specs.Answer.{answer_of, unknown_answer}
-use Rattle.constraint_lines.proofs.Sizes.{small_depth, small_size}
+use Rattle.problem_file.proofs.Sizes.{searchable}
 use Rattle.solve_job.specs.Told.{IsValidTold}
 use Rattle.solve_job.proofs.Outcomes.{ends_at, fitting, invalid_told, run_below, saturated_end, saturated_told, start, unknown_told, valid_holds, valid_told}
 use Rattle.solve_job.proofs.Printing.{alone_as, if_ok, invalid_part_told, invalid_printable, proved_as, saturated_part, unknown_part, valid_part_told, valid_printable}
 use Rattle.solve_job.proofs.Refuted.{levels_are, saturated_is}
 use Rattle.solve_job.proofs.solving.with_tree.Goals as goal
 
-pub prove-requires-clause-over : goal.prove-requires-clause-over
-prove-requires-clause-over c = subst (λ n. IsFormOver n (form c.args.encoded.now.root)) (sym c.requires.encoded.constants) c.requires.encoded.over
-
-pub prove-requires-clause-size : goal.prove-requires-clause-size
-prove-requires-clause-size c = small_size (form c.args.encoded.now.root) c.requires.encoded.small
-
-pub prove-requires-clause-depth : goal.prove-requires-clause-depth
-prove-requires-clause-depth c = small_depth (form c.args.encoded.now.root) c.requires.encoded.small
-
-pub prove-requires-clause-constants : goal.prove-requires-clause-constants
-prove-requires-clause-constants c = let few = c.requires.well_formed.few in let is = c.requires.encoded.constants in omega arith
+pub prove-requires-clause-searchable : goal.prove-requires-clause-searchable
+prove-requires-clause-searchable c = searchable c.args.problem.now c.args.encoded.now c.requires.well_formed c.requires.encoded
 
 pub valid-requires-clause-over : goal.valid-requires-clause-over
 valid-requires-clause-over c =
@@ -47,7 +37,7 @@ valid-requires-clause-budget c =
 pub with_proof-requires : goal.with_proof-requires
 with_proof-requires c =
     let k = ends_at (form c.args.encoded.now.root) c.args.encoded.now.constants _ (start c.args.budget) c.prove.new.purse c.in_ok-outcome.outcome (Valid c.in-Valid.constraint c.in-Valid.solution c.in-Valid.tree) c.new-purse.ensures c.in_ok-outcome.ensures c.in-Valid.is in
-    valid_printable c.args.budget c.args.problem.now c.args.encoded.now c.requires.encoded (let few = c.requires.well_formed.few in omega (arith, few)) c.requires.budget c.in-Valid.constraint c.in-Valid.solution c.in-Valid.tree c.prove.new.purse k
+    valid_printable c.args.budget c.args.problem.now c.args.encoded.now c.requires.encoded c.requires.well_formed c.requires.budget c.in-Valid.constraint c.in-Valid.solution c.in-Valid.tree c.prove.new.purse k
 
 pub returns-in-Valid : goal.returns-in-Valid
 returns-in-Valid c =
@@ -62,7 +52,7 @@ returns-in-Valid c =
 pub with_proof-requires-in-Invalid : goal.with_proof-requires-in-Invalid
 with_proof-requires-in-Invalid c =
     let k = ends_at (form c.args.encoded.now.root) c.args.encoded.now.constants _ (start c.args.budget) c.prove.new.purse c.in_ok-outcome.outcome (Invalid c.in-Invalid.constraint c.in-Invalid.tree) c.new-purse.ensures c.in_ok-outcome.ensures c.in-Invalid.is in
-    invalid_printable c.args.budget c.args.problem.now c.args.encoded.now c.requires.encoded (let few = c.requires.well_formed.few in omega (arith, few)) c.requires.budget c.in-Invalid.constraint c.in-Invalid.tree c.prove.new.purse k
+    invalid_printable c.args.budget c.args.problem.now c.args.encoded.now c.requires.encoded c.requires.well_formed c.requires.budget c.in-Invalid.constraint c.in-Invalid.tree c.prove.new.purse k
 
 pub returns-in-Invalid : goal.returns-in-Invalid
 returns-in-Invalid c =

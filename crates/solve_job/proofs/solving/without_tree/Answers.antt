@@ -1,26 +1,16 @@
-use Rattle.std.proofs.Common.{◌^◌, length, None, refl, sym, ◌∙◌, ap, subst, arith}
-use Rattle.formula.specs.Form.{IsFormOver}
+use Rattle.std.proofs.Common.{◌^◌, length, None, refl, ◌∙◌, ap, subst, arith}
 use Rattle.formula.specs.Tree.{form}
 use Rattle.search.specs.declared.judge.Decided.TheVariants.{Valid, Invalid, Unknown}
 use Rattle.search.specs.declared.judge.Outcome.TheVariants as outcome
 use Rattle.answers.specs.Answer.{unknown_answer}
-use Rattle.constraint_lines.proofs.Sizes.{small_depth, small_size}
+use Rattle.problem_file.proofs.Sizes.{searchable}
 use Rattle.solve_job.specs.Told.{IsValidTold}
 use Rattle.solve_job.proofs.Outcomes.{decided_at, fitting, invalid_told, run_below, start, unknown_told, valid_holds, valid_told}
 use Rattle.solve_job.proofs.Printing.{alone_as, if_ok}
 use Rattle.solve_job.proofs.solving.without_tree.Goals as goal
 
-pub decide-requires-clause-over : goal.decide-requires-clause-over
-decide-requires-clause-over c = subst (λ n. IsFormOver n (form c.args.encoded.now.root)) (sym c.requires.encoded.constants) c.requires.encoded.over
-
-pub decide-requires-clause-size : goal.decide-requires-clause-size
-decide-requires-clause-size c = small_size (form c.args.encoded.now.root) c.requires.encoded.small
-
-pub decide-requires-clause-depth : goal.decide-requires-clause-depth
-decide-requires-clause-depth c = small_depth (form c.args.encoded.now.root) c.requires.encoded.small
-
-pub decide-requires-clause-constants : goal.decide-requires-clause-constants
-decide-requires-clause-constants c = let few = c.requires.well_formed.few in let is = c.requires.encoded.constants in omega arith
+pub decide-requires-clause-searchable : goal.decide-requires-clause-searchable
+decide-requires-clause-searchable c = searchable c.args.problem.now c.args.encoded.now c.requires.well_formed c.requires.encoded
 
 pub valid-requires-clause-over : goal.valid-requires-clause-over
 valid-requires-clause-over c =

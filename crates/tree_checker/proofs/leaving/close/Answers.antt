@@ -4,7 +4,7 @@ use Rattle.proof_tree.specs.Proof.{node}
 use Rattle.proof_tree.specs.Walk.{fee, width}
 use Rattle.sequent.specs.Rules.{place}
 use Rattle.sequent.specs.declared.member.Pick.TheVariants.{Close}
-use Rattle.tree_lines.specs.Lines.{last_lines}
+use Rattle.proof_line.specs.Lines.{last_lines}
 use Rattle.tree_checker.proofs.Entered.{first_true, node_left, node_unpaid, node_wrong, none_walked, second_true, walked_memory}
 use Rattle.tree_checker.proofs.Fitted.{close_is, leaf_fits, leaf_none, lone_unfit}
 use Rattle.tree_checker.proofs.Paid.{node_paid}

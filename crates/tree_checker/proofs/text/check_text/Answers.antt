@@ -1,5 +1,5 @@
 use Rattle.formula.specs.Tree.{form}
-use Rattle.proof_lines.specs.Body.{body}
+use Rattle.proof_file.specs.Body.{body}
 use Rattle.tree_checker.proofs.Held.{file_refused, held_charges}
 use Rattle.tree_checker.proofs.text.check_text.Goals as goal
 

@@ -8,7 +8,7 @@ use Rattle.sequent.specs.Views.{HasRoom}
 use Rattle.proof_tree.specs.Walk.{fee}
 use Rattle.node_steps.specs.Within.{IsWithin}
 use Rattle.node_steps.proofs.Keeping.{premises_few, premises_most, premises_within, within_room}
-use Rattle.tree_lines.specs.Lines.{last_lines}
+use Rattle.proof_line.specs.Lines.{last_lines}
 use Rattle.tree_checker.specs.Told.{told_all}
 use Rattle.tree_checker.proofs.Entered.{after_row, no_level, node_cut, node_left, node_none, node_unpaid, node_wrong, walked_memory, wide_of}
 use Rattle.tree_checker.proofs.Fitted.{fits_log, told_fits, told_unfit}

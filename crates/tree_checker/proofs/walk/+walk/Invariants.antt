@@ -2,7 +2,7 @@ use Rattle.std.proofs.Common.{◌≡◌, ◌+◌, ◌*◌, ◌++◌, List, lengt
 use Rattle.open_branch.specs.Standing.{premises_from}
 use Rattle.proof_tree.specs.Proof.{Proofs}
 use Rattle.proof_tree.specs.Walk.{width}
-use Rattle.tree_lines.specs.declared.lines.TextLine.{TextLine}
+use Rattle.proof_line.specs.declared.lines.TextLine.{TextLine}
 use Rattle.tree_checker.specs.Told.{HaveLevels, told_all}
 use Rattle.tree_checker.specs.Walking.{IsPaid}
 use Rattle.tree_checker.proofs.Stepped.{Stepping}

@@ -2,7 +2,7 @@ use Rattle.std.proofs.Common.{arith, refl, to_z-of_z}
 use mir.Syntax.{w128}
 use mir.Val.{SFits}
 use Rattle.purse.proofs.Charging.{drop-item, drop_all, left_next, left_ends, work_err, work_just}
-use Rattle.performed_rules.proofs.Steps.{append_divisors}
+use Rattle.rule_code.proofs.Steps.{append_divisors}
 use Rattle.value_steps.proofs.values.all_valued.Goals as goal
 
 pub returns-in_err-valued-clause-work : goal.returns-in_err-valued-clause-work

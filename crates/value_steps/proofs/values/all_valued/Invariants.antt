@@ -3,7 +3,7 @@ use Rattle.std.specs.Prelude.{All}
 use Rattle.purse.specs.Trace.{each}
 use Rattle.purse.proofs.Charging.{Left}
 use Rattle.clause_set.specs.Literals.{HasDivisor}
-use Rattle.solution_rules.specs.Solutions.{valued}
+use Rattle.solution_laws.specs.Solutions.{valued}
 use Rattle.value_steps.proofs.values.all_valued.Given as goal
 
 abbrev pub invariant-loop-l : goal.invariant-loop-l

@@ -1,7 +1,7 @@
 use Rattle.std.proofs.Common.{[], drop}
 use Rattle.purse.specs.Trace.{each}
 use Rattle.purse.proofs.Charging.{Left}
-use Rattle.solution_rules.specs.Solutions.{valued_clause}
+use Rattle.solution_laws.specs.Solutions.{valued_clause}
 use Rattle.value_steps.proofs.values.valued_clauses.Given as goal
 
 abbrev pub invariant-loop-c : goal.invariant-loop-c

@@ -1,8 +1,0 @@
-use Rattle.std.proofs.Common.{ℕ, ◌<◌, List, get_or}
-use Rattle.std.specs.Prelude.{All}
-use Rattle.clause_set.specs.declared.literal.Literal.{Literal}
-use Rattle.clause_set.specs.Formed.{IsFormed}
-use Rattle.elim_rules.proofs.knowing.know_formed.Given as goal
-
-abbrev pub invariant-loop-c : goal.invariant-loop-c
-invariant-loop-c l = (k : ℕ) (d : List Literal) → k < l.c-index → All IsFormed (get_or l.cs k d)

@@ -1,0 +1,128 @@
+// The charge of a leaf that is read where its members lie.
+
+ghost use Rattle.formula.specs.Tree.{form};
+ghost use Rattle.node_steps.specs.Pairing as pairing;
+ghost use Rattle.node_steps.specs.Pairing.{sum_of};
+ghost use Rattle.pred_unify.specs.Reading.{HasKinds, behind, sequent_at};
+ghost use Rattle.proof_tree.specs.Walk as walk;
+ghost use Rattle.purse.specs.Trace.{capped};
+ghost use Rattle.sequent.specs.Views.{members_of, sequent_of};
+ghost use Rattle.sequent.specs.declared.member.Pick.TheVariants as pick;
+ghost use Rattle.std.specs.Prelude.{◌≡◌};
+
+use super::fee::{function_pair_size, predicate_pair_size, pure_size};
+use formula::Core;
+use linear_term::Term;
+use pred_unify::Leaf;
+use sequent::Member;
+
+/// The size of the pairs of a negated predicate with each member.
+fn predicate_sizes(p: u32, ss: &[Term], members: &[&Member]) -> u64
+    ensures { result ≡ capped (sum_of (λ m. pairing.predicate_pair_size p ss.now m.formula) (members_of (behind members.now))) }
+{
+    let mut sum: u64 = 0;
+    for m in members {
+        sum = sum.saturating_add(predicate_pair_size(p, ss, &m.formula));
+    }
+    sum
+}
+
+/// The size of the pairs of a function's value with each member.
+fn function_sizes(f: u32, ss: &[Term], members: &[&Member]) -> u64
+    ensures { result ≡ capped (sum_of (λ m. pairing.function_pair_size f ss.now m.formula) (members_of (behind members.now))) }
+{
+    let mut sum: u64 = 0;
+    for m in members {
+        sum = sum.saturating_add(function_pair_size(f, ss, &m.formula));
+    }
+    sum
+}
+
+/// The size of the pairs of g with each member, if g is a negated predicate.
+fn with_predicates_size(members: &[&Member], g: &Core) -> u64
+    ensures { result ≡ capped (pairing.with_predicates_size (members_of (behind members.now)) (form g.now)) }
+{
+    match g {
+        Core::NotPred(p, ss) => predicate_sizes(*p, ss.as_slice(), members),
+        Core::Eq(_) => 0,
+        Core::Neq(_) => 0,
+        Core::Geq(_) => 0,
+        Core::Pred(_, _) => 0,
+        Core::NotFun(_, _, _) => 0,
+        Core::And(_) => 0,
+        Core::Or(_) => 0,
+        Core::Forall(_) => 0,
+        Core::Exists(_) => 0,
+    }
+}
+
+/// The size of the pairs of g with each member, if g is a value of a function.
+fn with_functions_size(members: &[&Member], g: &Core) -> u64
+    ensures { result ≡ capped (pairing.with_functions_size (members_of (behind members.now)) (form g.now)) }
+{
+    match g {
+        Core::NotFun(f, ss, _) => function_sizes(*f, ss.as_slice(), members),
+        Core::Eq(_) => 0,
+        Core::Neq(_) => 0,
+        Core::Geq(_) => 0,
+        Core::Pred(_, _) => 0,
+        Core::NotPred(_, _) => 0,
+        Core::And(_) => 0,
+        Core::Or(_) => 0,
+        Core::Forall(_) => 0,
+        Core::Exists(_) => 0,
+    }
+}
+
+/// The size of the pairs of each negated predicate with each predicate that holds.
+fn all_predicates_size(members: &[&Member], holding: &[&Member]) -> u64
+    ensures { result ≡ capped (sum_of (λ m. pairing.with_predicates_size (members_of (behind holding.now)) m.formula) (members_of (behind members.now))) }
+{
+    let mut sum: u64 = 0;
+    for m in members {
+        sum = sum.saturating_add(with_predicates_size(holding, &m.formula));
+    }
+    sum
+}
+
+/// The size of the pairs of each function's value with each later one.
+fn later_values_size(members: &[&Member]) -> u64
+    ensures { result ≡ capped (pairing.function_pairs_size (members_of (behind members.now))) }
+{
+    let mut sum: u64 = 0;
+    for i in 0..members.len() {
+        sum = sum.saturating_add(with_functions_size(&members[i + 1..], &members[i].formula));
+    }
+    sum
+}
+
+/// The size of the pure members.
+fn pure_sizes(members: &[&Member]) -> u64
+    ensures { result ≡ capped (sum_of pairing.pure_size (members_of (behind members.now))) }
+{
+    let mut sum: u64 = 0;
+    for m in members {
+        sum = sum.saturating_add(pure_size(m));
+    }
+    sum
+}
+
+/// The size of the closing formula.
+fn closing_size(leaf: &Leaf) -> u64
+    requires { HasKinds leaf.now }
+    ensures { result ≡ capped (pairing.closing_size (sequent_of (sequent_at leaf.now))) }
+{
+    let predicates = all_predicates_size(leaf.members.as_slice(), leaf.holding.as_slice());
+    let pairs = predicates.saturating_add(later_values_size(leaf.differing.as_slice()));
+    pure_sizes(leaf.members.as_slice())
+        .saturating_add(pairs)
+        .saturating_add(1)
+}
+
+/// The charge of a leaf that is closed: 1 and the size of its closing formula.
+pub fn leaf_fee(leaf: &Leaf) -> u64
+    requires { HasKinds leaf.now }
+    ensures { result ≡ capped (walk.fee (sequent_of (sequent_at leaf.now)) pick.Close) }
+{
+    closing_size(leaf).saturating_add(1)
+}

@@ -1,5 +1,0 @@
-use Rattle.performed_rules.proofs.Filters.{Greatest}
-use Rattle.performed_rules.proofs.sides.greatest_factor.Given as goal
-
-abbrev pub invariant-loop-l : goal.invariant-loop-l
-invariant-loop-l l = Greatest l.x l.ls l.l-index l.most

@@ -1,5 +1,0 @@
-use Rattle.proof_lines.proofs.OneProof.{holds_one}
-use Rattle.proof_lines.proofs.laws.holds_one_law.Goals as goal
-
-pub returns : goal.returns
-returns c = holds_one

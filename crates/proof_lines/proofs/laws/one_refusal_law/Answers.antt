@@ -1,8 +1,0 @@
-use Rattle.proof_lines.proofs.OneRefusal.{one_by_file, one_by_text}
-use Rattle.proof_lines.proofs.laws.one_refusal_law.Goals as goal
-
-pub returns-clause-text : goal.returns-clause-text
-returns-clause-text c = one_by_text
-
-pub returns-clause-file : goal.returns-clause-file
-returns-clause-file c = one_by_file

@@ -1,9 +1,0 @@
-use Rattle.std.proofs.Common.{◌∙◌, ap}
-use Rattle.tree_lines.specs.Owed.{tree_owed}
-use Rattle.proof_lines.proofs.Streaming.{coming_all}
-use Rattle.proof_lines.proofs.stream.Lines.of_text.Goals as goal
-
-pub returns-clause-found : goal.returns-clause-found
-returns-clause-found c =
-    let opening = c.in_ok-opening.opening in
-    coming_all opening.charges opening.parts c.args.text.now c.in_ok-opening.rest.now c.new.result (c.new.ensures.owed ∙ ap tree_owed c.len.ensures) (c.new.ensures.parts ∙ c.len.ensures) c.in_ok-opening.ensures.found c.in_ok-opening.ensures.opened

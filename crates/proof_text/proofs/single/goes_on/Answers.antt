@@ -1,6 +1,0 @@
-use Rattle.std.proofs.Common.{rules}
-use Rattle.proof_text.proofs.SignBytes.{neither_sign}
-use Rattle.proof_text.proofs.single.goes_on.Goals as goal
-
-pub returns-clause-lacks : goal.returns-clause-lacks
-returns-clause-lacks c = neither_sign c.in-Some.first.now c.args.text.now c.in-Some.rest.now (search rules) (search rules) (search rules)

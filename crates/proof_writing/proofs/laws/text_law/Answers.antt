@@ -1,5 +1,0 @@
-use Rattle.proof_writing.proofs.Reread.{text_holds}
-use Rattle.proof_writing.proofs.laws.text_law.Goals as goal
-
-pub returns : goal.returns
-returns c = λ n x d s i k. text_holds n x d s i k

@@ -1,5 +1,0 @@
-use Rattle.proof_writing.proofs.Tallying.{Noting}
-use Rattle.proof_writing.proofs.sharing.Tally.+noting.Given as goal
-
-abbrev pub invariant-note_nodes-loop-node : goal.invariant-note_nodes-loop-node
-invariant-note_nodes-loop-node l = Noting l.fn.self.seen l.fn.self.again l.nodes l.node-index l.self.seen l.self.again

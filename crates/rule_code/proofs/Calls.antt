@@ -1,0 +1,59 @@
+-- Calls of rules that leave at most one clause: their answers, and what the laws say of them.
+use Rattle.std.proofs.Common.{◌≡◌, ◌<◌, ℕ, ℤ, false, List, [], ◌∷◌, ◌++◌, Option, Some, None, Result, Ok, Err, refl, sym, ◌∙◌, ap, subst}
+use Rattle.std.specs.Prelude.{All, IfOk, remove, ◌↔◌}
+use Rattle.std.specs.List.{list_any}
+use Rattle.std.proofs.lemmas.List.Elements.{recursion_from_All, All-from_recursion}
+use Rattle.purse.specs.Trace.{Funds, Traced}
+use Rattle.purse.specs.declared.fault.StepFault.{StepFault}
+use Rattle.purse.specs.Work.{Charged}
+use Rattle.purse.proofs.Charging.{charged_value}
+use Rattle.clause_set.specs.declared.literal.Literal.{Literal}
+use Rattle.clause_set.specs.Clauses.{clause_of, clauses_of, found}
+use Rattle.clause_set.specs.Literals.{HasDivisor}
+use Rattle.clause_set.specs.Met.{IsMet}
+use Rattle.clause_set.specs.Names.{has}
+use Rattle.clause_set.specs.Rules.{measure}
+use Rattle.equation_laws.proofs.Lists.{kept-removed}
+use Rattle.rule_code.specs.Answers.{first}
+
+pub rest_divisors : (i : ℕ) (c ls rest : List Literal) → All HasDivisor c → ls ≡ c → rest ≡ remove ls i → All HasDivisor rest
+rest_divisors i c ls rest h same is =
+    subst (All HasDivisor) (sym (is ∙ ap (λ z. remove z i) same)) (All-from_recursion HasDivisor (remove c i) (kept-removed HasDivisor c i (recursion_from_All HasDivisor c h)))
+
+-- at most one clause is there
+pub record IsSingle (cs : List (List Literal)) : Type 0 where
+  pub is : found (first cs) ≡ cs
+
+pub no_clause : IsSingle []
+no_clause = record { is = refl }
+
+pub one_clause : (d : List Literal) → IsSingle (clauses_of (d ∷ []))
+one_clause d = by (clause_of d)
+  where
+    by : (o : Option (List Literal)) → IsSingle (found o ++ [])
+    by None = no_clause
+    by (Some c) = record { is = refl }
+
+-- what the call answers is what the rule leaves
+pub answer_is : (work : Traced (List (List Literal))) (cs : List (List Literal)) (r : Option (List Literal)) {old new : Funds} → Charged work old (Ok cs) new → r ≡ first cs → IsSingle work.value
+    → found r ≡ work.value
+answer_is work cs r h is single = ap found (is ∙ ap first (charged_value h)) ∙ single.is
+
+pub met_by : (x : ℕ) (c : List Literal) (ds es : List (List Literal)) → ds ≡ es → ((e : List ℤ) → IsMet (c ∷ []) x e ↔ IsMet es x e) → (e : List ℤ) → IsMet (c ∷ []) x e ↔ IsMet ds x e
+met_by x c ds es is law e = subst (λ z. IsMet (c ∷ []) x e ↔ IsMet z x e) (sym is) (law e)
+
+pub free_by : (x : ℕ) (ds es : List (List Literal)) → ds ≡ es → All (λ r. list_any (has x) r ≡ false) es → All (λ r. list_any (has x) r ≡ false) ds
+free_by x ds es is law = subst (All (λ r. list_any (has x) r ≡ false)) (sym is) law
+
+pub nearer_by : (x : ℕ) (c : List Literal) (ds es : List (List Literal)) → ds ≡ es → All (λ r. measure x r < measure x c) es → All (λ r. measure x r < measure x c) ds
+nearer_by x c ds es is law = subst (All (λ r. measure x r < measure x c)) (sym is) law
+
+pub met_ok : (x : ℕ) (c : List Literal) (work : Traced (List (List Literal))) (r : Result (List (List Literal)) StepFault) {old new : Funds} → Charged work old r new
+    → ((e : List ℤ) → IsMet (c ∷ []) x e ↔ IsMet work.value x e) → IfOk r (λ ds. (e : List ℤ) → IsMet (c ∷ []) x e ↔ IsMet ds x e)
+met_ok x c work (Ok ds) h law = met_by x c ds work.value (charged_value h) law
+met_ok x c work (Err e) h law = tt
+
+pub nearer_ok : (x : ℕ) (c : List Literal) (work : Traced (List (List Literal))) (r : Result (List (List Literal)) StepFault) {old new : Funds} → Charged work old r new
+    → All (λ d. measure x d < measure x c) work.value → IfOk r (λ ds. All (λ d. measure x d < measure x c) ds)
+nearer_ok x c work (Ok ds) h law = nearer_by x c ds work.value (charged_value h) law
+nearer_ok x c work (Err e) h law = tt

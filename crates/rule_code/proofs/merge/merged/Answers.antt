@@ -1,0 +1,14 @@
+use Rattle.std.proofs.Common.{subst}
+use Rattle.purse.proofs.Charging.{then_ok, free}
+use Rattle.purse.specs.Work.{Worked}
+use Rattle.clause_set.specs.Divisibilities.{merged_by}
+use Rattle.clause_set.specs.Literals.{term_of}
+use Rattle.clause_set.specs.Order.{divisor_of}
+use Rattle.rule_code.proofs.merge.merged.Goals as goal
+
+pub returns : goal.returns
+returns c =
+    then_ok _ _ (c.in_ok-step.ensures _ c.in_ok-whole_charge.ensures)
+    (then_ok _ _ (free _ c.in_ok-z.ensures.stays)
+    (free _ (subst (λ z. Worked (merged_by c.args.x c.args.rest z (divisor_of c.args.l.now) (term_of c.args.l.now) (divisor_of c.args.m.now) (term_of c.args.m.now)) c.merged_by.result)
+    c.in_ok-z.ensures.exact c.merged_by.ensures)))

@@ -1,4 +1,0 @@
-pub mod Clauses
-mod Outs
-mod Overs
-pub mod Given
