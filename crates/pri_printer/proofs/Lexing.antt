@@ -8,10 +8,10 @@ use Rattle.pri_tokens.specs.Kinds.{is_name, is_number}
 use Rattle.pri_tokens.specs.declared.terminals.Terminal.{Terminal}
 use Rattle.pri_tokens.specs.declared.terminals.Terminal.TheVariants as t
 use Rattle.pri_tokens.specs.Lexemes.{lexemes_from, first_piece_of, piece_of, named, is_name_byte, starts_name, is_white}
-use Rattle.pri_tokens.specs.Numerals.{text_of}
+use Rattle.pri_tokens.specs.Bytes.{text_of}
 use Rattle.pri_tokens.specs.Spellings.{word_of, command_of}
 use Rattle.pri_tokens.proofs.Scan.{lexemes_piece}
-use Rattle.pri_tokens.proofs.Tests.{left_true, right_true}
+use Rattle.numerals.proofs.Tests.{left_true, right_true}
 use Rattle.pri_printer.proofs.Writing.{Ends, tokens_at, is_parted, lexeme_at}
 
 -- what the bytes end with behind a text with which they go on

@@ -6,8 +6,8 @@ use Rattle.std.specs.Char.{is_ascii_digit}
 use Rattle.std.specs.Fmt.{decimal}
 use Rattle.std.proofs.lemmas.Bool.Decides.{nat_tests}
 use Rattle.pri_tokens.specs.Kinds.{is_name, is_number}
-use Rattle.pri_tokens.proofs.Decimals.{decimal_is}
-use Rattle.pri_tokens.proofs.Tests.{left_true}
+use Rattle.numerals.proofs.Decimals.{decimal_is}
+use Rattle.numerals.proofs.Tests.{left_true}
 use Rattle.std.proofs.lemmas.Bool.{false≢true}
 use Rattle.pri_tokens.specs.Lexemes.{starts_name}
 use Rattle.pri_reader.specs.Grammar.{right, multiplication, primary, factor, sum}

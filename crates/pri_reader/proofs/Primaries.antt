@@ -2,7 +2,8 @@
 use Rattle.std.proofs.Common.{ℕ, ℤ, ◌≡◌, ◌≤◌, ◌<◌, ◌^◌, Bool, List, [], ◌∷◌, length, ◌∙◌, pos}
 use Rattle.pri_tokens.specs.declared.terminals.Terminal.TheVariants as t
 use Rattle.pri_tokens.specs.declared.terminals.Lexeme.{Lexeme}
-use Rattle.pri_tokens.specs.Numerals.{text_of, decimal_value}
+use Rattle.pri_tokens.specs.Bytes.{text_of}
+use Rattle.numerals.specs.Numerals.{decimal_value}
 use Rattle.pri_reader.specs.declared.tree.Expr.{Expr}
 use Rattle.pri_reader.specs.declared.tree.Form.TheVariants as form
 use Rattle.pri_reader.specs.declared.tree.ReadRefusal.{ReadRefusal}

@@ -9,7 +9,8 @@ use crate::classes::Opening;
 use crate::cursor::{added, after, deeper, name, opening, refused, sign};
 use crate::formulas::whole;
 use crate::tree::{Added, Expr, Form, Name, ReadRefusal};
-use pri_tokens::{Lexeme, Terminal, numeral, spelling};
+use numerals::numeral;
+use pri_tokens::{Lexeme, Terminal, spelling};
 use sqlite_items::{Boxed, Items};
 use std::alloc::Global;
 

@@ -1,7 +1,5 @@
-pub mod Decimals
-pub mod Digits
 pub mod Scan
-pub mod Tests
+pub mod Tables
 pub mod Longest
 pub mod Spelled
 pub mod Comments

@@ -17,10 +17,10 @@ use Rattle.pri_tokens.specs.declared.spellings.Sign.{Sign}
 use Rattle.pri_tokens.specs.Spellings.{word_of, command_of, sign_of, single_sign_of}
 use Rattle.pri_tokens.specs.Lexemes.{is_white, starts_name, is_name_byte, comment_piece, slash_piece, piece_of, put, behind_close, lexemes_from, lexemes_of}
 use Rattle.pri_tokens.specs.Kinds.{is_name}
-use Rattle.pri_tokens.specs.Numerals.{text_of}
+use Rattle.pri_tokens.specs.Bytes.{text_of}
 use Rattle.pri_tokens.specs.Written.{spelling_of, IsWritten}
 use Rattle.pri_tokens.proofs.Scan.{lexemes_piece}
-use Rattle.pri_tokens.proofs.Tests.{left_true, right_true, front_all, if_begins}
+use Rattle.numerals.proofs.Tests.{left_true, right_true, front_all, if_begins}
 use Rattle.pri_tokens.proofs.Spelled.{one_byte, two_bytes}
 use Rattle.pri_tokens.proofs.Pieces.{Begins, piece_begins, some_bytes}
 

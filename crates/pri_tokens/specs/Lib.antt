@@ -1,6 +1,6 @@
+pub mod Bytes
 pub mod Kinds
 pub mod Lexemes
-pub mod Numerals
 pub mod Spellings
 pub mod Terminals
 pub mod Tokenization

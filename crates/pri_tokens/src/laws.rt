@@ -4,13 +4,10 @@ ghost use Rattle.pri_tokens.specs.declared.terminals.Lexeme.{Lexeme};
 ghost use Rattle.pri_tokens.specs.declared.terminals.Terminal.{Terminal};
 ghost use Rattle.pri_tokens.specs.declared.terminals.Token.{Token};
 ghost use Rattle.pri_tokens.specs.Lexemes.{lexemes_of, tokens_of};
-ghost use Rattle.pri_tokens.specs.Numerals.{decimal_value, text_of};
+ghost use Rattle.pri_tokens.specs.Bytes.{text_of};
 ghost use Rattle.pri_tokens.specs.Tokenization.{IsTokenized};
 ghost use Rattle.pri_tokens.specs.Written.{IsWritten, spelling_of};
-ghost use Rattle.std.specs.Char.{is_ascii_digit};
-ghost use Rattle.std.specs.Fmt.{decimal};
-ghost use Rattle.std.specs.List.{list_all};
-ghost use Rattle.std.specs.Prelude.{◌≡◌, ◌<◌, ◌^◌, List, ℕ, [], ◌∷◌, length, Some, true, All};
+ghost use Rattle.std.specs.Prelude.{◌≡◌, List, ℕ, [], ◌∷◌, length, Some, All};
 
 /// The tokens of a file, in order and joined with the white space and the comments between them, are the file; each is
 /// the longest token that begins at its place, and of the kind as which it is spelled. No other tokens are so.
@@ -26,11 +23,4 @@ pub fn spelling_law()
     ensures written { (bytes : List ℕ) → All (λ x. IsWritten x.terminal (text_of bytes x)) (lexemes_of bytes) }
     ensures alone { (terminal : Terminal) (text : List ℕ) → spelling_of terminal ≡ Some text
         → lexemes_of text ≡ (record { at = 0; len = length text; terminal = terminal }) ∷ [] }
-{}
-
-/// What a number is written as is digits, and they read back as that number.
-#[tactic(auto, using(crate::proofs::Decimals::digits_back, crate::proofs::Decimals::value_back))]
-pub fn decimal_law()
-    ensures digits { (n : ℕ) → n < 10 ^ 64 → list_all is_ascii_digit (decimal n) ≡ true }
-    ensures value { (n : ℕ) → n < 10 ^ 64 → decimal_value (decimal n) ≡ n }
 {}

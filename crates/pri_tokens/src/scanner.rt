@@ -1,5 +1,6 @@
 // Where the tokens of a file begin and end: the longest token is taken, and white space and comments part them.
 
+ghost use Rattle.pri_tokens.specs.Bytes.{text_of};
 ghost use Rattle.pri_tokens.specs.Lexemes.{behind_close, is_name_byte, first_piece_of, is_not_line_feed, is_white, lexemes_of, slash_piece, starts_name, tokens_of};
 ghost use Rattle.std.specs.Char.{is_ascii_alphabetic, is_ascii_digit};
 ghost use Rattle.std.specs.List.{prefix_len};
@@ -16,6 +17,14 @@ use std::alloc::Global;
 struct Piece {
     len: usize,
     terminal: Option<Terminal>,
+}
+
+/// The bytes of a token.
+pub fn spelling<'a>(bytes: &'a [u8], lexeme: &Lexeme) -> &'a [u8]
+    ensures { result.now ≡ text_of bytes.now lexeme.now }
+{
+    let from = bytes.get(lexeme.at as usize..).unwrap_or(&[]);
+    from.get(..lexeme.len as usize).unwrap_or(from)
 }
 
 /// The tokens of a file, in order.

@@ -7,7 +7,7 @@ use Rattle.pri_tokens.specs.declared.terminals.Terminal.{Terminal}
 use Rattle.pri_tokens.specs.declared.terminals.Terminal.TheVariants as t
 use Rattle.pri_tokens.specs.declared.terminals.Lexeme.{Lexeme}
 use Rattle.pri_tokens.specs.Lexemes.{lexemes_of}
-use Rattle.pri_tokens.specs.Numerals.{text_of}
+use Rattle.pri_tokens.specs.Bytes.{text_of}
 use Rattle.pri_tokens.specs.Written.{IsIdentifier, IsWritten}
 use Rattle.pri_tokens.proofs.Writing.{written}
 use Rattle.pri_reader.specs.declared.tree.Expr.{Expr}

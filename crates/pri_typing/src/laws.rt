@@ -15,7 +15,7 @@ ghost use Rattle.pri_typing.specs.Least.{IsStrictWeakOrder, least_by};
 ghost use Rattle.pri_typing.specs.Files.{IsTyped, all_int, file_faults, problem_of, scope_of};
 ghost use Rattle.pri_tokens.specs.declared.terminals.Lexeme.{Lexeme};
 ghost use Rattle.pri_tokens.specs.Lexemes.{lexemes_of};
-ghost use Rattle.pri_tokens.specs.Numerals.{text_of};
+ghost use Rattle.pri_tokens.specs.Bytes.{text_of};
 ghost use Rattle.pri_typing.specs.Phrase.{phrase};
 ghost use Rattle.pri_typing.specs.Problems.{Holds, IsTrueAt, SpeaksOfExistentials, IsPure, IsRefuted, IsPlainlyValid, IsUniversal, assumed, assumed_by, scope_of_problem, Says, text_setting};
 ghost use Rattle.pri_typing.specs.Scope.{refers};

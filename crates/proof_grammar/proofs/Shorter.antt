@@ -2,7 +2,7 @@
 use Rattle.std.proofs.Common.{ℕ, ◌≡◌, ◌≤◌, ◌<◌, ◌+◌, ◌==◌, ◌&&◌, true, List, [], ◌∷◌, length, take, drop, Some, refl, ap, subst, arith, length-drop}
 use Rattle.std.specs.Prelude.{cond, slice_index}
 use Rattle.std.specs.List.{prefix_len}
-use Rattle.pri_tokens.proofs.Tests.{if_begins}
+use Rattle.numerals.proofs.Tests.{if_begins}
 use Rattle.sequent.specs.declared.member.Pick.TheVariants as pick
 use Rattle.proof_tree.specs.declared.node.Conclusion.TheVariants.{Solution, Nothing}
 use Rattle.proof_tokens.specs.declared.tokens.Token.{Token}

@@ -8,9 +8,9 @@ use Rattle.std.proofs.lemmas.Bool.{lt-ltb}
 use Rattle.std.proofs.lemmas.List.{take-append-drop, length-append}
 use Rattle.std.proofs.lemmas.Slice.Eq.{bytes_eq-Decides}
 use Rattle.std.specs.Str.{bytes_eq}
-use Rattle.pri_tokens.specs.Numerals.{decimal_value, with_digits}
-use Rattle.pri_tokens.proofs.Digits.{with_digits_grows}
-use Rattle.pri_tokens.proofs.Tests.{left_true, right_true}
+use Rattle.numerals.specs.Numerals.{decimal_value, with_digits}
+use Rattle.numerals.proofs.Digits.{with_digits_grows}
+use Rattle.numerals.proofs.Tests.{left_true, right_true}
 use Rattle.purse.specs.declared.log.Entry.{Entry}
 use Rattle.purse.specs.declared.log.Entry.TheVariants as e
 use Rattle.proof_tokens.specs.declared.tokens.Token.{Token}

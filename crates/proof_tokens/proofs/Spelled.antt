@@ -9,7 +9,7 @@ use Rattle.std.specs.Fmt.{decimal}
 use Rattle.std.specs.Char.{is_ascii_digit}
 use Rattle.std.proofs.lemmas.Bool.{eqb-true}
 use Rattle.std.proofs.lemmas.Slice.Eq.{bytes_eq-Decides}
-use Rattle.pri_tokens.proofs.Tests.{if_begins, left_true}
+use Rattle.numerals.proofs.Tests.{if_begins, left_true}
 use Rattle.purse.specs.declared.log.Entry.{Entry}
 use Rattle.purse.specs.declared.log.Entry.TheVariants as e
 use Rattle.proof_tokens.specs.declared.tokens.Token.{Token}

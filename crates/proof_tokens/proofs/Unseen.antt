@@ -7,7 +7,7 @@ use Rattle.std.specs.Fmt.{decimal}
 use Rattle.std.specs.Str.{bytes_eq}
 use Rattle.std.proofs.lemmas.Slice.Eq.{bytes_eq-Decides}
 use Rattle.std.proofs.lemmas.List.{length-append}
-use Rattle.pri_tokens.specs.Numerals.{decimal_value}
+use Rattle.numerals.specs.Numerals.{decimal_value}
 use Rattle.proof_tokens.specs.declared.tokens.Token.TheVariants as t
 use Rattle.proof_tokens.specs.Lines.{IsName, IsSmallNumber}
 use Rattle.proof_tokens.specs.Reading.{Cuts, HasNoneEnded}

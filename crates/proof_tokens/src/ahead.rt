@@ -1,7 +1,7 @@
 // Names, numbers, entries and some words at the front of a text, found without a look at other words: most tokens of a long
 // proof are these.
 
-ghost use Rattle.pri_tokens.specs.Numerals.{decimal_value};
+ghost use Rattle.numerals.specs.Numerals.{decimal_value};
 ghost use Rattle.proof_tokens.specs.Lines.{IsName, IsSmallNumber};
 ghost use Rattle.proof_tokens.specs.Reading.{Cuts, HasNoneEnded};
 ghost use Rattle.proof_tokens.specs.Scanning.{ends_digits, ends_word, HasNoNumber};

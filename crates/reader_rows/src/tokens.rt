@@ -1,7 +1,8 @@
 // The tokens of texts, worked out by hand.
 
+use numerals::numeral;
 use pri_tokens::{
-    Lexeme, Terminal, TokenKind, lexemes, numeral, spelling, spelling_law, tokens, tokens_law,
+    Lexeme, Terminal, TokenKind, lexemes, spelling, spelling_law, tokens, tokens_law,
 };
 use std::test::Fail;
 

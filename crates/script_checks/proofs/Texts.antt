@@ -9,7 +9,7 @@ use Rattle.sexpr.specs.declared.tree.AtomKind.TheVariants as k
 use Rattle.sexpr.specs.declared.tree.Sexp.{Sexp}
 use Rattle.sexpr.specs.Expressions.{Expr, exprs, expr}
 use Rattle.sexpr.proofs.Folds.{expr-Atom, expr-List}
-use Rattle.pri_tokens.specs.Numerals.{decimal_value}
+use Rattle.numerals.specs.Numerals.{decimal_value}
 use Rattle.script_lists.specs.Atoms.{atom_of, kind_of, span}
 use Rattle.script_lists.specs.Grammar.{IsScriptText, SayAll, Says, atom, list, more, nothing}
 use Rattle.script_commands.specs.Faults.{refusal_of}

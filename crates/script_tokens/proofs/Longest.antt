@@ -4,7 +4,7 @@ use Rattle.std.proofs.Math.Seq.{drop-append_seam}
 use Rattle.std.specs.List.{list_all, prefix_len}
 use Rattle.std.specs.Char.{is_ascii_digit, is_ascii_hexdigit}
 use Rattle.std.proofs.lemmas.Bool.{eqb-true}
-use Rattle.pri_tokens.proofs.Tests.{left_true, right_true, clash, at_byte}
+use Rattle.numerals.proofs.Tests.{left_true, right_true, clash, at_byte}
 use Rattle.script_tokens.specs.declared.terminals.Terminal.{Terminal}
 use Rattle.script_tokens.specs.declared.terminals.Terminal.TheVariants as t
 use Rattle.script_tokens.specs.declared.scanner.Piece.{Piece}

@@ -7,7 +7,7 @@ use Rattle.std.specs.List.{list_all, prefix_len}
 use Rattle.std.specs.Cmp.Derive.{both_true}
 use Rattle.std.specs.Char.{is_ascii_digit, is_ascii_hexdigit}
 use Rattle.std.proofs.lemmas.Bool.{eqb-true}
-use Rattle.pri_tokens.proofs.Tests.{left_true, right_true, front_all, if_begins}
+use Rattle.numerals.proofs.Tests.{left_true, right_true, front_all, if_begins}
 use Rattle.script_tokens.specs.declared.terminals.Terminal.{Terminal}
 use Rattle.script_tokens.specs.declared.terminals.Terminal.TheVariants as t
 use Rattle.script_tokens.specs.declared.scanner.Piece.{Piece}

@@ -4,7 +4,7 @@ use Rattle.std.specs.List.{list_all}
 use Rattle.std.specs.Char.{is_ascii_digit}
 use Rattle.std.proofs.lemmas.Bool.Decides.{nat_tests}
 use Rattle.pri_tokens.specs.Kinds.{is_number}
-use Rattle.pri_tokens.proofs.Tests.{left_true}
+use Rattle.numerals.proofs.Tests.{left_true}
 use Rattle.pri_printer.proofs.Spelling.{heads}
 
 pub number_by : (text : List ℕ) → list_all is_ascii_digit text ≡ true → 1 ≤ length text → is_number text ≡ true

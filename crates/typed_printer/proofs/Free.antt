@@ -4,9 +4,9 @@ use Rattle.std.specs.Fmt.{decimal}
 use Rattle.std.specs.List.{list_all}
 use Rattle.std.specs.Char.{is_ascii_digit}
 use Rattle.std.proofs.lemmas.Bool.{false≢true, cases_lt}
-use Rattle.pri_tokens.proofs.Tests.{left_true, right_true}
+use Rattle.numerals.proofs.Tests.{left_true, right_true}
 use Rattle.pri_tokens.specs.Lexemes.{is_name_byte}
-use Rattle.pri_tokens.specs.Numerals.{decimal_value}
+use Rattle.numerals.specs.Numerals.{decimal_value}
 use Rattle.pri_tokens.specs.Written.{IsIdentifier}
 use Rattle.texts.specs.Texts.{is_text, is_among}
 use Rattle.pri_typing.specs.declared.problem.Problem.{Problem}
@@ -14,7 +14,7 @@ use Rattle.pri_typing.specs.WellFormed.{names_of_symbols}
 use Rattle.pri_typing.proofs.Distinct.{text_same}
 use Rattle.typed_printer.specs.Variables.{variable_name, free_from, next_number, variable_number, variable_text}
 use Rattle.pri_printer.proofs.Lexing.{digit_is_name_byte}
-use Rattle.pri_tokens.proofs.Decimals.{decimal_is}
+use Rattle.numerals.proofs.Decimals.{decimal_is}
 
 -- the others
 without : List ℕ → List (List ℕ) → List (List ℕ)

@@ -11,7 +11,7 @@ use Rattle.pri_typing.specs.Scope.{Scope}
 use Rattle.pri_typing.specs.Faults.{is_numeral}
 use Rattle.pri_printer.proofs.Spells.{Spells}
 use Rattle.pri_printer.proofs.Spelling.{factor_spelled, product_of_one, sum_of_one, formula_of_term, conjunction_of_one, disjunction_of_one, whole_spelled, number_spelled, name_spelled, minus_spelled, product_spelled}
-use Rattle.pri_tokens.proofs.Decimals.{decimal_is}
+use Rattle.numerals.proofs.Decimals.{decimal_is}
 use Rattle.typed_printer.specs.Text.{grouped}
 use Rattle.typed_printer.proofs.Steps.{lifted}
 use Rattle.typed_printer.proofs.Decimals.{number_by, number_heads}

@@ -9,7 +9,7 @@ use Rattle.pri_tokens.specs.declared.terminals.Lexeme.{Lexeme}
 use Rattle.pri_tokens.specs.declared.terminals.Terminal.TheVariants as t
 use Rattle.pri_tokens.specs.Kinds.{is_name}
 use Rattle.pri_tokens.specs.Lexemes.{piece_of, named}
-use Rattle.pri_tokens.specs.Numerals.{decimal_value}
+use Rattle.numerals.specs.Numerals.{decimal_value}
 use Rattle.pri_tokens.specs.Spellings.{word_of, command_of}
 use Rattle.pri_reader.specs.declared.tree.Form.TheVariants as form
 use Rattle.pri_reader.specs.declared.tree.TypeName.{TypeName}
@@ -26,7 +26,7 @@ use Rattle.pri_printer.proofs.Writing.{Ends, tokens_at, is_parted, lexeme_at}
 use Rattle.pri_printer.proofs.Spells.{Derived, Spells}
 use Rattle.pri_printer.proofs.Lexing.{ends_behind, sign_lexed, name_lexed, number_lexed, command_lexed, blank_lexed, text-lexed}
 use Rattle.pri_printer.proofs.Spelling.{heads}
-use Rattle.pri_tokens.proofs.Decimals.{decimal_is}
+use Rattle.numerals.proofs.Decimals.{decimal_is}
 use Rattle.typed_printer.specs.TypedText.{sort_text}
 use Rattle.typed_printer.proofs.Decimals.{number_by, number_heads}
 use Rattle.typed_printer.proofs.Productions.{comma_sign}

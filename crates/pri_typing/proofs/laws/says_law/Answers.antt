@@ -1,5 +1,5 @@
 use Rattle.std.proofs.lemmas.List.Elements.{recursion_from_All}
-use Rattle.pri_tokens.specs.Numerals.{text_of}
+use Rattle.pri_tokens.specs.Bytes.{text_of}
 use Rattle.std.proofs.Common.{◌≡◌}
 use Rattle.pri_typing.proofs.Carried.{text_derived}
 use Rattle.pri_typing.proofs.Least.{least-none}

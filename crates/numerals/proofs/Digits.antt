@@ -1,6 +1,6 @@
 -- The value of a numeral while its digits are read.
 use Rattle.std.proofs.Common.{ℕ, suc, ◌≡◌, ◌≤◌, ◌<◌, ◌+◌, ◌-◌, ◌*◌, List, [], ◌∷◌, length, get_or, drop, drop-cons, refl, arith}
-use Rattle.pri_tokens.specs.Numerals.{with_digits}
+use Rattle.numerals.specs.Numerals.{with_digits}
 
 -- more digits make no number less
 pub with_digits_grows : (n : ℕ) (ds : List ℕ) → n ≤ with_digits n ds

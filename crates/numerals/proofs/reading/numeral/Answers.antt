@@ -1,6 +1,6 @@
 use Rattle.std.proofs.Common.{◌^◌}
-use Rattle.pri_tokens.proofs.Digits.{too_great}
-use Rattle.pri_tokens.proofs.numerals.numeral.Goals as goal
+use Rattle.numerals.proofs.Digits.{too_great}
+use Rattle.numerals.proofs.reading.numeral.Goals as goal
 
 pub returns-in_err-value : goal.returns-in_err-value
 returns-in_err-value c = record {

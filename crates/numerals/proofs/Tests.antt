@@ -3,7 +3,6 @@ use Rattle.std.proofs.Common.{ℕ, zero, suc, ◌≡◌, ◌≤◌, ◌&&◌, �
 use Rattle.std.specs.List.{prefix_len, list_all}
 use Rattle.std.specs.Str.{bytes_eq}
 use Rattle.std.proofs.lemmas.Slice.Eq.{bytes_eq-Decides}
-use Rattle.pri_tokens.specs.Kinds.{is_one_of}
 
 pub left_true : (a b : Bool) → (a && b) ≡ true → a ≡ true
 left_true true b e = refl
@@ -16,15 +15,6 @@ right_true false b e = cc
 pub either_true : (a b : Bool) → (a || b) ≡ true → (a ≡ true) ⊎ (b ≡ true)
 either_true true b e = inl refl
 either_true false b e = inr e
-
--- what all texts of a table pass, each of them passes
-pub of_table : (q : List ℕ → Bool) (table : List (List ℕ)) (text : List ℕ) → list_all q table ≡ true → is_one_of table text ≡ true → q text ≡ true
-of_table q [] text a e = cc
-of_table q (s ∷ ss) text a e =
-    elim (either_true (bytes_eq text s) (is_one_of ss text) e) [
-      | inl h ↦ (let same : text ≡ s = (bytes_eq-Decides text s).0 h in ap q same ∙ left_true (q s) (list_all q ss) a)
-      | inr h ↦ of_table q ss text (right_true (q s) (list_all q ss) a) h
-    ]
 
 -- no more bytes pass a test than the longest front of those that pass it
 pub front_passes : (p : ℕ → Bool) (n : ℕ) (bs : List ℕ) → n ≤ length bs → list_all p (take n bs) ≡ true → n ≤ prefix_len p bs

@@ -1,6 +1,6 @@
 use Rattle.std.proofs.Common.{◌≡◌, ◌<◌, ◌^◌, drop}
-use Rattle.pri_tokens.specs.Numerals.{with_digits, decimal_value}
-use Rattle.pri_tokens.proofs.numerals.numeral.Given as goal
+use Rattle.numerals.specs.Numerals.{with_digits, decimal_value}
+use Rattle.numerals.proofs.reading.numeral.Given as goal
 
 abbrev pub invariant-loop-digit : goal.invariant-loop-digit
 invariant-loop-digit l = record {

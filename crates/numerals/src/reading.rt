@@ -1,20 +1,10 @@
-// The bytes of a token, and the value of a numeral.
+// The value of a numeral.
 
-ghost use Rattle.pri_tokens.specs.Numerals.{decimal_value, text_of};
+ghost use Rattle.numerals.specs.Numerals.{decimal_value};
 ghost use Rattle.std.specs.Prelude.{◌≡◌, ◌≤◌, ◌<◌, ◌+◌, ◌-◌, ◌*◌, ◌^◌, pos, MatchOption};
-
-use crate::terminals::Lexeme;
 
 /// The greatest numeral, 2^127 − 1.
 const GREATEST: u128 = i128::MAX as u128;
-
-/// The bytes of a token.
-pub fn spelling<'a>(bytes: &'a [u8], lexeme: &Lexeme) -> &'a [u8]
-    ensures { result.now ≡ text_of bytes.now lexeme.now }
-{
-    let from = bytes.get(lexeme.at as usize..).unwrap_or(&[]);
-    from.get(..lexeme.len as usize).unwrap_or(from)
-}
 
 /// The value of these decimal digits; none where it is above 2^127 − 1.
 pub fn numeral(digits: &[u8]) -> Option<i128>

@@ -6,8 +6,8 @@ use Rattle.std.specs.Fmt.{decimal}
 use Rattle.std.proofs.Math.Nat.{mod-lt, div-add-mod}
 use Rattle.std.proofs.lemmas.Fmt.{decimal_by_steps_wide}
 use Rattle.std.proofs.lemmas.Bool.Decides.{nat_tests}
-use Rattle.pri_tokens.specs.Numerals.{decimal_value, with_digits}
-use Rattle.pri_tokens.proofs.Tests.{left_true, right_true}
+use Rattle.numerals.specs.Numerals.{decimal_value, with_digits}
+use Rattle.numerals.proofs.Tests.{left_true, right_true}
 
 -- digits of a number
 pub record IsDecimal (n : ℕ) (text : List ℕ) : Type 0 where
