@@ -1,101 +1,43 @@
-// The formulas of the tests, over x, y and z, the names 0, 1 and 2.
-
-ghost use Rattle.formula.specs.Tree.{form};
-ghost use Rattle.quant_elim.specs.Atoms.{is_atom};
-ghost use Rattle.std.specs.Prelude.{◌≡◌, ◌≤◌, IfOk, true};
+// The formulas of the tests, as texts. x and y are the names 0 and 1; what a formula binds comes after them.
 
 use formula::Core;
 use linear_term::Term;
-use purse::StepFault;
-use sqlite_items::{Boxed, Items};
+use problem_file::{encode_problem, read_problem};
 use std::alloc::Global;
+use std::process::Abort;
+use std::test::Fail;
 
-/// The coefficients of x, y and z, and a constant, each from −100 to 100.
-pub(crate) type Row = (i128, i128, i128, i128);
+/// How many names are free in each formula.
+pub(crate) const NAMES: u32 = 2;
 
-/// What an atom says of its term: that it is 0, is not 0, or is at least 0.
-#[derive(Clone, Copy, Debug, PartialEq, Eq)]
-pub(crate) enum Says {
-    Zero,
-    NotZero,
-    AtLeast,
+/// What stands before each formula.
+const HEADER: &str = "\\existentialConstants { int x, y; } \\problem { ";
+
+/// The formula of a whole file.
+fn root(rt: &impl Abort, alloc: Global, text: &str) -> Result<Core, Fail> {
+    assert!(rt; text.len() < 4_294_967_296);
+    let problem = read_problem(alloc, text.as_bytes())?;
+    let encoded = encode_problem(alloc, &problem)?;
+    Ok(encoded.root)
 }
 
-/// How two atoms are joined; alone is the first one.
-#[derive(Clone, Copy, Debug, PartialEq, Eq)]
-pub(crate) enum Joined {
-    Alone,
-    Both,
-    Either,
+/// The formula that this text is.
+pub(crate) fn formula(rt: &impl Abort, alloc: Global, text: &str) -> Result<Core, Fail> {
+    let mut file = String::from_str(alloc, HEADER)?;
+    file.push_str(text)?;
+    file.push_str(" }")?;
+    root(rt, alloc, file.as_str())
 }
 
-/// What binds a name.
-#[derive(Clone, Copy, Debug, PartialEq, Eq)]
-pub(crate) enum Bound {
-    Open,
-    Exists,
-    Forall,
-}
-
-/// What binds y, what binds z within, and the joined atoms. Where z is free, y is.
-pub(crate) type Shape = (Bound, Bound, Joined, Says, Row, Says, Row);
-
-pub(crate) fn term(alloc: Global, row: Row) -> Result<Term, StepFault> {
-    let mut made = Term::number(alloc, row.3.clamp(-100, 100));
-    for (name, k) in [(0, row.0), (1, row.1), (2, row.2)] {
-        made = Term::combine(1, &made, k.clamp(-100, 100), &Term::name(alloc, name))?;
-    }
-    Ok(made)
-}
-
-#[tactic(auto, using(quant_elim::proofs::Atomic::atomic))]
-pub(crate) fn atom(alloc: Global, says: Says, row: Row) -> Result<Core, StepFault>
-    ensures { IfOk result (λ f. is_atom (form f) ≡ true) }
-{
-    let t = term(alloc, row)?;
-    match says {
-        Says::Zero => Ok(Core::Eq(t)),
-        Says::NotZero => Ok(Core::Neq(t)),
-        Says::AtLeast => Ok(Core::Geq(t)),
-    }
-}
-
-/// The members of a connective.
-pub(crate) fn two(alloc: Global, f: Core, g: Core) -> Result<Items<Core>, StepFault> {
-    let mut members = Items::new(alloc);
-    members.push(f)?;
-    members.push(g)?;
-    Ok(members)
-}
-
-/// The formula with its last name bound.
-pub(crate) fn bind(alloc: Global, bound: Bound, f: Core) -> Result<Core, StepFault> {
-    match bound {
-        Bound::Open => Ok(f),
-        Bound::Exists => Ok(Core::Exists(Boxed::new(alloc, f)?)),
-        Bound::Forall => Ok(Core::Forall(Boxed::new(alloc, f)?)),
-    }
-}
-
-/// The formula of this shape.
-pub(crate) fn formula(alloc: Global, shape: Shape) -> Result<Core, StepFault> {
-    let first = atom(alloc, shape.3, shape.4)?;
-    let second = atom(alloc, shape.5, shape.6)?;
-    let body = match shape.2 {
-        Joined::Alone => first,
-        Joined::Both => Core::And(two(alloc, first, second)?),
-        Joined::Either => Core::Or(two(alloc, first, second)?),
-    };
-    bind(alloc, shape.0, bind(alloc, shape.1, body)?)
-}
-
-/// How many names are free.
-pub(crate) fn names(shape: Shape) -> u32
-    ensures { result ≤ 3 }
-{
-    match (shape.0, shape.1) {
-        (_, Bound::Open) => 3,
-        (Bound::Open, _) => 2,
-        (_, _) => 1,
+/// The term that this text is.
+pub(crate) fn term(rt: &impl Abort, alloc: Global, text: &str) -> Result<Term, Fail> {
+    let mut equation = String::from_str(alloc, text)?;
+    equation.push_str(" = 0")?;
+    match formula(rt, alloc, equation.as_str())? {
+        Core::Eq(t) => Ok(t),
+        _ => {
+            assert!(rt; false, "{text} is no term");
+            Ok(Term::number(alloc, 0))
+        }
     }
 }
