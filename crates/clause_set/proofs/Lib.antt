@@ -40,3 +40,4 @@ pub mod Thinning
 pub mod Lengths
 pub mod Merging
 pub mod Implying
+pub mod Joining

@@ -43,7 +43,7 @@ module _ (xs ys : List Literal) (f : (l : Literal) → Among l xs → Among l ys
   same_tight (Div d t) = refl
   same_tight (NDiv d t) = refl
 
-any_kept : (p q : Literal → Bool) (xs ys : List Literal) → ((l : Literal) → p l ≡ q l) → ((l : Literal) → Among l xs → Among l ys) → list_any p xs ≡ true → list_any q ys ≡ true
+pub any_kept : (p q : Literal → Bool) (xs ys : List Literal) → ((l : Literal) → p l ≡ q l) → ((l : Literal) → Among l xs → Among l ys) → list_any p xs ≡ true → list_any q ys ≡ true
 any_kept p q xs ys same f h = let w = any_from p xs h in any_with q w.element ys (f w.element w.among) (sym (same w.element) ∙ w.passes)
 
 pub among_map : {X Y : Type 0} (h : X → Y) (x : X) (xs : List X) → Among x xs → Among (h x) (map h xs)

@@ -24,3 +24,4 @@ pub mod Keeping
 pub mod Thinning
 pub mod Tighter
 pub mod Implying
+pub mod Placed

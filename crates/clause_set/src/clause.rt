@@ -3,11 +3,13 @@
 ghost use Rattle.clause_set.specs.Clause.{IsClause};
 ghost use Rattle.clause_set.specs.Clauses.{clause_of, is_false, literals_of};
 ghost use Rattle.clause_set.specs.Dnfs.{covers};
+ghost use Rattle.clause_set.specs.Formed.{IsNormalized};
 ghost use Rattle.clause_set.specs.Literals.{answer_truth, clause_truth, HasDivisor, IsLiteral, literal_truth, norm_truth};
 ghost use Rattle.clause_set.specs.Normal.{normal_of};
 ghost use Rattle.std.specs.List.{flat_map, list_any};
 ghost use Rattle.std.specs.Prelude.{◌≡◌, ◌<◌, ◌++◌, All, cond, false, IfOk, length, List, None, OnOk, slice_get, Some, ℤ};
 
+use super::beside::beside;
 use super::compact::compact;
 use super::conjoined::conjoined;
 use super::literal::{Literal, Norm};
@@ -93,7 +95,10 @@ fn push_literal(n: Norm, out: &mut Items<Literal>) -> Result<(), Memory>
 
 /// The normal literals of a conjunction without those that are true; none where one is false.
 #[tactic(auto, using(crate::proofs::Walks::walks))]
-fn normal_literals(alloc: Global, ls: &[Literal]) -> Result<Option<Items<Literal>>, Memory>
+pub(crate) fn normal_literals(
+    alloc: Global,
+    ls: &[Literal],
+) -> Result<Option<Items<Literal>>, Memory>
     requires { All HasDivisor ls.now }
     ensures { IfOk result (λ answer. answer ≡ cond (list_any (λ l. is_false (normal_of l)) ls.now) None (Some (flat_map (λ l. literals_of (normal_of l)) ls.now))) }
 {
@@ -118,6 +123,28 @@ impl Clause {
     {
         know_literals(ls.as_slice());
         let Some(literals) = clause_literals(alloc, ls.as_slice())? else {
+            return Ok(None);
+        };
+        know_literals(literals.as_slice());
+        let marks = all_marks(literals.as_slice());
+        Ok(Some(Clause { literals, marks }))
+    }
+
+    /// The clause of literals that are in normal form, and of others beside them: true at the same integers; none where
+    /// that is found to be false. Those in normal form are kept as they are, and it takes least time where they are sorted.
+    #[tactic(auto, using(crate::proofs::Joining::joined))]
+    pub fn with(
+        alloc: Global,
+        kept: Items<Literal>,
+        more: Items<Literal>,
+    ) -> Result<Option<Clause>, Memory>
+        requires kept { All IsNormalized kept }
+        requires divisors { All HasDivisor more }
+        ensures form { IfOk result (λ c. c ≡ clause_of (kept ++ more)) }
+    {
+        know_literals(kept.as_slice());
+        know_literals(more.as_slice());
+        let Some(literals) = beside(alloc, kept, more.as_slice())? else {
             return Ok(None);
         };
         know_literals(literals.as_slice());

@@ -2,6 +2,7 @@
 #![tactic(auto)]
 
 mod apart;
+mod beside;
 pub mod bounds;
 mod clause;
 mod compact;
