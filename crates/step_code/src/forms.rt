@@ -1,6 +1,7 @@
 // Conjunctions of literals, put into form.
 
 ghost use Rattle.clause_set.specs.Clauses.{clause_of, clauses_of, found};
+ghost use Rattle.clause_set.specs.Formed.{IsNormalized};
 ghost use Rattle.clause_set.specs.Literals.{HasDivisor};
 ghost use Rattle.std.specs.Prelude.{◌≡◌, [], ◌∷◌, ◌++◌, All, IfOk, OnOk};
 
@@ -31,6 +32,22 @@ pub fn in_form(alloc: Global, ls: Items<Literal>) -> Result<Items<Clause>, Memor
 {
     let mut out = Items::new(alloc);
     push_found(Clause::of(alloc, ls)?, &mut out)?;
+    Ok(out)
+}
+
+/// The clause of literals that are in normal form and of others beside them, unless it is found to be false.
+#[tactic(auto, using(crate::proofs::Works::one_form))]
+pub fn in_form_with(
+    alloc: Global,
+    kept: Items<Literal>,
+    more: Items<Literal>,
+) -> Result<Items<Clause>, Memory>
+    requires kept { All IsNormalized kept }
+    requires divisors { All HasDivisor more }
+    ensures { IfOk result (λ cs. cs ≡ clauses_of ((kept ++ more) ∷ [])) }
+{
+    let mut out = Items::new(alloc);
+    push_found(Clause::with(alloc, kept, more)?, &mut out)?;
     Ok(out)
 }
 

@@ -9,7 +9,7 @@ mod names;
 mod numbers;
 
 pub use charges::{area, whole_charge};
-pub use forms::{alone, clauses, in_form};
+pub use forms::{alone, clauses, in_form, in_form_with};
 pub use kinds::{is_divisibility, is_equation, is_indivisibility};
 pub use names::mentions;
 pub use numbers::{combining, computing};
