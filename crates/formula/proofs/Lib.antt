@@ -11,5 +11,6 @@ pub mod Making
 pub mod Measuring
 pub mod Negating
 pub mod Raising
+pub mod Staying
 pub mod Shifted
 pub mod Knowing

@@ -1,11 +1,18 @@
 // A formula once more. Rust's `Clone` cannot refuse memory, so this is a call of its own.
 
-ghost use Rattle.std.specs.Prelude.{◌≡◌, IfOk};
+ghost use Rattle.std.specs.Prelude.{◌≡◌, [], IfOk};
 
 use crate::calculus::Core;
 use linear_term::{Memory, Term};
 use sqlite_items::{Boxed, Items};
 use std::alloc::Global;
+
+/// No items yet, and room for so many.
+pub(crate) fn room_for<T>(alloc: Global, count: usize) -> Result<Items<T>, Memory>
+    ensures { IfOk result (λ xs. xs ≡ []) }
+{
+    Ok(Items::from_vec(Vec::with_capacity(alloc, count)?))
+}
 
 impl Core {
     /// The same formula once more.
@@ -36,7 +43,7 @@ impl Core {
 fn copy_all(alloc: Global, formulas: &[Core]) -> Result<Items<Core>, Memory>
     ensures { IfOk result (λ fs. fs ≡ formulas.now) }
 {
-    let mut out = Items::new(alloc);
+    let mut out = room_for(alloc, formulas.len())?;
     for f in formulas {
         out.push(f.copy(alloc)?)?;
     }
@@ -46,7 +53,7 @@ fn copy_all(alloc: Global, formulas: &[Core]) -> Result<Items<Core>, Memory>
 pub(crate) fn copy_terms(alloc: Global, terms: &[Term]) -> Result<Items<Term>, Memory>
     ensures { IfOk result (λ ts. ts ≡ terms.now) }
 {
-    let mut out = Items::new(alloc);
+    let mut out = room_for(alloc, terms.len())?;
     for t in terms {
         out.push(t.copy()?)?;
     }

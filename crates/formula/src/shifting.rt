@@ -1,13 +1,15 @@
 // A formula with its names from one on raised.
 
-ghost use Rattle.std.specs.Prelude.{◌≡◌, ◌≤◌, ◌<◌, ◌+◌, ◌-◌, ◌^◌, All, IfOk, map};
-ghost use Rattle.std.specs.List.{AllByRecursion};
+ghost use Rattle.std.specs.Prelude.{◌≡◌, ◌≤◌, ◌<◌, ◌+◌, ◌-◌, ◌^◌, All, IfOk, map, nat_lt};
+ghost use Rattle.std.specs.List.{AllByRecursion, list_all};
 ghost use Rattle.linear_term.specs.Linear.{IsOver};
 ghost use Rattle.formula.specs.Shifts.{raised, raised_name, shifted, all_shifted, IsBelow, AreBelow};
 ghost use Rattle.formula.specs.Tree.{form, forms_of};
 
 use crate::calculus::Core;
+use crate::copying::room_for;
 use linear_term::{Memory, Term};
+use smallvec::SmallVec;
 use sqlite_items::{Boxed, Items};
 use std::alloc::Global;
 
@@ -23,20 +25,41 @@ fn raised_pair(pair: &(u32, i128), from: u32, by: u32) -> (u32, i128)
     raised
 }
 
-/// The term with each name from `from` on raised by `by`.
+/// Whether each name of the term is below `from`.
+fn stays(t: &Term, from: u32) -> bool
+    ensures { result ≡ list_all (λ p. nat_lt p.0 from) t.now.pairs }
+{
+    t.pairs().iter().all(|pair| pair.0 < from)
+}
+
+/// The term with each name from `from` on raised by `by`, pair by pair.
 #[tactic(auto, using(crate::proofs::Raising::raising))]
-fn raise(alloc: Global, t: &Term, from: u32, by: u32) -> Result<Term, Memory>
+fn raise_pairs(alloc: Global, t: &Term, from: u32, by: u32) -> Result<Term, Memory>
     requires { IsOver (2 ^ 32 - by) t.now }
     ensures { IfOk result (λ u. u ≡ raised from by t.now) }
 {
     t.know_normal();
-    let mut pairs = Items::new(alloc);
+    let mut pairs: SmallVec<(u32, i128), 4> = SmallVec::new(alloc);
+    pairs.reserve(t.len())?;
     for pair in t.pairs() {
         pairs.push(raised_pair(pair, from, by))?;
     }
     Term::of(alloc, pairs.as_slice(), t.constant())
 }
 
+/// The term with each name from `from` on raised by `by`.
+#[tactic(auto, using(crate::proofs::Staying::staying))]
+fn raise(alloc: Global, t: &Term, from: u32, by: u32) -> Result<Term, Memory>
+    requires { IsOver (2 ^ 32 - by) t.now }
+    ensures { IfOk result (λ u. u ≡ raised from by t.now) }
+{
+    if stays(t, from) {
+        return Ok(t.copy()?);
+    }
+    raise_pairs(alloc, t, from, by)
+}
+
+/// The formula with each name from `from` on raised by `by`.
 #[cycle(shift)]
 #[tactic(auto, using(crate::proofs::Shifted::shifting))]
 fn shift_by(alloc: Global, f: &Core, from: u32, by: u32) -> Result<Core, Memory>
@@ -72,7 +95,7 @@ fn shift_all(alloc: Global, formulas: &[Core], from: u32, by: u32) -> Result<Ite
     requires { AreBelow (2 ^ 32 - by) (forms_of formulas.now) }
     ensures { IfOk result (λ gs. map form gs ≡ map (λ f. shifted from by (form f)) formulas.now) }
 {
-    let mut out = Items::new(alloc);
+    let mut out = room_for(alloc, formulas.len())?;
     for f in formulas {
         out.push(shift_by(alloc, f, from, by)?)?;
     }
@@ -83,7 +106,7 @@ fn raise_all(alloc: Global, terms: &[Term], from: u32, by: u32) -> Result<Items<
     requires { All (IsOver (2 ^ 32 - by)) terms.now }
     ensures { IfOk result (λ us. us ≡ map (raised from by) terms.now) }
 {
-    let mut out = Items::new(alloc);
+    let mut out = room_for(alloc, terms.len())?;
     for t in terms {
         out.push(raise(alloc, t, from, by)?)?;
     }
@@ -91,10 +114,14 @@ fn raise_all(alloc: Global, terms: &[Term], from: u32, by: u32) -> Result<Items<
 }
 
 /// The formula with each name from `from` on raised by `to - from`.
+#[tactic(auto, using(crate::proofs::Staying::staying))]
 pub fn shift(alloc: Global, f: &Core, from: u32, to: u32) -> Result<Core, Memory>
     requires rising { from ≤ to }
     requires below { IsBelow (2 ^ 32 - (to - from)) (form f.now) }
     ensures { IfOk result (λ g. form g ≡ shifted from (to - from) (form f.now)) }
 {
+    if from == to {
+        return f.copy(alloc);
+    }
     shift_by(alloc, f, from, to - from)
 }
