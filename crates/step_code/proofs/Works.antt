@@ -1,19 +1,16 @@
 -- Terms and numbers that a call computes, as work.
-use Rattle.std.proofs.Common.{◌≡◌, ℕ, ◌+◌, ◌<◌, ◌≤◌, ℤ, true, false, ◌&&◌, List, [], ◌∷◌, ◌++◌, Option, drop, length, get_or, Result, Ok, IsErrAnd, refl, sym, ◌∙◌, ap, subst}
-use Rattle.linear_term.specs.Linear.{Linear}
-use Rattle.linear_term.specs.Range.{all_stay, IsCause}
-use Rattle.linear_term.specs.Combination.{combination, raw_numbers}
+use Rattle.std.proofs.Common.{◌≡◌, ℕ, ◌+◌, ◌<◌, ◌≤◌, true, false, ◌&&◌, List, [], ◌∷◌, ◌++◌, Option, drop, length, get_or, Result, Ok, IsErrAnd, refl, sym, ◌∙◌, ap, subst}
+use Rattle.linear_term.specs.Range.{all_stay}
 use Rattle.linear_term.specs.declared.range.TermFault.{TermFault}
 use Rattle.linear_term.specs.declared.range.TermFault.TheVariants as term_fault
 use Rattle.purse.specs.declared.fault.StepFault.{StepFault}
 use Rattle.purse.specs.Work.{Worked, step_fault_of}
 use Rattle.linear_term.specs.declared.range.Place.{Place}
 use Rattle.linear_term.specs.Range.{stays}
-use Rattle.purse.specs.Trace.{Traced, at, next, compute}
-use Rattle.purse.proofs.Charging.{working, raw_ok, raw_leaves, work_ok, work_memory, charged_value, drop-item, drop_all}
+use Rattle.purse.specs.Trace.{compute}
+use Rattle.purse.proofs.Charging.{raw_ok, raw_leaves, drop_all}
 use Rattle.std.proofs.lemmas.List.{drop_more}
 use Rattle.std.proofs.lemmas.List.Elements.{Contains-get_or}
-use Rattle.purse.specs.Trace.{combining}
 use Rattle.clause_set.specs.Clauses.{clause_of, clauses_of, found}
 use Rattle.clause_set.specs.declared.literal.Literal.{Literal}
 use Rattle.std.proofs.lemmas.List.{append-nil}
