@@ -1,9 +1,8 @@
 -- The rules of divisibilities at their places in the clause.
-use Rattle.std.proofs.Common.{◌≡◌, ◌<◌, ℕ, true, List, Some, length, Result, sym, ◌∙◌, ap, subst, arith}
+use Rattle.std.proofs.Common.{◌≡◌, ◌<◌, ℕ, true, List, Some, length, Result, refl, sym, ◌∙◌, ap, subst}
 use Rattle.std.specs.Prelude.{All, remove, slice_get}
 use Rattle.std.proofs.lemmas.Option.{slice_get_within}
-use Rattle.std.proofs.lemmas.List.Edits.{length-remove}
-use Rattle.std.proofs.lemmas.List.Elements.{recursion_from_All, All-from_recursion}
+use Rattle.std.proofs.lemmas.List.Elements.{recursion_from_All}
 use Rattle.linear_term.specs.Linear.{coef_of}
 use Rattle.purse.specs.declared.fault.StepFault.{StepFault}
 use Rattle.purse.specs.declared.log.Entry.TheVariants.{Merge, Shift}
@@ -14,15 +13,16 @@ use Rattle.clause_set.specs.declared.literal.Literal.TheVariants.{Div}
 use Rattle.clause_set.specs.Bezout.{Bezout, bezout}
 use Rattle.clause_set.specs.Clause.{IsClause}
 use Rattle.clause_set.specs.Clauses.{clauses_of}
-use Rattle.clause_set.specs.Formed.{IsFormed}
+use Rattle.clause_set.specs.Formed.{IsFormed, IsNormalized}
 use Rattle.clause_set.specs.Literals.{HasDivisor, IsDivisor, term_of}
 use Rattle.clause_set.specs.Order.{divisor_of}
 use Rattle.clause_set.specs.Divisibilities.{merged, merge_at, merge, shift_by, shift_at, shift}
 use Rattle.clause_set.specs.Rules.{applies, rule}
 use Rattle.clause_set.proofs.Formed.{clause-is_formed}
+use Rattle.clause_set.proofs.Joining.{literals-normalized, removed-normalized}
 use Rattle.equation_laws.specs.Results.{joined_first, shifted_by}
 use Rattle.equation_laws.proofs.Applying.{DivisibilityAt, merge_applies, shift_applies, mentioned-positive}
-use Rattle.equation_laws.proofs.Lists.{kept-got, kept-removed}
+use Rattle.equation_laws.proofs.Lists.{kept-got}
 use Rattle.equation_laws.proofs.Values.{merge-value, shift-value}
 use Rattle.rule_code.specs.Congruences.{IsCongruence}
 use Rattle.rule_code.proofs.Calls.{IsSingle, one_clause}
@@ -50,20 +50,14 @@ first_below x i j c h = divisibility_below x i c (merge_applies x i j c h).first
 pub second_below : (x i j : ℕ) (c ls : List Literal) → applies x c (Merge i j) ≡ true → ls ≡ c → j < length ls
 second_below x i j c ls h same = subst (λ z. j < length z) (sym same) (divisibility_below x j c (merge_applies x i j c h).second)
 
-pub below_others : (x i j : ℕ) (c ls others : List Literal) → applies x c (Merge i j) ≡ true → ls ≡ c → others ≡ remove ls j → i < length others
-below_others x i j c ls others h same is =
-    let lt : j < length c = divisibility_below x j c (merge_applies x i j c h).second in
-    let before : i < j = (merge_applies x i j c h).before in
-    let one = length-remove c j lt in
-    subst (λ z. i < length z) (sym (is ∙ ap (λ z. remove z j) same)) (omega (arith, lt, before, one))
+pub first_before : (x i j : ℕ) (c : List Literal) → applies x c (Merge i j) ≡ true → i < j
+first_before x i j c h = (merge_applies x i j c h).before
 
-pub rest_of_two : (i j : ℕ) (c ls others rest : List Literal) → ls ≡ c → others ≡ remove ls j → rest ≡ remove others i → rest ≡ remove (remove c j) i
-rest_of_two i j c ls others rest same is last = last ∙ ap (λ z. remove z i) (is ∙ ap (λ z. remove z j) same)
+pub rest_of_two : (i j : ℕ) (c ls rest : List Literal) → ls ≡ c → rest ≡ remove (remove ls j) i → rest ≡ remove (remove c j) i
+rest_of_two i j c ls rest same is = is ∙ ap (λ z. remove (remove z j) i) same
 
-pub two_divisors : (i j : ℕ) (c ls others rest : List Literal) → All HasDivisor c → ls ≡ c → others ≡ remove ls j → rest ≡ remove others i → All HasDivisor rest
-two_divisors i j c ls others rest h same is last =
-    subst (All HasDivisor) (sym (rest_of_two i j c ls others rest same is last))
-    (All-from_recursion HasDivisor (remove (remove c j) i) (kept-removed HasDivisor (remove c j) i (kept-removed HasDivisor c j (recursion_from_All HasDivisor c h))))
+pub two_normalized : (i j : ℕ) (c ls rest : List Literal) → IsClause c → ls ≡ c → rest ≡ remove (remove ls j) i → All IsNormalized rest
+two_normalized i j c ls rest h same is = removed-normalized (remove ls j) rest i (removed-normalized ls (remove ls j) j (literals-normalized c ls h same) refl) is
 
 pub merge_work : (x i j : ℕ) (c rest : List Literal) (l m : Literal) (old new : Funds) (r : Result (List (List Literal)) StepFault) → applies x c (Merge i j) ≡ true → slice_get c i ≡ Some l → slice_get c j ≡ Some m
     → rest ≡ remove (remove c j) i → Charged (merged x c rest (divisor_of l) (term_of l) (divisor_of m) (term_of m)) old r new → Charged (rule x c (Merge i j)) old r new

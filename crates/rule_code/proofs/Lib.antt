@@ -13,3 +13,4 @@ pub mod Filters
 pub mod Results
 pub mod Counting
 pub mod Darkness
+pub mod Parting

@@ -1,5 +1,5 @@
 -- Numbers, terms and literals of two divisibilities.
-use Rattle.std.proofs.Common.{◌≡◌, ℕ, ℤ, pos, neg_ℤ, ◌*ℤ◌, ◌<ℤ◌, true, false, List, [], ◌∷◌, Ok, Result, refl, sym, ◌∙◌, ap, subst}
+use Rattle.std.proofs.Common.{◌≡◌, ℕ, ℤ, pos, neg_ℤ, ◌*ℤ◌, ◌<ℤ◌, true, false, List, [], ◌∷◌, ◌++◌, Ok, Result, refl, sym, ◌∙◌, ap, subst}
 use Rattle.linear_term.specs.Linear.{Linear, coef_of, without, mentions}
 use Rattle.linear_term.specs.Range.{stays, all_stay}
 use Rattle.linear_term.specs.declared.range.Place.{Place}
@@ -11,7 +11,8 @@ use Rattle.purse.proofs.Tracing.{value-step}
 use Rattle.clause_set.specs.declared.literal.Literal.{Literal}
 use Rattle.clause_set.specs.declared.literal.Literal.TheVariants.{Div}
 use Rattle.clause_set.specs.Bezout.{Bezout, bezout}
-use Rattle.clause_set.specs.Clauses.{clauses_of}
+use Rattle.clause_set.specs.Clauses.{clauses_of, found}
+use Rattle.clause_set.proofs.Joining.{clause_of-turned}
 use Rattle.clause_set.specs.Divisibilities.{with_name}
 use Rattle.purse.specs.Trace.{combining}
 use Rattle.clause_set.specs.Literals.{IsDivisor, term_of}
@@ -101,7 +102,7 @@ joint_divisor l m d1 d2 n h k is f g stay =
     subst IsDivisor (sym (is ∙ ap (λ z. z *ℤ d2) h ∙ ap (λ z. divisor_of l *ℤ z) k)) (divisor_product (divisor_of l) (divisor_of m) f g stay)
 
 pub merged_formed : (x : ℕ) (l m : Literal) (g d1 d2 n : ℤ) (v w : Linear) (rest ls : List Literal) (result : List (List Literal)) → d1 ≡ divisor_of l → d2 ≡ divisor_of m → n ≡ d1 *ℤ d2
-    → ls ≡ Div n (with_name x g v) ∷ Div g w ∷ rest → result ≡ clauses_of (ls ∷ []) → result ≡ clauses_of ((Div (divisor_of l *ℤ divisor_of m) (with_name x g v) ∷ Div g w ∷ rest) ∷ [])
+    → ls ≡ Div n (with_name x g v) ∷ Div g w ∷ [] → result ≡ clauses_of ((rest ++ ls) ∷ []) → result ≡ clauses_of ((Div (divisor_of l *ℤ divisor_of m) (with_name x g v) ∷ Div g w ∷ rest) ∷ [])
 merged_formed x l m g d1 d2 n v w rest ls result h k is whole formed =
-    formed ∙ ap (λ z. clauses_of (z ∷ []))
-    (whole ∙ ap (λ z. Div z (with_name x g v) ∷ Div g w ∷ rest) (is ∙ ap (λ z. z *ℤ d2) h ∙ ap (λ z. divisor_of l *ℤ z) k))
+    formed ∙ ap (λ o. found o ++ []) (clause_of-turned rest ls) ∙ ap (λ z. clauses_of ((z ++ rest) ∷ []))
+    (whole ∙ ap (λ z. Div z (with_name x g v) ∷ Div g w ∷ []) (is ∙ ap (λ z. z *ℤ d2) h ∙ ap (λ z. divisor_of l *ℤ z) k))

@@ -1,6 +1,6 @@
 -- The clauses of the remainders of a negated divisibility, and their charge.
 use Rattle.std.proofs.Common.{◌≡◌, ◌<◌, ◌≤◌, ◌+◌, ◌-◌, ◌*◌, ℕ, suc, ℤ, pos, true, List, [], ◌∷◌, Some, length, Result, Ok, Err, IsErrAnd, unsigned_abs, sym, ◌∙◌, ap, subst, arith}
-use Rattle.std.specs.Prelude.{All, slice_get, slice_set}
+use Rattle.std.specs.Prelude.{All, remove, slice_get, ◌++◌}
 use Rattle.std.proofs.lemmas.Option.{slice_get_within}
 use Rattle.std.proofs.lemmas.List.Elements.{recursion_from_All, All-from_recursion}
 use Rattle.linear_term.specs.Linear.{Linear, number}
@@ -11,16 +11,18 @@ use Rattle.purse.specs.Work.{Charged, Worked}
 use Rattle.purse.proofs.Charging.{work_ok, work_err, work_just}
 use Rattle.clause_set.specs.declared.literal.Literal.{Literal}
 use Rattle.clause_set.specs.declared.literal.Literal.TheVariants.{Div, NDiv}
-use Rattle.clause_set.specs.Clauses.{clauses_of}
+use Rattle.clause_set.specs.Clauses.{clauses_of, found}
 use Rattle.clause_set.specs.Divisibilities.{numbers_from, with_remainder, apart_at, apart}
 use Rattle.purse.specs.Trace.{combining}
 use Rattle.clause_set.specs.Literals.{HasDivisor, IsDivisor, term_of}
 use Rattle.clause_set.specs.Names.{area}
 use Rattle.clause_set.specs.Order.{divisor_of}
 use Rattle.clause_set.specs.Rules.{applies, rule}
+use Rattle.clause_set.proofs.Joining.{clause_of-set}
 use Rattle.clause_set.proofs.Weights.{capped_product}
 use Rattle.equation_laws.proofs.Applying.{IndivisibilityAt, apart_applies}
-use Rattle.equation_laws.proofs.Lists.{kept-got, kept-replaced}
+use Rattle.equation_laws.proofs.Lists.{kept-got}
+use Rattle.rule_code.proofs.Steps.{one_divisor}
 
 -- the product of capped numbers, capped again
 product_of_capped : (n m k l : ℕ) → n ≡ capped k → m ≡ capped l → capped (n * m) ≡ capped (k * l)
@@ -40,16 +42,16 @@ pub remainder_failed : (i : ℕ) (c : List Literal) (d : ℤ) (t u k : Linear) (
 remainder_failed i c d t u k r e result is_u is_k w h =
     work_err _ _ result h (subst (λ z. Worked (combining (pos 1) z (pos 1) (number (pos r))) (Err e)) is_u (subst (λ z. Worked (combining (pos 1) u (pos 1) z) (Err e)) is_k w))
 
-pub remainder_done : (i : ℕ) (c copy all : List Literal) (d n : ℤ) (t u k s : Linear) (r : ℕ) (value : List (List Literal)) → u ≡ t → k ≡ number (pos r) → Worked (combining (pos 1) u (pos 1) k) (Ok s)
-    → copy ≡ c → n ≡ d → all ≡ slice_set copy i (Div n s) → value ≡ clauses_of (all ∷ []) → Worked (with_remainder i c d t r) (Ok value)
-remainder_done i c copy all d n t u k s r value is_u is_k w is_c is_d whole formed =
+pub remainder_done : (i : ℕ) (c rest new : List Literal) (d n : ℤ) (t u k s : Linear) (r : ℕ) (value : List (List Literal)) → i < length c → u ≡ t → k ≡ number (pos r)
+    → Worked (combining (pos 1) u (pos 1) k) (Ok s) → rest ≡ remove c i → n ≡ d → new ≡ Div n s ∷ [] → value ≡ clauses_of ((rest ++ new) ∷ []) → Worked (with_remainder i c d t r) (Ok value)
+remainder_done i c rest new d n t u k s r value lt is_u is_k w is_rest is_d is_new formed =
     work_ok _ _ (subst (λ z. Worked (combining (pos 1) z (pos 1) (number (pos r))) (Ok s)) is_u (subst (λ z. Worked (combining (pos 1) u (pos 1) z) (Ok s)) is_k w))
-    (work_just _ _ (formed ∙ ap (λ z. clauses_of (z ∷ [])) (whole ∙ ap (λ z. slice_set z i (Div n s)) is_c ∙ ap (λ z. slice_set c i (Div z s)) is_d)))
+    (work_just _ _
+    (formed ∙ ap (λ z. clauses_of ((z ++ new) ∷ [])) is_rest ∙ ap (λ z. clauses_of ((remove c i ++ z) ∷ [])) (is_new ∙ ap (λ z. Div z s ∷ []) is_d)
+    ∙ ap (λ o. found o ++ []) (clause_of-set c i (Div d s) lt)))
 
-pub set_divisors : (i : ℕ) (c copy all : List Literal) (d n : ℤ) (s : Linear) → All HasDivisor c → IsDivisor d → copy ≡ c → n ≡ d → all ≡ slice_set copy i (Div n s) → All HasDivisor all
-set_divisors i c copy all d n s h divisor is_c is_d whole =
-    subst (All HasDivisor) (sym (whole ∙ ap (λ z. slice_set z i (Div n s)) is_c ∙ ap (λ z. slice_set c i (Div z s)) is_d))
-    (All-from_recursion HasDivisor (slice_set c i (Div d s)) (kept-replaced HasDivisor c i (Div d s) divisor (recursion_from_All HasDivisor c h)))
+pub new_divisor : (new : List Literal) (d n : ℤ) (s : Linear) → IsDivisor d → n ≡ d → new ≡ Div n s ∷ [] → All HasDivisor new
+new_divisor new d n s divisor is_d is_new = one_divisor (Div n s) new is_new (subst IsDivisor (sym is_d) divisor)
 
 -- ---- all of them
 pub remainders_next : (r count : ℕ) → r < count → numbers_from (r + 1) (count - r) ≡ (r + 1) ∷ numbers_from ((r + 1) + 1) (count - (r + 1))

@@ -2,7 +2,8 @@
 // the clause is split into d − 1 clauses, each with one of these remainders.
 
 ghost use Rattle.clause_set.specs.Divisibilities.{apart_at, numbers_from, with_remainder};
-ghost use Rattle.clause_set.specs.Literals.{HasDivisor, IsDivisor, term_of};
+ghost use Rattle.clause_set.specs.Formed.{IsNormalized};
+ghost use Rattle.clause_set.specs.Literals.{IsDivisor, term_of};
 ghost use Rattle.clause_set.specs.Met.{IsMet};
 ghost use Rattle.clause_set.specs.Names.{area, is_equation};
 ghost use Rattle.clause_set.specs.Order.{divisor_of};
@@ -14,13 +15,13 @@ ghost use Rattle.purse.specs.declared.log.Entry.TheVariants.{Apart};
 ghost use Rattle.std.specs.List.{list_any};
 ghost use Rattle.std.specs.Prelude.{◌≡◌, ◌<◌, ◌+◌, ◌-◌, ◌*◌, ◌^◌, ◌↔◌, ℤ, List, [], ◌∷◌, All, false, IfOk, length, pos, Some, true, unsigned_abs};
 
-use super::parts::divisor;
-use clause_set::{Clause, Literal, copy_literals};
+use super::parts::{all_but, divisor};
+use clause_set::{Clause, Literal};
 use linear_term::{Memory, Term};
 use purse::{Purse, StepFault};
 use sqlite_items::Items;
 use std::alloc::Global;
-use step_code::{area, combining, in_form};
+use step_code::{alone, area, combining, in_form_with};
 
 /// 1, and for each of the d − 1 clauses its literals, each with a place for itself and for each name.
 fn charge(alloc: Global, c: &Clause, count: u128) -> Result<u64, Memory>
@@ -32,7 +33,7 @@ fn charge(alloc: Global, c: &Clause, count: u128) -> Result<u64, Memory>
 }
 
 /// The clause where d divides t + r, for the negated divisibility l of t by d.
-#[tactic(auto, using(purse::proofs::Charging::working))]
+#[tactic(auto, using(purse::proofs::Charging::working, clause_set::proofs::Joining::kept_forms))]
 fn with_remainder(
     alloc: Global,
     c: &[Literal],
@@ -41,15 +42,15 @@ fn with_remainder(
     r: u128,
 ) -> Result<Items<Clause>, StepFault>
     requires divisor { IsDivisor (divisor_of l.now) }
-    requires divisors { All HasDivisor c.now }
+    requires normalized { All IsNormalized c.now }
     requires within { i < length c.now }
     requires remainder { r < 2 ^ 127 }
     ensures { Worked (with_remainder i c.now (divisor_of l.now) (term_of l.now) r) result }
 {
     let s = combining(1, l.term(), 1, &Term::number(alloc, r as i128))?;
-    let mut literals = copy_literals(alloc, c)?;
-    literals.set(i, Literal::Div(divisor(l), s));
-    Ok(in_form(alloc, literals)?)
+    let rest = all_but(alloc, c, i)?;
+    let new = alone(alloc, Literal::Div(divisor(l), s))?;
+    Ok(in_form_with(alloc, rest, new)?)
 }
 
 /// The clauses of the remainders from 1 to `count`.
@@ -62,7 +63,7 @@ fn with_remainders(
     count: u128,
 ) -> Result<Items<Clause>, StepFault>
     requires divisor { IsDivisor (divisor_of l.now) }
-    requires divisors { All HasDivisor c.now }
+    requires normalized { All IsNormalized c.now }
     requires within { i < length c.now }
     requires remainders { count < 2 ^ 127 }
     ensures { Worked (each (with_remainder i c.now (divisor_of l.now) (term_of l.now)) (numbers_from 1 count) []) result }
@@ -77,7 +78,7 @@ fn with_remainders(
 }
 
 /// The rule at the negated divisibility l.
-#[tactic(auto, using(purse::proofs::Charging::charging))]
+#[tactic(auto, using(purse::proofs::Charging::charging, clause_set::proofs::Joining::kept_forms))]
 fn by_remainders(
     alloc: Global,
     c: &Clause,

@@ -3,6 +3,7 @@
 
 ghost use Rattle.clause_set.specs.Bezout.{bezout};
 ghost use Rattle.clause_set.specs.Clauses.{found};
+ghost use Rattle.clause_set.specs.Formed.{IsNormalized};
 ghost use Rattle.clause_set.specs.Divisibilities.{merged as merged_work, merged_by as merged_by_work, with_name};
 ghost use Rattle.clause_set.specs.Literals.{HasDivisor, IsDivisor, term_of};
 ghost use Rattle.clause_set.specs.Met.{IsMet};
@@ -22,13 +23,13 @@ ghost use Rattle.std.specs.List.{list_any};
 ghost use Rattle.std.specs.Prelude.{◌≡◌, ◌<◌, ◌<ℤ◌, ◌*ℤ◌, ◌↔◌, ℤ, List, [], ◌∷◌, All, false, IfErr, IfOk, OnOk, Ok, Err, pos, true};
 
 use super::numbers::{Cofactors, coefficients, multiplied, opposite, times, with_name};
-use super::parts::{all_but, divisor, dropped, first};
+use super::parts::{all_but_two, divisor, first};
 use clause_set::{Clause, Literal};
 use linear_term::Term;
 use purse::{Purse, StepFault};
 use sqlite_items::Items;
 use std::alloc::Global;
-use step_code::{alone, combining, computing, in_form, whole_charge};
+use step_code::{alone, combining, computing, in_form_with, whole_charge};
 
 /// (g, p, q) = bezout(a1·d2, a2·d1), where a1·d2, a2·d1 and d1·d2 are in the range.
 #[tactic(auto, using(crate::proofs::Merging::merging))]
@@ -49,7 +50,7 @@ fn joint_coefficients(x: u32, l: &Literal, m: &Literal) -> Result<Cofactors, Ste
     Ok(coefficients(multiplied(a1, d2), multiplied(a2, d1)))
 }
 
-/// d divides g·x + v, g divides w, and the rest.
+/// d divides g·x + v, and g divides w.
 #[tactic(auto, using(crate::proofs::Steps::divisors))]
 fn joined(
     alloc: Global,
@@ -58,20 +59,17 @@ fn joined(
     d: i128,
     v: &Term,
     w: Term,
-    rest: Items<Literal>,
 ) -> Result<Items<Literal>, StepFault>
     requires divisor { IsDivisor d }
     requires cofactor { IsDivisor z.now.g }
     requires without { mentions v.now x ≡ false }
-    requires divisors { All HasDivisor rest }
-    ensures exact { IfOk result (λ ls. ls ≡ Div d (with_name x z.now.g v.now) ∷ Div z.now.g w ∷ rest) }
+    ensures exact { IfOk result (λ ls. ls ≡ Div d (with_name x z.now.g v.now) ∷ Div z.now.g w ∷ []) }
     ensures divisors { IfOk result (λ ls. All HasDivisor ls) }
     ensures memory { IfErr result (λ e. e ≡ Memory) }
 {
     let u = with_name(alloc, x, z.g, v)?;
     let mut literals = alone(alloc, Literal::Div(d, u))?;
     literals.push(Literal::Div(z.g, w))?;
-    literals.append(rest)?;
     Ok(literals)
 }
 
@@ -89,7 +87,7 @@ fn merged_by(
     requires second { IsCongruence x m.now }
     requires product { stays (product (divisor_of l.now) (divisor_of m.now)) ≡ true }
     requires cofactor { IsDivisor z.now.g }
-    requires divisors { All HasDivisor rest }
+    requires normalized { All IsNormalized rest }
     ensures { Worked (merged_by_work x rest (bezout_of z.now) (divisor_of l.now) (term_of l.now) (divisor_of m.now) (term_of m.now)) result }
 {
     let d1 = divisor(l);
@@ -99,8 +97,8 @@ fn merged_by(
     let t = m.term().without(x)?;
     let v = combining(multiplied(z.p, d2), &s, multiplied(z.q, d1), &t)?;
     let w = combining(m.term().coef(x), &s, opposite(l.term().coef(x)), &t)?;
-    let literals = joined(alloc, x, z, multiplied(d1, d2), &v, w, rest)?;
-    Ok(in_form(alloc, literals)?)
+    let new = joined(alloc, x, z, multiplied(d1, d2), &v, w)?;
+    Ok(in_form_with(alloc, rest, new)?)
 }
 
 /// The rule at the divisibilities l and m, with the other literals of the clause.
@@ -116,7 +114,7 @@ fn merged(
 ) -> Result<Items<Clause>, StepFault>
     requires first { IsCongruence x l.now }
     requires second { IsCongruence x m.now }
-    requires divisors { All HasDivisor rest }
+    requires normalized { All IsNormalized rest }
     ensures { Charged (merged_work x c.now rest (divisor_of l.now) (term_of l.now) (divisor_of m.now) (term_of m.now)) purse.old result purse.new }
 {
     purse.step(whole_charge(alloc, c)?)?;
@@ -137,8 +135,7 @@ pub fn merge_clauses(
     ensures { Charged (rule x c.now (Merge i j)) purse.old result purse.new }
 {
     c.know_clause();
-    let others = all_but(alloc, c.literals(), j)?;
-    let rest = dropped(others, i);
+    let rest = all_but_two(alloc, c.literals(), i, j)?;
     merged(alloc, c, x, rest, c.get(i), c.get(j), purse)
 }
 

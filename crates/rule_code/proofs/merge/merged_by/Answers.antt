@@ -70,8 +70,8 @@ joined-requires-clause-divisor c =
 pub joined-requires-clause-without : goal.joined-requires-clause-without
 joined-requires-clause-without c = combined-free c.args.x _ _ c.in_ok-s.s c.in_ok-t.t c.term.result.now c.term-2.result.now c.in_ok-v.v c.in_ok-s.ensures c.in_ok-t.ensures c.in_ok-v.ensures
 
-pub returns-in_err-literals : goal.returns-in_err-literals
-returns-in_err-literals c = memory_only c.in_err-literals.field-0.0 c.from_residual-in_err-literals.result c.in_err-literals.ensures.memory c.from_residual-in_err-literals.ensures.1
+pub returns-in_err-new : goal.returns-in_err-new
+returns-in_err-new c = memory_only c.in_err-new.field-0.0 c.from_residual-in_err-new.result c.in_err-new.ensures.memory c.from_residual-in_err-new.ensures.1
 
 pub returns : goal.returns
 returns c =
@@ -98,5 +98,5 @@ returns c =
     (combining_at c.coef.result c.opposite.result _ _ c.in_ok-s.s c.in_ok-t.t _ _ _ (coefficient_at c.args.x c.args.m.now c.term-3.result.now c.coef.result c.coef.ensures.exact c.term-3.ensures) s
     (negated_at c.args.x c.args.l.now c.term-4.result.now c.coef-2.result c.opposite.result (simp to_z-of_z at c.opposite.ensures.exact) c.coef-2.ensures.exact c.term-4.ensures) t
     (simp to_z-of_z at c.in_ok-w.ensures))
-    (work_just _ _ (merged_formed c.args.x c.args.l.now c.args.m.now c.args.z.now.g c.divisor-d1.result c.divisor-d2.result c.multiplied-3.result c.in_ok-v.v c.in_ok-w.w c.args.rest c.in_ok-literals.literals
-    c.in_ok-in_form.field-0 c.divisor-d1.ensures c.divisor-d2.ensures (simp to_z-of_z at c.multiplied-3.ensures.exact) (simp to_z-of_z at c.in_ok-literals.ensures.exact) c.in_ok-in_form.ensures))))
+    (work_just _ _ (merged_formed c.args.x c.args.l.now c.args.m.now c.args.z.now.g c.divisor-d1.result c.divisor-d2.result c.multiplied-3.result c.in_ok-v.v c.in_ok-w.w c.args.rest c.in_ok-new.new
+    c.in_ok-in_form_with.field-0 c.divisor-d1.ensures c.divisor-d2.ensures (simp to_z-of_z at c.multiplied-3.ensures.exact) (simp to_z-of_z at c.in_ok-new.ensures.exact) c.in_ok-in_form_with.ensures))))
