@@ -2,7 +2,7 @@
 use Rattle.std.proofs.Common.{◌≡◌, ◌<◌, ◌≤◌, ◌+◌, ◌-◌, ◌*◌, ℕ, suc, ℤ, pos, true, List, [], ◌∷◌, Some, length, Result, Ok, Err, IsErrAnd, unsigned_abs, sym, ◌∙◌, ap, subst, arith}
 use Rattle.std.specs.Prelude.{All, remove, slice_get, ◌++◌}
 use Rattle.std.proofs.lemmas.Option.{slice_get_within}
-use Rattle.std.proofs.lemmas.List.Elements.{recursion_from_All, All-from_recursion}
+use Rattle.std.proofs.lemmas.List.Elements.{recursion_from_All}
 use Rattle.linear_term.specs.Linear.{Linear, number}
 use Rattle.purse.specs.declared.fault.StepFault.{StepFault}
 use Rattle.purse.specs.declared.log.Entry.TheVariants.{Apart}
