@@ -6,3 +6,4 @@ pub mod Outcomes
 pub mod Singles
 pub mod Unfolded
 pub mod ByRule
+pub mod Turning

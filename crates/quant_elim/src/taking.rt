@@ -5,16 +5,17 @@ ghost use Rattle.clause_set.specs.Rules.{unused};
 ghost use Rattle.purse.specs.Trace.{at, each};
 ghost use Rattle.purse.specs.Work.{Charged, ChargedAt, Logged, marks_of};
 ghost use Rattle.quant_elim.specs.Logging.{with_log};
-ghost use Rattle.std.specs.Prelude.{◌≡◌, IfOk, [], ◌<◌, ◌-◌, ◌^◌};
+ghost use Rattle.std.specs.Prelude.{◌≡◌, IfOk, [], ◌<◌, ◌-◌, ◌^◌, reverse};
 
 use super::rows::first_row;
 use clause_set::{Clause, Dnf, not};
 use elim_laws::know_formed;
+use linear_term::Memory;
 use purse::{ElimFault, ElimLog, Purse, StepFault};
 use sqlite_items::Items;
 use std::alloc::Global;
 
-/// A clause without the name stays.
+/// A clause of the caller's without the name stays: it is copied.
 #[tactic(auto, using(purse::proofs::Charging::charging))]
 fn unused(alloc: Global, c: &Clause, purse: &mut Purse) -> Result<Items<Clause>, StepFault>
     ensures { Charged (unused c.now) purse.old result purse.new }
@@ -25,10 +26,75 @@ fn unused(alloc: Global, c: &Clause, purse: &mut Purse) -> Result<Items<Clause>,
     Ok(out)
 }
 
+/// The same of a clause that is handed over.
+#[tactic(auto, using(purse::proofs::Charging::charging))]
+fn staying(alloc: Global, c: Clause, purse: &mut Purse) -> Result<Items<Clause>, StepFault>
+    ensures { Charged (unused c) purse.old result purse.new }
+{
+    purse.step(1)?;
+    let mut out = Items::new(alloc);
+    out.push(c)?;
+    Ok(out)
+}
+
+/// The clauses, the last one first.
+fn turned_round(alloc: Global, cs: Items<Clause>) -> Result<Items<Clause>, Memory>
+    ensures { IfOk result (λ left. left ≡ reverse cs) }
+{
+    let mut cs = cs;
+    let mut left = Items::new(alloc);
+    while let Some(c) = cs.pop() {
+        left.push(c)?;
+    }
+    Ok(left)
+}
+
 /// x out of c: each rule writes its entry behind those of the log.
 #[cycle(taking)]
 #[tactic(auto, using(purse::proofs::Charging::logging))]
 fn take_out(
+    alloc: Global,
+    c: Clause,
+    x: u32,
+    purse: &mut Purse,
+    log: &mut ElimLog,
+) -> Result<Items<Clause>, StepFault>
+    requires { purse.old.budget < 2 ^ 32 }
+    ensures { ChargedAt (taken_out x c) (at purse.old (marks_of log.old)) result (at purse.new (marks_of log.new)) }
+{
+    match first_row(alloc, &c, x, purse)? {
+        None => staying(alloc, c, purse),
+        Some((entry, results)) => {
+            log.entries.push(entry)?;
+            take_out_all(alloc, results, x, purse, log)
+        }
+    }
+}
+
+/// x out of each of the clauses that a rule left.
+#[cycle(taking)]
+#[tactic(auto, using(purse::proofs::Charging::logging, crate::proofs::Turning::turning))]
+fn take_out_all(
+    alloc: Global,
+    cs: Items<Clause>,
+    x: u32,
+    purse: &mut Purse,
+    log: &mut ElimLog,
+) -> Result<Items<Clause>, StepFault>
+    requires { purse.old.budget < 2 ^ 32 }
+    ensures { ChargedAt (each (taken_out x) cs []) (at purse.old (marks_of log.old)) result (at purse.new (marks_of log.new)) }
+{
+    let mut left = turned_round(alloc, cs)?;
+    let mut out = Items::new(alloc);
+    while let Some(c) = left.pop() {
+        out.append(take_out(alloc, c, x, purse, log)?)?;
+    }
+    Ok(out)
+}
+
+/// x out of a clause of the caller's.
+#[tactic(auto, using(purse::proofs::Charging::logging))]
+fn clause_out(
     alloc: Global,
     c: &Clause,
     x: u32,
@@ -42,15 +108,14 @@ fn take_out(
         None => unused(alloc, c, purse),
         Some((entry, results)) => {
             log.entries.push(entry)?;
-            take_out_all(alloc, results.as_slice(), x, purse, log)
+            take_out_all(alloc, results, x, purse, log)
         }
     }
 }
 
-/// x out of each of the clauses.
-#[cycle(taking)]
+/// x out of each of the caller's clauses.
 #[tactic(auto, using(purse::proofs::Charging::logging))]
-fn take_out_all(
+fn clauses_out(
     alloc: Global,
     cs: &[Clause],
     x: u32,
@@ -62,7 +127,7 @@ fn take_out_all(
 {
     let mut out = Items::new(alloc);
     for c in cs {
-        out.append(take_out(alloc, c, x, purse, log)?)?;
+        out.append(clause_out(alloc, c, x, purse, log)?)?;
     }
     Ok(out)
 }
@@ -82,7 +147,7 @@ pub fn name_out(
     requires { purse.old.budget < 2 ^ 32 }
     ensures { ChargedAt (exists_name x d.now) (at purse.old (marks_of log.old)) result (at purse.new (marks_of log.new)) }
 {
-    let cs = take_out_all(alloc, d.clauses(), x, purse, log)?;
+    let cs = clauses_out(alloc, d.clauses(), x, purse, log)?;
     Dnf::tidy(alloc, cs, purse)
 }
 
