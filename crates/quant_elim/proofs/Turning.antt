@@ -1,5 +1,5 @@
 -- Clauses taken from the end of a list that was turned round.
-use Rattle.std.proofs.Common.{◌≡◌, ◌≤◌, ℕ, List, [], ◌∷◌, ◌++◌, refl, ap, ◌∙◌, arith}
+use Rattle.std.proofs.Common.{◌<◌, length, ◌≡◌, ◌≤◌, ℕ, List, [], ◌∷◌, ◌++◌, refl, ap, ◌∙◌, arith}
 use Rattle.std.specs.Prelude.{reverse, max}
 use Rattle.clause_set.specs.declared.literal.Literal.{Literal}
 use Rattle.clause_set.specs.Rules.{measure}
@@ -19,6 +19,14 @@ farthest-last x left before c e = let whole : farthest x left ≡ max (farthest 
 
 pub farthest-front : (x : ℕ) (left before : List (List Literal)) (c : List Literal) → left ≡ before ++ c ∷ [] → farthest x before ≤ farthest x left
 farthest-front x left before c e = let whole : farthest x left ≡ max (farthest x before) (measure x c) = ap (farthest x) e ∙ farthest-behind x before c in omega (arith, whole)
+
+-- at most one item is its own list turned round
+pub turned_short : {X : Type 0} (xs : List X) → length xs < 2 → xs ≡ reverse xs
+turned_short [] h = refl
+turned_short (x ∷ []) h = refl
+turned_short (x ∷ y ∷ xs) h = absurd (omega (arith, h))
+
+pub ruleset short = (turned_short)
 
 -- the clauses turned round are no farther
 farthest-reverse : (x : ℕ) (cs : List (List Literal)) → farthest x (reverse cs) ≡ farthest x cs

@@ -38,9 +38,13 @@ fn staying(alloc: Global, c: Clause, purse: &mut Purse) -> Result<Items<Clause>,
 }
 
 /// The clauses, the last one first.
+#[tactic(auto, using(crate::proofs::Turning::short))]
 fn turned_round(alloc: Global, cs: Items<Clause>) -> Result<Items<Clause>, Memory>
     ensures { IfOk result (λ left. left ≡ reverse cs) }
 {
+    if cs.len() < 2 {
+        return Ok(cs);
+    }
     let mut cs = cs;
     let mut left = Items::new(alloc);
     while let Some(c) = cs.pop() {
