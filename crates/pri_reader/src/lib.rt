@@ -23,7 +23,8 @@ pub use files::read;
 pub use first::{completion_law, first_refusal_law};
 pub use laws::{machine_law, one_file_law};
 pub use pri_tokens::{
-    Lexeme, Terminal, Token, TokenKind, kind_of, lexemes, spelling, spelling_law, tokens, tokens_law,
+    Lexeme, Terminal, Token, TokenKind, kind_of, lexemes, spelling, spelling_law, tokens,
+    tokens_law,
 };
 pub use tree::{
     Added, Block, Comparison, Declared, Expr, File, Form, Item, Name, NameSet, ReadRefusal,
