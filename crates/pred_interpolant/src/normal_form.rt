@@ -10,7 +10,6 @@ ghost use Rattle.pri_typing.specs.WellFormed.{IsWellFormed};
 ghost use Rattle.pri_printer.specs.Formulas as forms;
 ghost use Rattle.pri_printer.specs.Formulas.{clause_formula, divides_formula, first_value, later, later_part, literal_formula, normal_form_formula, sum_value, summand_value, term_value};
 ghost use Rattle.pri_printer.specs.Printed.{dnf_formula};
-ghost use Rattle.pri_printer.specs.Ranges.{IsRangedLiteral};
 ghost use Rattle.pri_printer.specs.Summands as summands;
 ghost use Rattle.pri_printer.specs.Summands.{monomial};
 ghost use Rattle.encoding.specs.Problems.{constants};
@@ -18,6 +17,7 @@ ghost use Rattle.pred_interpolant.specs.Fit.{IsFitFormula};
 
 use clause_set::{Clause, Dnf, Literal};
 use linear_term::{Memory, Term};
+use pri_printer::know_clauses;
 use pri_typing::Problem;
 use sqlite_items::{Boxed, Items};
 use std::alloc::Global;
@@ -246,34 +246,6 @@ fn normal_form(alloc: Global, n: u32, cs: &[Clause]) -> Result<Typed, Memory>
         return clause(alloc, n, &cs[0]);
     }
     Ok(Typed::Or(clauses(alloc, n, cs)?))
-}
-
-/// The numbers of a literal are in the range: this call does nothing, and tells its caller so.
-fn know_literal(l: &Literal)
-    requires { HasDivisor l.now }
-    ensures { IsRangedLiteral l.now }
-{
-    l.term().know_normal();
-}
-
-/// The same of literals.
-fn know_literals(literals: &[Literal])
-    requires { All HasDivisor literals.now }
-    ensures { All IsRangedLiteral literals.now }
-{
-    for l in literals {
-        know_literal(l);
-    }
-}
-
-/// The same of clauses.
-fn know_clauses(clauses: &[Clause])
-    ensures { All (All IsRangedLiteral) clauses.now }
-{
-    for c in clauses {
-        c.know_clause();
-        know_literals(c.literals());
-    }
 }
 
 /// A normal form over the constants of the problem as the formula that its text says.

@@ -11,33 +11,10 @@ ghost use Rattle.pred_interpolant.specs.Middle.{IsObligation, obligation_root};
 
 use function_encoding::{EncodeRefusal, Encoded, encode};
 use linear_term::Memory;
-use pri_typing::{Problem, Symbol};
+use pri_typing::{Problem, Symbol, copy_symbols, copy_texts};
 use sqlite_items::Items;
 use std::alloc::Global;
 use typed_formula::{Sort, Typed};
-
-fn copy_texts(alloc: Global, texts: &[Items<u8>]) -> Result<Items<Items<u8>>, Memory>
-    ensures { IfOk result (λ ts. ts ≡ texts.now) }
-{
-    let mut out = Items::new(alloc);
-    for text in texts {
-        out.push(Items::from_slice(alloc, text.as_slice())?)?;
-    }
-    Ok(out)
-}
-
-fn copy_symbols(alloc: Global, symbols: &[Symbol]) -> Result<Items<Symbol>, Memory>
-    ensures { IfOk result (λ ss. ss ≡ symbols.now) }
-{
-    let mut out = Items::new(alloc);
-    for symbol in symbols {
-        out.push(Symbol {
-            name: Items::from_slice(alloc, symbol.name.as_slice())?,
-            arity: symbol.arity,
-        })?;
-    }
-    Ok(out)
-}
 
 /// The constants of a problem, with their types.
 #[derive(Drop)]

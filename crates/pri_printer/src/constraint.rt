@@ -109,8 +109,8 @@ fn know_literals(literals: &[Literal])
     }
 }
 
-/// The same of clauses.
-fn know_clauses(clauses: &[Clause])
+/// The numbers of the literals of clauses are in the range: this call does nothing, and tells its caller so.
+pub fn know_clauses(clauses: &[Clause])
     ensures { All (All IsRangedLiteral) clauses.now }
 {
     for c in clauses {

@@ -11,7 +11,7 @@ mod quotient;
 mod solution;
 mod term;
 
-pub use constraint::print_dnf;
+pub use constraint::{know_clauses, print_dnf};
 pub use counterexample::print_counterexample;
 pub use laws::{constraint_law, quotient_law};
 pub use quotient::is_taken;

@@ -25,3 +25,4 @@ pub use laws::{
 };
 pub use problem::{Cut, Problem, Symbol, TypeRefusal};
 pub use resolution::resolve;
+pub use symbols::{copy_symbols, copy_texts};

@@ -316,7 +316,8 @@ impl Symbols {
     }
 }
 
-fn copy_texts(alloc: Global, texts: &[Items<u8>]) -> Result<Items<Items<u8>>, Memory>
+/// The same texts, or want of memory.
+pub fn copy_texts(alloc: Global, texts: &[Items<u8>]) -> Result<Items<Items<u8>>, Memory>
     ensures { IfOk result (λ ts. ts ≡ texts.now) }
 {
     let mut out = Items::new(alloc);
@@ -326,7 +327,8 @@ fn copy_texts(alloc: Global, texts: &[Items<u8>]) -> Result<Items<Items<u8>>, Me
     Ok(out)
 }
 
-fn copy_symbols(alloc: Global, symbols: &[Symbol]) -> Result<Items<Symbol>, Memory>
+/// The same symbols, or want of memory.
+pub fn copy_symbols(alloc: Global, symbols: &[Symbol]) -> Result<Items<Symbol>, Memory>
     ensures { IfOk result (λ ss. ss ≡ symbols.now) }
 {
     let mut out = Items::new(alloc);

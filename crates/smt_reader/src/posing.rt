@@ -11,7 +11,7 @@ ghost use Rattle.smt_reader.specs.Following.{AreClaims, FollowsState};
 
 use crate::following::{Assertion, Reading};
 use linear_term::Memory;
-use pri_typing::{Problem, Symbol};
+use pri_typing::{Problem, copy_symbols, copy_texts};
 use script_names::Body;
 use script_writing::write_formula;
 use sqlite_items::{Boxed, Items};
@@ -53,31 +53,6 @@ fn assertions(
     Ok(members)
 }
 
-// A copy of names.
-fn copy_names(alloc: Global, names: &[Items<u8>]) -> Result<Items<Items<u8>>, Memory>
-    ensures { IfOk result (λ xs. xs ≡ names.now) }
-{
-    let mut out = Items::new(alloc);
-    for name in names {
-        out.push(Items::from_slice(alloc, name.as_slice())?)?;
-    }
-    Ok(out)
-}
-
-// A copy of symbols.
-fn copy_symbols(alloc: Global, symbols: &[Symbol]) -> Result<Items<Symbol>, Memory>
-    ensures { IfOk result (λ xs. xs ≡ symbols.now) }
-{
-    let mut out = Items::new(alloc);
-    for symbol in symbols {
-        out.push(Symbol {
-            name: Items::from_slice(alloc, symbol.name.as_slice())?,
-            arity: symbol.arity,
-        })?;
-    }
-    Ok(out)
-}
-
 // The type `int` for each of these names.
 fn types(alloc: Global, names: &[Items<u8>]) -> Result<Items<Sort>, Memory>
     ensures { IfOk result (λ ts. ts ≡ all_int names.now) }
@@ -107,7 +82,7 @@ pub(crate) fn pose(alloc: Global, reading: &Reading) -> Result<Problem, Memory>
     Ok(Problem {
         existentials: Items::new(alloc),
         existential_types: Items::new(alloc),
-        universals: copy_names(alloc, constants)?,
+        universals: copy_texts(alloc, constants)?,
         universal_types: types(alloc, constants)?,
         functions: copy_symbols(alloc, reading.functions.as_slice())?,
         predicates: copy_symbols(alloc, reading.predicates.as_slice())?,
