@@ -20,7 +20,7 @@ pub record PutsPart (before after : Option (List ℕ)) (text : List ℕ) : Type 
   pub put : PutsUpTo before after text rest
 
 -- one of these answers is given whole: the run ends with its status, and all of its text is put
-pub record Gives (IsAnswer : Answer → Type 0) (ends : ℕ) (before after : Option (List ℕ)) : Type 0 where
+pub record IsPutWhole (IsAnswer : Answer → Type 0) (ends : ℕ) (before after : Option (List ℕ)) : Type 0 where
   pub answer : Answer
   pub is : IsAnswer answer
   pub status : ends ≡ answer.status
@@ -35,5 +35,5 @@ pub record GivesPart (IsAnswer : Answer → Type 0) (before after : Option (List
 -- one of these answers meets the outside: it is given whole, but where the source fails (6), the sink fails (7, with a part
 -- of the text not put) or memory is wanting (8)
 pub record Meets (IsAnswer : Answer → Type 0) (ends : ℕ) (before after : Option (List ℕ)) : Type 0 where
-  pub whole : ends ≢ 6 → ends ≢ 7 → ends ≢ 8 → Gives IsAnswer ends before after
+  pub whole : ends ≢ 6 → ends ≢ 7 → ends ≢ 8 → IsPutWhole IsAnswer ends before after
   pub part : ends ≡ 7 → GivesPart IsAnswer before after

@@ -2,7 +2,7 @@
 
 ghost use Rattle.encoding.specs.Problems.{problem_root};
 ghost use Rattle.limits.specs.Limits.{branch_limit};
-ghost use Rattle.open_trees.specs.Levels.{HasLevels};
+ghost use Rattle.open_trees.specs.Levels.{IsWithinLevels};
 ghost use Rattle.open_trees.specs.Open.{IsSaturatedTree};
 ghost use Rattle.pri_typing.specs.WellFormed.{IsWellFormed};
 ghost use Rattle.problem_file.specs.Encoded.{IsEncoded};
@@ -43,7 +43,7 @@ fn explained(
     requires formed { IsWellFormed p.now }
     requires encoded { IsEncoded p.now e.now }
     requires saturated { IsSaturatedTree (problem_root p.now).value (length p.now.existentials) (proof_of tree.now.root) }
-    requires levels { HasLevels branch_limit (proof_of tree.now.root) }
+    requires levels { IsWithinLevels branch_limit (proof_of tree.now.root) }
     requires budget { budget < 2 ^ 32 }
 {
     let Some(at) = probe(alloc, p)? else {

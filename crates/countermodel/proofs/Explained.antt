@@ -13,7 +13,7 @@ use Rattle.encoding.proofs.Conditions.{values_length}
 use Rattle.encoding.proofs.Problems.{root_over}
 use Rattle.problem_file.proofs.Reduced.{problem_reduced}
 use Rattle.problem_file.proofs.Sizes.{within_limits}
-use Rattle.open_trees.specs.Levels.{HasLevels}
+use Rattle.open_trees.specs.Levels.{IsWithinLevels}
 use Rattle.open_trees.specs.Open.{IsSaturatedTree}
 use Rattle.open_trees.specs.Walk.{Stop, walk}
 use Rattle.open_trees.proofs.Refuting.{walk_refutes}
@@ -37,7 +37,7 @@ many_asked : (p : Problem) (x : Proof) (e : List ℤ) → IsAsked p x e → leng
 many_asked p x e a = values_length p.existential_types e (typed_asked p x e a) ∙ a.formed.existential_types.many
 
 -- the walk is ready at the root
-pub ready_root : (p : Problem) (x : Proof) (e : List ℤ) → IsAsked p x e → HasLevels 2000 x → IsWalkReady 2000 (start (problem_root p).value (length p.existentials)) x e
+pub ready_root : (p : Problem) (x : Proof) (e : List ℤ) → IsAsked p x e → IsWithinLevels 2000 x → IsWalkReady 2000 (start (problem_root p).value (length p.existentials)) x e
 ready_root p x e a levels =
     let f = (problem_root p).value in
     let n = length p.existentials in

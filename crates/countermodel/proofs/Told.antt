@@ -18,7 +18,7 @@ use Rattle.pri_typing.specs.WellFormed.{IsWellFormed}
 use Rattle.encoding.specs.Problems.{problem_root}
 use Rattle.function_encoding.specs.declared.answer.Encoded.{Encoded}
 use Rattle.problem_file.specs.Encoded.{IsEncoded}
-use Rattle.open_trees.specs.Levels.{HasLevels}
+use Rattle.open_trees.specs.Levels.{IsWithinLevels}
 use Rattle.open_trees.specs.Open.{IsSaturatedTree}
 use Rattle.open_trees.specs.Rows.{table_at}
 use Rattle.open_trees.specs.Walk.{Stop, walk}
@@ -60,7 +60,7 @@ asked p e x at formed encoded saturated probes = record { formed = formed; small
 pub started : (p : Problem) (e : Encoded) (s : Sequent) → IsEncoded p e → s ≡ start (form e.root) e.constants → s ≡ start (problem_root p).value (length p.existentials)
 started p e s encoded is = is ∙ (λ i. start (encoded.root i) (encoded.constants i))
 
-pub ready_code : (p : Problem) (x : Proof) (s : Sequent) (at v : List ℤ) → IsAsked p x at → HasLevels 2000 x → s ≡ start (problem_root p).value (length p.existentials) → v ≡ at → IsWalkReady 2000 s x v
+pub ready_code : (p : Problem) (x : Proof) (s : Sequent) (at v : List ℤ) → IsAsked p x at → IsWithinLevels 2000 x → s ≡ start (problem_root p).value (length p.existentials) → v ≡ at → IsWalkReady 2000 s x v
 ready_code p x s at v a levels is same = subst (λ q. IsWalkReady 2000 q x v) (sym is) (subst (λ u. IsWalkReady 2000 (start (problem_root p).value (length p.existentials)) x u) (sym same) (ready_root p x at a levels))
 
 module _ (p : Problem) (x : Proof) (s : Sequent) (at v : List ℤ) (is : s ≡ start (problem_root p).value (length p.existentials)) (same : v ≡ at) where

@@ -5,7 +5,7 @@ ghost use Rattle.countermodel.specs.Probes.{probe_values};
 ghost use Rattle.encoding.specs.Problems.{problem_root};
 ghost use Rattle.limits.specs.Limits.{branch_limit};
 ghost use Rattle.linear_term.specs.Range.{InRange};
-ghost use Rattle.open_trees.specs.Levels.{HasLevels};
+ghost use Rattle.open_trees.specs.Levels.{IsWithinLevels};
 ghost use Rattle.open_trees.specs.Open.{IsSaturatedTree};
 ghost use Rattle.open_walk.specs.Doing.{DoesWork};
 ghost use Rattle.open_walk.specs.Stopped.{stop_of};
@@ -77,7 +77,7 @@ pub fn explain(
     requires formed { IsWellFormed p.now }
     requires encoded { IsEncoded p.now e.now }
     requires saturated { IsSaturatedTree (problem_root p.now).value (length p.now.existentials) (proof_of t.now.root) }
-    requires levels { HasLevels branch_limit (proof_of t.now.root) }
+    requires levels { IsWithinLevels branch_limit (proof_of t.now.root) }
     requires values { probe_values p.now.existential_types ≡ Some at.now }
     requires budget { purse.old.budget < 2 ^ 32 }
     ensures work { DoesWork (explaining p.now (proof_of t.now.root) at.now) purse.old (explained_as result) purse.new }

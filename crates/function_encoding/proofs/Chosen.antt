@@ -30,7 +30,7 @@ use Rattle.function_encoding.specs.Bounds.{extents_before, kept_bounds}
 use Rattle.function_encoding.specs.Encoded.{all_assumed, all_signed}
 use Rattle.function_encoding.specs.Marks.{AreMarks, is_marked}
 use Rattle.function_encoding.proofs.Kept.{left_over, over-two_first, behind-sum, kept-two_first, conditions-same, conditions_measured}
-use Rattle.function_encoding.specs.Ranged.{IsRanged, AreRanged}
+use Rattle.function_encoding.specs.Ranged.{HasRangedNumbers, HaveRangedNumbers}
 use Rattle.function_encoding.specs.Room.{HasNamesLeft}
 use Rattle.function_encoding.specs.declared.component.Component.{Component}
 use Rattle.function_encoding.proofs.Encodings.{rest, rest-more, rest_none, room_beside, room_under}
@@ -45,7 +45,7 @@ assumed_extent : (plus : Bool) (f : Formula) → extent (assumed (record { plus 
 assumed_extent true f = refl
 assumed_extent false f = refl
 
-assumed_ranged : (plus : Bool) (f : Formula) → IsRanged (assumed (record { plus = plus; what = f })) → IsRanged f
+assumed_ranged : (plus : Bool) (f : Formula) → HasRangedNumbers (assumed (record { plus = plus; what = f })) → HasRangedNumbers f
 assumed_ranged true f h = h
 assumed_ranged false f h = h
 
@@ -74,10 +74,10 @@ pub chosen_end : (at : List ℕ) (n : ℕ) (cs : List Component) (i : ℕ) (out 
     → Made forms_of work (Ok out)
 chosen_end at n cs i out work le h = rest_none at n true out work (subst (λ l. Left (rest at n true (map form out) (all_assumed l)) work) (drop_all cs i le) h)
 
-pub chosen_ranged : (cs : List Component) (i : ℕ) (c : Component) → i < length cs → c ≡ get_or cs i c → AreRanged (all_assumed (drop i cs))
-    → IsRanged (formula c.what.now) × AreRanged (all_assumed (drop (i + 1) cs))
+pub chosen_ranged : (cs : List Component) (i : ℕ) (c : Component) → i < length cs → c ≡ get_or cs i c → HaveRangedNumbers (all_assumed (drop i cs))
+    → HasRangedNumbers (formula c.what.now) × HaveRangedNumbers (all_assumed (drop (i + 1) cs))
 chosen_ranged cs i c lt is h =
-    let r = subst (λ l. AreRanged (all_assumed l)) (drop-item cs i c lt is) h in (assumed_ranged c.plus (formula c.what.now) r.0, r.1)
+    let r = subst (λ l. HaveRangedNumbers (all_assumed l)) (drop-item cs i c lt is) h in (assumed_ranged c.plus (formula c.what.now) r.0, r.1)
 
 pub chosen_room : (n : ℕ) (cs : List Component) (i : ℕ) (c : Component) → i < length cs → c ≡ get_or cs i c → HasNamesLeft n (extents (all_assumed (drop i cs)))
     → HasNamesLeft n (extent (formula c.what.now)) × HasNamesLeft n (extents (all_assumed (drop (i + 1) cs)))
@@ -149,9 +149,9 @@ parts_large p set marks cs e formed m chosen is =
     large_is (parts_root p set).value e
     (parts_measured p set marks formed m ∙ ap (λ l. above (extents_before (formulas (map assumed l)) (marked_extent p marks))) (sym chosen) ∙ sym is)
 
-pub parts_ranged : (p : Problem) (set : List ℕ) (cs : List Component) → IsWellFormed p → all_signed cs ≡ filter (λ c. is_part_in set c.what) (components_of p) → AreRanged (all_assumed cs)
+pub parts_ranged : (p : Problem) (set : List ℕ) (cs : List Component) → IsWellFormed p → all_signed cs ≡ filter (λ c. is_part_in set c.what) (components_of p) → HaveRangedNumbers (all_assumed cs)
 parts_ranged p set cs formed chosen =
-    subst IsRanged (sym (chosen_are p set cs chosen))
+    subst HasRangedNumbers (sym (chosen_are p set cs chosen))
     (ranged_of 0 (assumed_by p set) (assumed_everywhere (of_terms IsNumberRanged) (record { nots = λ f. tt; everies = λ fs. tt }) p set formed.numbers)
     (assumed_everywhere (of_formulas IsBinderRanged) (record { nots = λ f. tt; everies = λ fs. tt }) p set formed.binders))
 

@@ -17,7 +17,7 @@ use Rattle.formula.proofs.Making.{made_just, left_done, pushed}
 use Rattle.encoding.specs.Encoding.{encoded, all_encoded, signed_relation}
 use Rattle.encoding.specs.Extent.{Extent, above, above_two, beside, nothing, behind_atoms, restricted_extent, in_both, extent, extents, extent_with}
 use Rattle.function_encoding.specs.Actions.{Action, relate, predicate, ran, compiled, compiled_all}
-use Rattle.function_encoding.specs.Ranged.{IsRanged, AreRanged}
+use Rattle.function_encoding.specs.Ranged.{HasRangedNumbers, HaveRangedNumbers}
 use Rattle.function_encoding.specs.Room.{HasNamesLeft, AreActionsRanged, extent_left}
 use Rattle.function_encoding.specs.Stops.{Halts, stopped}
 use Rattle.function_encoding.specs.Weight.{weight, weights, weight_left}
@@ -108,8 +108,8 @@ pub rest_end : (at : List ℕ) (n : ℕ) (plus : Bool) (fs : List Typed) (i : �
 rest_end at n plus fs i out work le h = rest_none at n plus out work (subst (λ l. Left (rest at n plus (map form out) (formulas_of l)) work) (drop_all fs i le) h)
 
 -- the next formula has its numbers in the range, has room, and is lighter than all
-pub item_ranged : (fs : List Typed) (i : ℕ) (f : Typed) → i < length fs → f ≡ get_or fs i f → AreRanged (formulas_of (drop i fs)) → IsRanged (formula f) × AreRanged (formulas_of (drop (i + 1) fs))
-item_ranged fs i f lt is h = let r = subst (λ l. AreRanged (formulas_of l)) (drop-item fs i f lt is) h in (r.0, r.1)
+pub item_ranged : (fs : List Typed) (i : ℕ) (f : Typed) → i < length fs → f ≡ get_or fs i f → HaveRangedNumbers (formulas_of (drop i fs)) → HasRangedNumbers (formula f) × HaveRangedNumbers (formulas_of (drop (i + 1) fs))
+item_ranged fs i f lt is h = let r = subst (λ l. HaveRangedNumbers (formulas_of l)) (drop-item fs i f lt is) h in (r.0, r.1)
 
 pub item_room : (n : ℕ) (fs : List Typed) (i : ℕ) (f : Typed) → i < length fs → f ≡ get_or fs i f → HasNamesLeft n (extents (formulas_of (drop i fs))) → HasNamesLeft n (extent (formula f)) × HasNamesLeft n (extents (formulas_of (drop (i + 1) fs)))
 item_room n fs i f lt is h = room_beside n (extent (formula f)) (extents (formulas_of (drop (i + 1) fs))) (subst (λ l. HasNamesLeft n (extents (formulas_of l))) (drop-item fs i f lt is) h)
@@ -120,7 +120,7 @@ item_weight fs i f w lt is h =
     (omega arith, omega arith)
 
 -- the instructions of an atom are ready to be run
-pub relation_ready : (s t : Expression) (q r : Relation) (c : List Action) (n : ℕ) → c ≡ compiled s (compiled t (relate q ∷ [])) → IsRanged (compares r s t) → HasNamesLeft n (extent (compares r s t))
+pub relation_ready : (s t : Expression) (q r : Relation) (c : List Action) (n : ℕ) → c ≡ compiled s (compiled t (relate q ∷ [])) → HasRangedNumbers (compares r s t) → HasNamesLeft n (extent (compares r s t))
     → (weight_left c + 2 < weight (compares r s t)) × AreActionsRanged c × HasNamesLeft n (extent_left c)
 relation_ready s t q r c n e h k =
     let w = compiled_weight s (compiled t (relate q ∷ [])) in
@@ -131,7 +131,7 @@ relation_ready s t q r c n e h k =
       subst (HasNamesLeft n) (sym (ap extent_left e ∙ compiled_extent s (compiled t (relate q ∷ [])) ∙ ap (extent_with s) (compiled_extent t (relate q ∷ [])))) k,
     )
 
-pub predicate_ready : (ts : Expressions) (plus : Bool) (p : ℕ) (c : List Action) (n : ℕ) → c ≡ compiled_all ts (predicate plus p (size ts) ∷ []) → IsRanged (applies p ts) → HasNamesLeft n (extent (applies p ts))
+pub predicate_ready : (ts : Expressions) (plus : Bool) (p : ℕ) (c : List Action) (n : ℕ) → c ≡ compiled_all ts (predicate plus p (size ts) ∷ []) → HasRangedNumbers (applies p ts) → HasNamesLeft n (extent (applies p ts))
     → (weight_left c + 2 < weight (applies p ts)) × AreActionsRanged c × HasNamesLeft n (extent_left c)
 predicate_ready ts plus p c n e h k =
     let w = all_weight ts (predicate plus p (size ts) ∷ []) in

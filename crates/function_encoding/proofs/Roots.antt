@@ -24,14 +24,14 @@ use Rattle.encoding.specs.Root.{conditions, for_last}
 use Rattle.function_encoding.proofs.Bounding.{alone}
 use Rattle.encoding.proofs.Problems.{holds_is, pure_is, root_over}
 use Rattle.function_encoding.specs.Encoded.{Encodes}
-use Rattle.function_encoding.specs.Ranged.{IsRanged, AreRanged, IsTermRanged, AreTermsRanged}
+use Rattle.function_encoding.specs.Ranged.{HasRangedNumbers, HaveRangedNumbers, IsTermRanged, AreTermsRanged}
 use Rattle.function_encoding.specs.Refusals.{refusal_of}
 use Rattle.function_encoding.specs.Room.{HasNamesLeft}
 use Rattle.function_encoding.specs.declared.answer.EncodeRefusal.{EncodeRefusal}
 use Rattle.function_encoding.proofs.Limits.{problem_extent, restricted_levels, types_levels}
 
 mutual
-  pub ranged_of : (n : ℕ) (f : Formula) → Everywhere (of_terms IsNumberRanged) n f → Everywhere (of_formulas IsBinderRanged) n f → IsRanged f
+  pub ranged_of : (n : ℕ) (f : Formula) → Everywhere (of_terms IsNumberRanged) n f → Everywhere (of_formulas IsBinderRanged) n f → HasRangedNumbers f
   ranged_of n (constant b) h k = tt
   ranged_of n (compares r s t) h k = (term_ranged n s h.1 k.1, term_ranged n t h.2 k.2)
   ranged_of n (applies p ts) h k = terms_ranged n ts h.1 k.1
@@ -44,7 +44,7 @@ mutual
   ranged_of n (for_some s f) h k = (k.0, ranged_of (suc n) f h.1 k.1)
   ranged_of n (part i f) h k = ranged_of n f h.1 k.1
 
-  all_ranged : (n : ℕ) (fs : Formulas) → AllEverywhere (of_terms IsNumberRanged) n fs → AllEverywhere (of_formulas IsBinderRanged) n fs → AreRanged fs
+  all_ranged : (n : ℕ) (fs : Formulas) → AllEverywhere (of_terms IsNumberRanged) n fs → AllEverywhere (of_formulas IsBinderRanged) n fs → HaveRangedNumbers fs
   all_ranged n no_formula h k = tt
   all_ranged n (and_formula f fs) h k = (ranged_of n f h.0 k.0, all_ranged n fs h.1 k.1)
 

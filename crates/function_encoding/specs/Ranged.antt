@@ -4,22 +4,22 @@ use Rattle.typed_formula.specs.Sorts.{IsSortRanged}
 use Rattle.typed_formula.specs.Formula.{Formula, Formulas, Expression, Expressions, constant, compares, applies, negation, every, some, implies, iff, for_all, for_some, part, no_formula, and_formula, number, name, call, minus, total, product, choice, absolute, lesser, greater, no_expression, and_expression}
 
 abbrev mutual
-  pub IsRanged : Formula → Type 0
-  IsRanged (constant b) = Unit {0}
-  IsRanged (compares r s t) = IsTermRanged s × IsTermRanged t
-  IsRanged (applies p ts) = AreTermsRanged ts
-  IsRanged (negation f) = IsRanged f
-  IsRanged (every fs) = AreRanged fs
-  IsRanged (some fs) = AreRanged fs
-  IsRanged (implies f g) = IsRanged f × IsRanged g
-  IsRanged (iff f g) = IsRanged f × IsRanged g
-  IsRanged (for_all s f) = IsSortRanged s × IsRanged f
-  IsRanged (for_some s f) = IsSortRanged s × IsRanged f
-  IsRanged (part k f) = IsRanged f
+  pub HasRangedNumbers : Formula → Type 0
+  HasRangedNumbers (constant b) = Unit {0}
+  HasRangedNumbers (compares r s t) = IsTermRanged s × IsTermRanged t
+  HasRangedNumbers (applies p ts) = AreTermsRanged ts
+  HasRangedNumbers (negation f) = HasRangedNumbers f
+  HasRangedNumbers (every fs) = HaveRangedNumbers fs
+  HasRangedNumbers (some fs) = HaveRangedNumbers fs
+  HasRangedNumbers (implies f g) = HasRangedNumbers f × HasRangedNumbers g
+  HasRangedNumbers (iff f g) = HasRangedNumbers f × HasRangedNumbers g
+  HasRangedNumbers (for_all s f) = IsSortRanged s × HasRangedNumbers f
+  HasRangedNumbers (for_some s f) = IsSortRanged s × HasRangedNumbers f
+  HasRangedNumbers (part k f) = HasRangedNumbers f
 
-  pub AreRanged : Formulas → Type 0
-  AreRanged no_formula = Unit {0}
-  AreRanged (and_formula f fs) = IsRanged f × AreRanged fs
+  pub HaveRangedNumbers : Formulas → Type 0
+  HaveRangedNumbers no_formula = Unit {0}
+  HaveRangedNumbers (and_formula f fs) = HasRangedNumbers f × HaveRangedNumbers fs
 
   pub IsTermRanged : Expression → Type 0
   IsTermRanged (number v) = InRange v
@@ -28,7 +28,7 @@ abbrev mutual
   IsTermRanged (minus t) = IsTermRanged t
   IsTermRanged (total ts) = AreTermsRanged ts
   IsTermRanged (product s t) = IsTermRanged s × IsTermRanged t
-  IsTermRanged (choice f s t) = IsRanged f × IsTermRanged s × IsTermRanged t
+  IsTermRanged (choice f s t) = HasRangedNumbers f × IsTermRanged s × IsTermRanged t
   IsTermRanged (absolute t) = IsTermRanged t
   IsTermRanged (lesser s t) = IsTermRanged s × IsTermRanged t
   IsTermRanged (greater s t) = IsTermRanged s × IsTermRanged t

@@ -4,7 +4,7 @@ use Rattle.linear_term.specs.Range.{InRange}
 use Rattle.encoding.specs.Extent as extents
 use Rattle.encoding.specs.Extent.{leaf, in_both, above, above_two, extent}
 use Rattle.function_encoding.specs.Actions.{Action, put_number, apply, choose, take_absolute, take_extreme, relate, predicate}
-use Rattle.function_encoding.specs.Ranged.{IsRanged}
+use Rattle.function_encoding.specs.Ranged.{HasRangedNumbers}
 
 -- where n names are bound, there are numbers left for those that an encoding of this extent binds
 abbrev pub HasNamesLeft : ℕ → extents.Extent → Type 0
@@ -25,5 +25,5 @@ extent_left (a ∷ c) = extent_left c
 abbrev pub AreActionsRanged : List Action → Type 0
 AreActionsRanged [] = Unit {0}
 AreActionsRanged (put_number v ∷ c) = InRange v × AreActionsRanged c
-AreActionsRanged (choose f ∷ c) = IsRanged f × AreActionsRanged c
+AreActionsRanged (choose f ∷ c) = HasRangedNumbers f × AreActionsRanged c
 AreActionsRanged (a ∷ c) = AreActionsRanged c

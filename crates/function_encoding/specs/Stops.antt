@@ -11,7 +11,7 @@ use Rattle.encoding.specs.Encoding.{related, signed_relation, encoded}
 use Rattle.encoding.specs.Extent as extents
 use Rattle.encoding.specs.Extent.{leaf, in_both, above, above_two, extent}
 use Rattle.function_encoding.specs.Actions.{Action, parted, behind, ran}
-use Rattle.function_encoding.specs.Ranged.{IsRanged}
+use Rattle.function_encoding.specs.Ranged.{HasRangedNumbers}
 use Rattle.function_encoding.specs.Room.{extent_left, AreActionsRanged}
 use Rattle.function_encoding.specs.Weight.{weight, weight_left}
 use Rattle.function_encoding.specs.declared.stop.Stop.{Stop}
@@ -44,7 +44,7 @@ stop_extent (stop.Graph f ts vs) e = above (above_two leaf e)
 stop_extent (stop.Cases b first turned second) e = in_both (test_extent b) e
 
 abbrev pub IsTestRanged : Test → Type 0
-IsTestRanged (test.Formula g) = IsRanged (formula g.now)
+IsTestRanged (test.Formula g) = HasRangedNumbers (formula g.now)
 IsTestRanged (test.Relation r a b) = Unit {0}
 
 abbrev pub IsStopRanged : Stop → Type 0

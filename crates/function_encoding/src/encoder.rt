@@ -11,7 +11,7 @@ ghost use Rattle.encoding.specs.Encoding as encoding;
 ghost use Rattle.encoding.specs.Extent.{above, above_two, extent, extents, in_both, leaf, restricted_extent};
 ghost use Rattle.function_encoding.specs.Actions.{behind, parted, ran};
 ghost use Rattle.function_encoding.specs.Instructions.{actions_of};
-ghost use Rattle.function_encoding.specs.Ranged.{AreRanged, IsRanged};
+ghost use Rattle.function_encoding.specs.Ranged.{HaveRangedNumbers, HasRangedNumbers};
 ghost use Rattle.function_encoding.specs.Room.{AreActionsRanged, HasNamesLeft, extent_left};
 ghost use Rattle.function_encoding.specs.Stops as stops;
 ghost use Rattle.function_encoding.specs.Stops.{IsTestRanged, test_extent};
@@ -36,7 +36,7 @@ use typed_formula::Sort;
 /// are bound.
 #[cycle(encode)]
 pub fn encoded(alloc: Global, at: &[u32], n: u32, plus: bool, f: &Typed) -> Result<Core, TermFault>
-    requires ranged { IsRanged (formula f.now) }
+    requires ranged { HasRangedNumbers (formula f.now) }
     requires room { HasNamesLeft n (extent (formula f.now)) }
     ensures { Made form (encoding.encoded at.now n plus (formula f.now)) result }
 {
@@ -69,7 +69,7 @@ fn all_encoded(
     plus: bool,
     formulas: &[Typed],
 ) -> Result<Items<Core>, TermFault>
-    requires ranged { AreRanged (formulas_of formulas.now) }
+    requires ranged { HaveRangedNumbers (formulas_of formulas.now) }
     requires room { HasNamesLeft n (extents (formulas_of formulas.now)) }
     ensures { Made (λ gs. forms_of gs) (encoding.all_encoded at.now n plus (formulas_of formulas.now)) result }
 {
@@ -89,7 +89,7 @@ fn implied(
     g: &Typed,
     h: &Typed,
 ) -> Result<Core, TermFault>
-    requires ranged { IsRanged (implies (formula g.now) (formula h.now)) }
+    requires ranged { HasRangedNumbers (implies (formula g.now) (formula h.now)) }
     requires room { HasNamesLeft n (extent (implies (formula g.now) (formula h.now))) }
     ensures { Made form (encoding.encoded at.now n plus (implies (formula g.now) (formula h.now))) result }
 {
@@ -107,7 +107,7 @@ fn equivalent(
     g: &Typed,
     h: &Typed,
 ) -> Result<Core, TermFault>
-    requires ranged { IsRanged (iff (formula g.now) (formula h.now)) }
+    requires ranged { HasRangedNumbers (iff (formula g.now) (formula h.now)) }
     requires room { HasNamesLeft n (extent (iff (formula g.now) (formula h.now))) }
     ensures { Made form (encoding.encoded at.now n plus (iff (formula g.now) (formula h.now))) result }
 {
@@ -130,7 +130,7 @@ fn bound(
     g: &Typed,
 ) -> Result<Core, TermFault>
     requires bounds { IsSortRanged sort.now }
-    requires ranged { IsRanged (formula g.now) }
+    requires ranged { HasRangedNumbers (formula g.now) }
     requires room { HasNamesLeft n (above (restricted_extent (length (encoding.bounds sort.now)) (extent (formula g.now)))) }
     ensures { Made form (encoding.bound_by for_all n sort.now (encoding.encoded (at.now ++ n ∷ []) (suc n) plus (formula g.now))) result }
 {

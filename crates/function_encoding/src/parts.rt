@@ -21,7 +21,7 @@ ghost use Rattle.function_encoding.specs.Bounds.{extents_before, kept_bounds};
 ghost use Rattle.function_encoding.specs.Marks.{AreMarks, is_marked};
 ghost use Rattle.function_encoding.specs.Counted.{counted};
 ghost use Rattle.function_encoding.specs.Encoded.{Encodes, all_assumed, all_signed};
-ghost use Rattle.function_encoding.specs.Ranged.{AreRanged};
+ghost use Rattle.function_encoding.specs.Ranged.{HaveRangedNumbers};
 ghost use Rattle.function_encoding.specs.Room.{HasNamesLeft};
 
 use crate::answer::EncodeRefusal;
@@ -130,7 +130,7 @@ fn members(
     n: u32,
     components: &[Component],
 ) -> Result<Items<Core>, TermFault>
-    requires ranged { AreRanged (all_assumed components.now) }
+    requires ranged { HaveRangedNumbers (all_assumed components.now) }
     requires room { HasNamesLeft n (extents.extents (all_assumed components.now)) }
     ensures { Made (λ gs. forms_of gs) (encoding.all_encoded at.now n true (all_assumed components.now)) result }
 {

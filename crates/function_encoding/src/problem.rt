@@ -19,7 +19,7 @@ ghost use Rattle.encoding.specs.Problems.{assumed_form, constants, over_constant
 ghost use Rattle.encoding.specs.Root as root_of_problem;
 ghost use Rattle.function_encoding.specs.Counted.{counted};
 ghost use Rattle.function_encoding.specs.Encoded.{Encodes, all_signed, root_of};
-ghost use Rattle.function_encoding.specs.Ranged.{AreRanged, IsRanged};
+ghost use Rattle.function_encoding.specs.Ranged.{HaveRangedNumbers, HasRangedNumbers};
 ghost use Rattle.function_encoding.specs.Room.{HasNamesLeft};
 
 use crate::answer::{EncodeRefusal, Encoded};

@@ -17,19 +17,19 @@ use Rattle.given_line.specs.Move as m
 use Rattle.given_line.specs.Text.{AreClauses, gives_text}
 use Rattle.given_line.specs.Machine.{signed, opened, with_pair, sum_of, divided, compared, named, relation, ends_literal, ended, or_then, moves}
 use Rattle.given_line.proofs.Said.{said, IsFine}
-use Rattle.proof_tokens.specs.Spellings.{IsRanged}
+use Rattle.proof_tokens.specs.Spellings.{IsRangedToken}
 use Rattle.proof_tokens.specs.Reading.{Begins}
 use Rattle.given_line.proofs.Leads.{Leads, leads}
 
 abbrev IsBegun : GivenState → Type 0
 IsBegun z = Begins AreClauses gives_text (said z)
 
-begun_on : (z y : GivenState) (x : Token) → IsRanged x → IsFine z → moves z x ≡ m.On y → (IsFine y → IsBegun y) → IsBegun z
+begun_on : (z y : GivenState) (x : Token) → IsRangedToken x → IsFine z → moves z x ≡ m.On y → (IsFine y → IsBegun y) → IsBegun z
 begun_on z y x r f e go =
     let l = subst (Leads (said z ++ x ∷ [])) e (leads z x r f) in let k = go l.0 in
     record { value = k.value; is_value = k.is_value; more = x ∷ k.more; parts = k.parts ∙ ap (λ w. w ++ k.more) l.1 ∙ append_assoc (said z) (x ∷ []) k.more }
 
-begun_done : (z : GivenState) (d : List (List Literal)) (x : Token) → IsRanged x → IsFine z → moves z x ≡ m.Done d → IsBegun z
+begun_done : (z : GivenState) (d : List (List Literal)) (x : Token) → IsRangedToken x → IsFine z → moves z x ≡ m.Done d → IsBegun z
 begun_done z d x r f e =
     let l = subst (Leads (said z ++ x ∷ [])) e (leads z x r f) in
     record { value = d; is_value = l.0; more = x ∷ []; parts = l.1 }

@@ -3,7 +3,7 @@ use Rattle.std.proofs.Common.{ℕ, ◌≡◌, List, [], ◌∷◌, ◌++◌, dro
 use Rattle.clause_set.specs.declared.literal.Literal.{Literal}
 use Rattle.proof_tokens.specs.declared.tokens.Token.{Token}
 use Rattle.proof_tokens.specs.declared.tokens.Token.TheVariants as t
-use Rattle.proof_tokens.specs.Spellings.{IsRanged}
+use Rattle.proof_tokens.specs.Spellings.{IsRangedToken}
 use Rattle.proof_tokens.specs.Reading.{Cuts, IsRefusedAt, IsApart, RefusesNext, RefusesProof}
 use Rattle.proof_tokens.specs.declared.reading.Refusal.{Refusal}
 use Rattle.proof_tokens.specs.declared.scanner.Piece.{Piece}
@@ -47,7 +47,7 @@ starts bytes rest c = record {
   comes = λ xs. refl;
 }
 
-pub goes_on : (z y : GivenState) (x : Token) (bytes rest more : List ℕ) (move : GivenMove) → move ≡ moves z x → move ≡ m.On y → IsRanged x → Cuts (x ∷ []) rest more → Stands z bytes rest → Stands y bytes more
+pub goes_on : (z y : GivenState) (x : Token) (bytes rest more : List ℕ) (move : GivenMove) → move ≡ moves z x → move ≡ m.On y → IsRangedToken x → Cuts (x ∷ []) rest more → Stands z bytes rest → Stands y bytes more
 goes_on z y x bytes rest more move p q r c h =
     let l = subst (Leads (said z ++ x ∷ [])) (sym p ∙ q) (leads z x r h.fine) in
     record {
@@ -66,7 +66,7 @@ lead_far z y (x ∷ xs) bytes rest more l c h = lead_far l.0 y xs bytes (drop c.
 pub goes_far : (z y : GivenState) (bytes rest more : List ℕ) → ReachesState z y rest more → Stands z bytes rest → Stands y bytes more
 goes_far z y bytes rest more r h = lead_far z y r.tokens bytes rest more r.leads r.cut h
 
-pub ends : (z : GivenState) (d : List (List Literal)) (x : Token) (bytes rest more : List ℕ) (move : GivenMove) → move ≡ moves z x → move ≡ m.Done d → IsRanged x → Cuts (x ∷ []) rest more → Stands z bytes rest
+pub ends : (z : GivenState) (d : List (List Literal)) (x : Token) (bytes rest more : List ℕ) (move : GivenMove) → move ≡ moves z x → move ≡ m.Done d → IsRangedToken x → Cuts (x ∷ []) rest more → Stands z bytes rest
     → AreClauses d × Cuts (gives_text d) bytes more
 ends z d x bytes rest more move p q r c h =
     let l = subst (Leads (said z ++ x ∷ [])) (sym p ∙ q) (leads z x r h.fine) in

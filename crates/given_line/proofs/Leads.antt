@@ -10,7 +10,7 @@ use Rattle.proof_tokens.specs.declared.tokens.Token.TheVariants as t
 use Rattle.linear_term.specs.Linear.{Linear, IsNormal}
 use Rattle.given_line.specs.declared.draft.Divisor.{Divisor}
 use Rattle.clause_set.specs.declared.literal.Literal.{Literal}
-use Rattle.proof_tokens.specs.Spellings.{IsRanged}
+use Rattle.proof_tokens.specs.Spellings.{IsRangedToken}
 use Rattle.given_line.proofs.Normals.{normal_sum}
 use Rattle.given_line.specs.declared.draft.Draft.{Draft}
 use Rattle.given_line.specs.Behind.{Behind}
@@ -211,7 +211,7 @@ later_sign : (g : Draft) (minus : Bool) (xs : List Token) → is_first g.sum.pai
     → said_draft g ++ sign_text (is_first g.sum.pairs) minus ++ xs ≡ ((said_draft g ++ t.Blank ∷ cond minus t.Minus t.Plus ∷ []) ++ t.Blank ∷ []) ++ xs
 later_sign g minus xs e = ap (λ w. said_draft g ++ sign_text w minus ++ xs) e ∙ (simp append_assoc)
 
-word_leads : (w : Behind) (x : Token) → IsRanged x → IsFineBehind w → Leads ((said_behind w ++ t.Blank ∷ []) ++ x ∷ []) (word w x)
+word_leads : (w : Behind) (x : Token) → IsRangedToken x → IsFineBehind w → Leads ((said_behind w ++ t.Blank ∷ []) ++ x ∷ []) (word w x)
 word_leads (b.Start g) t.False r f = false_leads g.clauses g.literals g.divisor g.sum.pairs f.1
 word_leads (b.Start g) t.True r f = true_leads g.clauses g.literals g.divisor g.sum.pairs f.1 f.0.clauses
 word_leads (b.Start g) t.Minus r f = (f, sym (append_assoc (said_draft g) (t.Blank ∷ []) (t.Minus ∷ [])))
@@ -263,7 +263,7 @@ behind_leads w t.LineFeed f = line_end_leads w f
 behind_leads w t.Times f = times_leads w f
 behind_leads w _ f = tt
 
-minus_leads : (g : Draft) (x : Token) → IsRanged x → IsDraft g → g.sum.pairs ≡ [] → Leads ((said_draft g ++ t.Blank ∷ t.Minus ∷ []) ++ x ∷ []) (in_word_minus g x)
+minus_leads : (g : Draft) (x : Token) → IsRangedToken x → IsDraft g → g.sum.pairs ≡ [] → Leads ((said_draft g ++ t.Blank ∷ t.Minus ∷ []) ++ x ∷ []) (in_word_minus g x)
 minus_leads g (t.Number n) r f e = counted_leads _ g true n f r (first_sign g true (t.Number n ∷ []) e)
 minus_leads g (t.Name x) r f e = named_leads _ g true 1 x f (omega arith) (lit< tt) r (first_sign g true (t.Name x ∷ []) e)
 minus_leads g _ r f e = tt
@@ -271,13 +271,13 @@ minus_leads g _ r f e = tt
 factor_is : (n x : ℕ) → 1 < n → factor_text n x ≡ t.Number n ∷ t.Times ∷ t.Name x ∷ []
 factor_is n x h = let e : nat_eq n 1 ≡ false = grind (arith, nat_tests) in ap (λ q. cond q (t.Name x ∷ []) (t.Number n ∷ t.Times ∷ t.Name x ∷ [])) e
 
-times_name : (g : Draft) (minus : Bool) (n : ℕ) (x : Token) → IsRanged x → IsFine (s.Times g minus n) → Leads (said (s.Times g minus n) ++ x ∷ []) (in_word_times g minus n x)
+times_name : (g : Draft) (minus : Bool) (n : ℕ) (x : Token) → IsRangedToken x → IsFine (s.Times g minus n) → Leads (said (s.Times g minus n) ++ x ∷ []) (in_word_times g minus n x)
 times_name g minus n (t.Name x) r f = named_leads _ g minus n x f.0 (let h = f.2 in omega arith) f.1 r
     (ap (λ w. said_draft g ++ sign_text (is_first g.sum.pairs) minus ++ w) (factor_is n x f.2) ∙ (simp append_assoc))
 times_name g minus n _ r f = tt
 
 -- each move leads on by its token
-pub leads : (z : GivenState) (x : Token) → IsRanged x → IsFine z → Leads (said z ++ x ∷ []) (moves z x)
+pub leads : (z : GivenState) (x : Token) → IsRangedToken x → IsFine z → Leads (said z ++ x ∷ []) (moves z x)
 unfolding moves
 leads (s.Behind w) x r f = behind_leads w x f
 leads (s.Blank w) x r f = word_leads w x r f.0

@@ -2,7 +2,7 @@
 use Rattle.std.specs.Prelude.{ℕ, ◌≡◌, List, [], ◌∷◌}
 use Rattle.proof_tokens.specs.declared.tokens.Token.{Token}
 use Rattle.proof_tokens.specs.Reading.{Cuts}
-use Rattle.proof_tokens.specs.Spellings.{IsRanged}
+use Rattle.proof_tokens.specs.Spellings.{IsRangedToken}
 use Rattle.given_line.specs.State.{GivenState}
 use Rattle.given_line.specs.Move as m
 use Rattle.given_line.specs.Machine.{moves}
@@ -10,7 +10,7 @@ use Rattle.given_line.specs.Machine.{moves}
 -- the tokens lead from one state to the other
 abbrev pub LeadOn : GivenState → List Token → GivenState → Type 0
 LeadOn z [] y = z ≡ y
-LeadOn z (x ∷ xs) y = (w : GivenState) × (m.On w ≡ moves z x) × IsRanged x × LeadOn w xs y
+LeadOn z (x ∷ xs) y = (w : GivenState) × (m.On w ≡ moves z x) × IsRangedToken x × LeadOn w xs y
 
 -- the tokens of the text up to `rest` lead from one state to the other
 pub record ReachesState (z y : GivenState) (text rest : List ℕ) : Type 0 where

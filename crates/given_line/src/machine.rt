@@ -5,7 +5,7 @@ ghost use Rattle.given_line.specs.Machine as spec;
 ghost use Rattle.given_line.specs.Places.{behind_of, move_of, state_of};
 ghost use Rattle.given_line.specs.Ranges.{IsInRange, IsRising, IsStateInRange};
 ghost use Rattle.linear_term.specs.Range.{InRange};
-ghost use Rattle.proof_tokens.specs.Spellings.{IsRanged};
+ghost use Rattle.proof_tokens.specs.Spellings.{IsRangedToken};
 ghost use Rattle.proof_tokens.specs.declared.tokens.Token.TheVariants as t;
 ghost use Rattle.std.specs.Prelude.{◌≡◌, ◌≢◌, ◌<◌, ◌^◌, IfOk};
 
@@ -196,7 +196,7 @@ fn compared(alloc: Global, draft: &mut Draft, bound: bool, n: u128) -> Result<Pr
 
 /// What a word does where a literal or its term begins.
 fn first_word(draft: &mut Draft, token: Token) -> Result<Progress, Memory>
-    requires token_in_range { IsRanged token }
+    requires token_in_range { IsRangedToken token }
     requires open { IsRising draft.old }
     ensures { IfOk result (λ p. move_of p draft.new ≡ spec.word (b.Start draft.old) token) }
 {
@@ -223,7 +223,7 @@ fn behind_name(alloc: Global, draft: &mut Draft, token: Token) -> Result<Progres
 
 /// What a word does behind a sign and a blank.
 fn behind_sign(draft: &mut Draft, minus: bool, token: Token) -> Result<Progress, Memory>
-    requires token_in_range { IsRanged token }
+    requires token_in_range { IsRangedToken token }
     requires open { IsRising draft.old }
     ensures { IfOk result (λ p. move_of p draft.new ≡ spec.word (b.Sign draft.old minus) token) }
 {
@@ -265,7 +265,7 @@ fn behind_clause(alloc: Global, draft: &mut Draft, token: Token) -> Result<Progr
 
 /// What a word does behind a word and a blank.
 fn word(alloc: Global, draft: &mut Draft, last: Last, token: Token) -> Result<Progress, Memory>
-    requires token_in_range { IsRanged token }
+    requires token_in_range { IsRangedToken token }
     requires in_range { IsInRange (behind_of last draft.old) }
     ensures { IfOk result (λ p. move_of p draft.new ≡ spec.word (behind_of last draft.old) token) }
 {
@@ -346,7 +346,7 @@ pub fn step(
     place: Place,
     token: Token,
 ) -> Result<Progress, Memory>
-    requires token_in_range { IsRanged token }
+    requires token_in_range { IsRangedToken token }
     requires in_range { IsStateInRange (state_of place draft.old) }
     ensures { IfOk result (λ p. move_of p draft.new ≡ spec.moves (state_of place draft.old) token) }
 {

@@ -22,7 +22,7 @@ use Rattle.pri_typing.proofs.Referents.{AreProper}
 use Rattle.pri_typing.proofs.WellFormed.{AreAmong, nil_split, placed, same_count, term_placed}
 use Rattle.encoding.specs.Plain.{IsPlain, ArePlain}
 use Rattle.encoding.proofs.Products.{IsTermLinear, AreTermsLinear}
-use Rattle.plain_terms.specs.Plain.{IsTermRanged, AreTermsRanged}
+use Rattle.plain_terms.specs.Plain.{IsPlainRanged, ArePlainRanged}
 use Rattle.term_reader.proofs.Limits.{ranged}
 use Rattle.pri_typing.specs.declared.problem.Problem.{Problem}
 use Rattle.least_job.specs.Objective.{IsObjective}
@@ -82,7 +82,7 @@ mutual
 -- ---- its numbers are in the range, and each product has a side of numbers alone
 
 mutual
-  placed_plain : (ds : List Declaration) (parts : List (List ℕ)) (n : ℕ) (x : Expression) → IsPlain x → TermEverywhere (placed ds parts) n x → IsTermRanged x × IsTermLinear x
+  placed_plain : (ds : List Declaration) (parts : List (List ℕ)) (n : ℕ) (x : Expression) → IsPlain x → TermEverywhere (placed ds parts) n x → IsPlainRanged x × IsTermLinear x
   placed_plain ds parts n (number v) p h = (h.0, tt)
   placed_plain ds parts n (name x) p h = (tt, tt)
   placed_plain ds parts n (call f ts) p h = absurd p
@@ -96,7 +96,7 @@ mutual
   placed_plain ds parts n (lesser s t) p h = absurd p
   placed_plain ds parts n (greater s t) p h = absurd p
 
-  placed_plains : (ds : List Declaration) (parts : List (List ℕ)) (n : ℕ) (ts : Expressions) → ArePlain ts → TermsEverywhere (placed ds parts) n ts → AreTermsRanged ts × AreTermsLinear ts
+  placed_plains : (ds : List Declaration) (parts : List (List ℕ)) (n : ℕ) (ts : Expressions) → ArePlain ts → TermsEverywhere (placed ds parts) n ts → ArePlainRanged ts × AreTermsLinear ts
   placed_plains ds parts n no_expression p h = (tt, tt)
   placed_plains ds parts n (and_expression t ts) p h =
       let first = placed_plain ds parts n t p.0 h.0 in
@@ -106,14 +106,14 @@ proper : (constants : List (List ℕ)) → AreProper (map (unplaced Existential)
 proper [] = tt
 proper (c ∷ cs) = (tt, proper cs)
 
-pub plain_typed : (constants : List (List ℕ)) (p : Phrase) (x : Expression) → IsTermOf constants p x → IsRanged p → IsPlain x → IsTermRanged x × IsTermLinear x
+pub plain_typed : (constants : List (List ℕ)) (p : Phrase) (x : Expression) → IsTermOf constants p x → IsRanged p → IsPlain x → IsPlainRanged x × IsTermLinear x
 plain_typed constants p x is ranged plain =
     let s = constants_scope constants in
     let own : IsPlain (value s p) = subst IsPlain is.is plain in
     let none : AreAmong [] (parts_in p) = subst (AreAmong []) (sym (plain_parts s (first_token p) p is.faultless own)) tt in
     let all = term_placed s (first_token p) p (proper constants) is.faultless ranged none in
-    subst (λ t. IsTermRanged t × IsTermLinear t) (sym is.is) (placed_plain s.declared [] 0 (value s p) own all)
+    subst (λ t. IsPlainRanged t × IsTermLinear t) (sym is.is) (placed_plain s.declared [] 0 (value s p) own all)
 
 -- the numbers of the term that is asked for are in the range, and each of its products has a side of numbers alone
-pub objective_typed : (p : Problem) (text : List ℕ) (x : Expression) → IsObjective p text x → IsTermRanged x × IsTermLinear x
+pub objective_typed : (p : Problem) (text : List ℕ) (x : Expression) → IsObjective p text x → IsPlainRanged x × IsTermLinear x
 objective_typed p text x h = plain_typed p.existentials (phrase_of h.read) x h.typed (ranged text h.read h.reads) h.plain

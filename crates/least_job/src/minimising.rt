@@ -5,7 +5,7 @@ ghost use Rattle.encoding.specs.Plain.{IsPlain};
 ghost use Rattle.least_job.specs.Leasts.{AnswersConstraint, AnswersLeast, AnswersMinimum, AnswersObjective, IsLeastAnswer, IsToldCut};
 ghost use Rattle.linear_term.specs.Linear.{IsOver};
 ghost use Rattle.elim_laws.specs.Whole.{AreOver};
-ghost use Rattle.plain_terms.specs.Plain.{IsTermRanged};
+ghost use Rattle.plain_terms.specs.Plain.{IsPlainRanged};
 ghost use Rattle.pri_typing.specs.Problems.{IsPure};
 ghost use Rattle.pri_typing.specs.WellFormed.{IsWellFormed};
 ghost use Rattle.problem_file.specs.Encoded.{AnswersEncoded, AnswersPure, IsEncoded};
@@ -80,7 +80,7 @@ fn objective_answer(
     requires well_formed { IsWellFormed problem.now }
     requires pure { IsPure problem.now }
     requires plain { IsPlain (expression term.now) }
-    requires ranged { IsTermRanged (expression term.now) }
+    requires ranged { IsPlainRanged (expression term.now) }
     requires budget { budget < 2 ^ 32 }
     ensures { IfOk result (λ output. AnswersEncoded (AnswersLeast budget (expression term.now)) problem.now (answer_of output)) }
 {
@@ -102,7 +102,7 @@ fn encoded_answer(
     requires pure { IsPure problem.now }
     requires encoded { IsEncoded problem.now encoded.now }
     requires plain { IsPlain (expression term.now) }
-    requires ranged { IsTermRanged (expression term.now) }
+    requires ranged { IsPlainRanged (expression term.now) }
     requires budget { budget < 2 ^ 32 }
     ensures { IfOk result (λ output. AnswersLeast budget (expression term.now) problem.now (answer_of output)) }
 {

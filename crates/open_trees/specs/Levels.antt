@@ -4,10 +4,10 @@ use Rattle.proof_tree.specs.Proof.{Proof, Proofs, node, no_proof, and_proof}
 
 -- at most so many
 abbrev mutual
-  pub HasLevels : ℕ → Proof → Type 0
-  HasLevels zero x = ⊥
-  HasLevels (suc k) (node p ns log d) = HaveLevels k ns
+  pub IsWithinLevels : ℕ → Proof → Type 0
+  IsWithinLevels zero x = ⊥
+  IsWithinLevels (suc k) (node p ns log d) = AreWithinLevels k ns
 
-  pub HaveLevels : ℕ → Proofs → Type 0
-  HaveLevels k no_proof = Unit {0}
-  HaveLevels k (and_proof x xs) = HasLevels k x × HaveLevels k xs
+  pub AreWithinLevels : ℕ → Proofs → Type 0
+  AreWithinLevels k no_proof = Unit {0}
+  AreWithinLevels k (and_proof x xs) = IsWithinLevels k x × AreWithinLevels k xs

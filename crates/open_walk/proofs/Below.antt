@@ -17,7 +17,7 @@ use Rattle.proof_tree.specs.Reduced.{IsReducedSequent}
 use Rattle.proof_tree.proofs.Giving.{formed_by}
 use Rattle.proof_tree.proofs.Premises.{reduced_by}
 use Rattle.proof_tree.proofs.Given.{node_given}
-use Rattle.open_trees.specs.Levels.{HasLevels, HaveLevels}
+use Rattle.open_trees.specs.Levels.{IsWithinLevels, AreWithinLevels}
 use Rattle.node_steps.specs.Within.{IsWithin}
 use Rattle.node_steps.proofs.Keeping.{premises_few, premises_within}
 use Rattle.open_trees.proofs.Back.{premises_count}
@@ -78,7 +78,7 @@ delta_one s i k = by (slice_get s.members i) k
     by (Some m) k = at m.over m.used m.formula k
 
 -- ---- readiness
-all_ready : (k : ℕ) (ss : List Sequent) (ns : Proofs) (u : List ℤ) → AllByRecursion (IsWithin k) ss → AllByRecursion IsReducedSequent ss → HaveLevels k ns → AreGiven ss ns → AllByRecursion InRange u → AllByRecursion (HasCount (length u)) ss
+all_ready : (k : ℕ) (ss : List Sequent) (ns : Proofs) (u : List ℤ) → AllByRecursion (IsWithin k) ss → AllByRecursion IsReducedSequent ss → AreWithinLevels k ns → AreGiven ss ns → AllByRecursion InRange u → AllByRecursion (HasCount (length u)) ss
     → AreWalkReady k ss ns u
 all_ready k [] no_proof u w r l g i c = tt
 all_ready k [] (and_proof x xs) u w r l g i c = absurd g
@@ -89,7 +89,7 @@ pub below : (left k : ℕ) (s : Sequent) (p : Pick) (ns : Proofs) (log : List En
     → (u : List ℤ) → AllByRecursion InRange u → AllByRecursion (HasCount (length u)) (premises_of s p) → AreWalkReady k (premises_of s p) ns u
 below left k s p ns log d v is h u inside counts =
     let w : IsWithin (k + 1) s = subst (λ j. IsWithin j s) (omega (arith, is)) h.within in
-    let l : HasLevels (suc k) (node p ns log d) = subst (λ j. HasLevels j (node p ns log d)) is h.levels in
+    let l : IsWithinLevels (suc k) (node p ns log d) = subst (λ j. IsWithinLevels j (node p ns log d)) is h.levels in
     all_ready k (premises_of s p) ns u (premises_within k s p w) (reduced_by s (place p) h.reduced) l h.gives.1 inside counts
 
 -- ---- the constraints of the children

@@ -7,13 +7,13 @@ use Rattle.proof_tree.specs.Gives.{Gives}
 use Rattle.proof_tree.specs.Proof.{Proof, Proofs, no_proof, and_proof}
 use Rattle.proof_tree.specs.Reduced.{IsReducedSequent}
 use Rattle.node_steps.specs.Within.{IsWithin}
-use Rattle.open_trees.specs.Levels.{HasLevels}
+use Rattle.open_trees.specs.Levels.{IsWithinLevels}
 
 -- the walk can be at this node with these values: its tree gives its constraint, has at most so many levels, and the limits of a branch are kept
 pub record IsWalkReady (left : ℕ) (s : Sequent) (x : Proof) (v : List ℤ) : Type 0 where
   pub within : IsWithin left s
   pub reduced : IsReducedSequent s
-  pub levels : HasLevels left x
+  pub levels : IsWithinLevels left x
   pub gives : Gives s x
   pub values : AllByRecursion InRange v
   pub many : length v ≡ s.count

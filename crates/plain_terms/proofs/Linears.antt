@@ -11,7 +11,7 @@ use Rattle.typed_formula.specs.Formula.{Expression, Expressions, expression, exp
 use Rattle.encoding.specs.Encoding.{named}
 use Rattle.encoding.specs.Root.{names_from}
 use Rattle.encoding.specs.Plain.{linear_of, linear_sum, linear_more, IsPlain, ArePlain}
-use Rattle.plain_terms.specs.Plain.{is_plain, are_plain, factor_of, without_minus, IsTermRanged, AreTermsRanged, weight_of, weights_of}
+use Rattle.plain_terms.specs.Plain.{is_plain, are_plain, factor_of, without_minus, IsPlainRanged, ArePlainRanged, weight_of, weights_of}
 
 -- Names.
 
@@ -122,7 +122,7 @@ part_lighter (absolute t) = omega arith
 part_lighter (lesser t u) = omega arith
 part_lighter (greater t u) = omega arith
 
-part_ranged : (t : Expression) → IsTermRanged t → IsTermRanged (without_minus t)
+part_ranged : (t : Expression) → IsPlainRanged t → IsPlainRanged (without_minus t)
 part_ranged (number v) h = h
 part_ranged (name x) h = h
 part_ranged (call f us) h = h
@@ -137,26 +137,26 @@ part_ranged (greater t u) h = h
 -- the members from i on: not heavier than all, their numbers coefficients
 pub record Rest (ts : List TypedTerm) (i w : ℕ) : Type 0 where
   pub light : weights_of (expressions_of (drop i ts)) ≤ w
-  pub ranged : AreTermsRanged (expressions_of (drop i ts))
+  pub ranged : ArePlainRanged (expressions_of (drop i ts))
 
 pub rest_next : (ts : List TypedTerm) (i : ℕ) (t : TypedTerm) (w : ℕ) → i < length ts → t ≡ get_or ts i t → Rest ts i w → Rest ts (i + 1) w
 rest_next ts i t w lt is h = record {
   light = (lighter ts i t w lt is h.light).1;
-  ranged = (subst (λ l. AreTermsRanged (expressions_of l)) (drop-item ts i t lt is) h.ranged).1;
+  ranged = (subst (λ l. ArePlainRanged (expressions_of l)) (drop-item ts i t lt is) h.ranged).1;
 }
 
 pub rest_item : (ts : List TypedTerm) (i : ℕ) (t : TypedTerm) (u : Expression) (w : ℕ) → i < length ts → t ≡ get_or ts i t → u ≡ without_minus (expression t) → Rest ts i w
-    → IsTermRanged u × (weight_of u + 4 ≤ w)
+    → IsPlainRanged u × (weight_of u + 4 ≤ w)
 rest_item ts i t u w lt is part h =
     let q = lighter ts i t w lt is h.light in
     let p : weight_of u ≤ weight_of (expression t) = subst (λ v. weight_of v ≤ weight_of (expression t)) (sym part) (part_lighter (expression t)) in
-    let first : IsTermRanged (expression t) = (subst (λ l. AreTermsRanged (expressions_of l)) (drop-item ts i t lt is) h.ranged).0 in
-    (subst IsTermRanged (sym part) (part_ranged (expression t) first), (let a = q.0 in omega arith))
+    let first : IsPlainRanged (expression t) = (subst (λ l. ArePlainRanged (expressions_of l)) (drop-item ts i t lt is) h.ranged).0 in
+    (subst IsPlainRanged (sym part) (part_ranged (expression t) first), (let a = q.0 in omega arith))
 
-pub rest_all : (ts more : List TypedTerm) (t : TypedTerm) → ts ≡ t ∷ more → AreTermsRanged (expressions_of ts) → Rest more 0 (weights_of (expressions_of ts))
+pub rest_all : (ts more : List TypedTerm) (t : TypedTerm) → ts ≡ t ∷ more → ArePlainRanged (expressions_of ts) → Rest more 0 (weights_of (expressions_of ts))
 rest_all ts more t is h =
     let e : weights_of (expressions_of ts) ≡ weight_of (expression t) + weights_of (expressions_of more) + 4 = ap (λ l. weights_of (expressions_of l)) is in
-    record { light = omega arith; ranged = (subst (λ l. AreTermsRanged (expressions_of l)) is h).1 }
+    record { light = omega arith; ranged = (subst (λ l. ArePlainRanged (expressions_of l)) is h).1 }
 
 pub sum_starts : (at : List ℕ) (ts more : List TypedTerm) (t : TypedTerm) (a : Linear) → ts ≡ t ∷ more → Worked (linear_of at (expression t)) (Ok a)
     → Left (linear_more at (expressions_of more) a) (linear_sum at (expressions_of ts))

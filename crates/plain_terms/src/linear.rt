@@ -4,7 +4,7 @@ ghost use Rattle.encoding.specs.Encoding.{multiple, named, product_of};
 ghost use Rattle.encoding.specs.Root.{names_from};
 ghost use Rattle.encoding.specs.Plain.{linear_of, linear_sum};
 ghost use Rattle.linear_term.specs.Range.{InRange};
-ghost use Rattle.plain_terms.specs.Plain.{AreTermsRanged, IsTermRanged};
+ghost use Rattle.plain_terms.specs.Plain.{ArePlainRanged, IsPlainRanged};
 ghost use Rattle.purse.specs.Work.{Worked};
 ghost use Rattle.std.specs.Prelude.{◌≡◌};
 ghost use Rattle.typed_formula.specs.Formula.{expression, expressions_of};
@@ -51,7 +51,7 @@ fn product_of(alloc: Global, left: bool, s: &Term, t: &Term) -> Result<Term, Ste
 #[cycle(linear)]
 #[tactic(auto, using(purse::proofs::Charging::working))]
 pub fn linear_term(alloc: Global, names: u32, term: &TypedTerm) -> Result<Term, StepFault>
-    requires { IsTermRanged (expression term.now) }
+    requires { IsPlainRanged (expression term.now) }
     ensures { Worked (linear_of (names_from 0 names) (expression term.now)) result }
 {
     match term {
@@ -79,7 +79,7 @@ pub fn linear_term(alloc: Global, names: u32, term: &TypedTerm) -> Result<Term, 
 #[cycle(linear)]
 #[tactic(auto, using(purse::proofs::Charging::working))]
 fn linear_sum(alloc: Global, names: u32, terms: &[TypedTerm]) -> Result<Term, StepFault>
-    requires { AreTermsRanged (expressions_of terms.now) }
+    requires { ArePlainRanged (expressions_of terms.now) }
     ensures { Worked (linear_sum (names_from 0 names) (expressions_of terms.now)) result }
 {
     let Some((first, others)) = terms.split_first() else {

@@ -9,7 +9,7 @@ use Rattle.proof_line.specs.declared.lines.Owed.{Owed}
 use Rattle.proof_line.specs.declared.lines.Owed.TheVariants as o
 use Rattle.proof_line.specs.declared.text.Fault.{Fault}
 use Rattle.proof_line.specs.declared.text.Fault.TheVariants as f
-use Rattle.proof_line.specs.Faults.{BeginsNode, IsShallow, IsTooDeep, RefusesLine}
+use Rattle.proof_line.specs.Faults.{BeginsNode, HasNoDeepNode, IsTooDeep, RefusesLine}
 use Rattle.proof_line.specs.Lines.{line_text, tokens_of}
 use Rattle.proof_line.specs.Owed.{Pays, owes, LeadsOwed, OwesNothing, start, Any, Shallow}
 use Rattle.proof_grammar.specs.Refusals.{IsDeepAt, RefusesText}
@@ -87,17 +87,17 @@ one_deep bytes r s d e =
     deep_same d.level e.level d.parts e.parts d.owed e.owed r s d.too_deep e.too_deep
     (compare d.before e.before start (o.Node d.level d.parts ∷ d.owed) (o.Node e.level e.parts ∷ e.owed) bytes r s d.leads e.leads d.cut e.cut)
 
-same_owed : (j m : ℕ) (x : Owed) (os owed : List Owed) (inner deep : List ℕ) → 2000 < j → x ∷ os ≡ o.Node j m ∷ owed → inner ≡ deep → IsShallow x inner → BeginsNode deep → ⊥
+same_owed : (j m : ℕ) (x : Owed) (os owed : List Owed) (inner deep : List ℕ) → 2000 < j → x ∷ os ≡ o.Node j m ∷ owed → inner ≡ deep → HasNoDeepNode x inner → BeginsNode deep → ⊥
 same_owed j m x os owed inner deep d e q s b =
     let h : x ≡ o.Node j m = cc in
-    let low : j ≤ 2000 = subst (λ z. IsShallow z inner) h s (subst BeginsNode (sym q) b) in omega arith
+    let low : j ≤ 2000 = subst (λ z. HasNoDeepNode z inner) h s (subst BeginsNode (sym q) b) in omega arith
 
 taken_by : (x : Owed) (os : List Owed) (inner : List ℕ) (left : ℕ) → IsRefusedAt (Pays Any x) line_text inner left → Next (x ∷ os) inner → ⊥
 taken_by x os inner left r n =
     let h : n.owed ≡ x = (let q = n.is in cc) in
     not_refused (Pays Any x) line_text (line_apart x) n.line inner n.rest left (pays_any x n.line (subst (λ z. Pays Shallow z n.line) h n.pays)) n.cut r
 
-deep_line : (j m : ℕ) (x : Owed) (os us owed : List Owed) (inner deep : List ℕ) (left : ℕ) → 2000 < j → us ≡ o.Node j m ∷ owed → IsShallow x inner → IsRefusedAt (Pays Any x) line_text inner left → BeginsNode deep → Compared (x ∷ os) us inner deep → ⊥
+deep_line : (j m : ℕ) (x : Owed) (os us owed : List Owed) (inner deep : List ℕ) (left : ℕ) → 2000 < j → us ≡ o.Node j m ∷ owed → HasNoDeepNode x inner → IsRefusedAt (Pays Any x) line_text inner left → BeginsNode deep → Compared (x ∷ os) us inner deep → ⊥
 deep_line j m x os us owed inner deep left d e s r b (same p q) = same_owed j m x os owed inner deep d (p ∙ e) q s b
 deep_line j m x os us owed inner deep left d e s r b (first_on n) = on_deep j m owed us deep d e n
 deep_line j m x os us owed inner deep left d e s r b (second_on n) = taken_by x os inner left r n

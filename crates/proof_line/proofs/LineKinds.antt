@@ -24,7 +24,7 @@ use Rattle.proof_line.specs.Conclusions.{IsEndWord}
 use Rattle.proof_line.specs.Lines.{line_text}
 use Rattle.proof_line.specs.Owed.{Any, IsConclusion, Pays}
 use Rattle.proof_line.specs.Rows.{IsRow, IsRowWord, row_line}
-use Rattle.proof_line.specs.Faults.{fault_of, IsShallow, RefusesLine}
+use Rattle.proof_line.specs.Faults.{fault_of, HasNoDeepNode, RefusesLine}
 
 -- a line of one kind
 pub record Kind {V : Type 0} (IsValue : V → Type 0) (make : V → TextLine) (l : TextLine) : Type 0 where
@@ -199,7 +199,7 @@ no_end_word m bytes fault lacks = lacked (IsEnding m) ending_text [] bytes bytes
 
 -- Faults.
 
-pub line_refused : (owed : Owed) (bytes : List ℕ) (refusal : Refusal) → IsShallow owed bytes → RefusesProof (Pays Any owed) line_text bytes refusal → RefusesLine owed bytes (fault_of refusal)
+pub line_refused : (owed : Owed) (bytes : List ℕ) (refusal : Refusal) → HasNoDeepNode owed bytes → RefusesProof (Pays Any owed) line_text bytes refusal → RefusesLine owed bytes (fault_of refusal)
 line_refused owed bytes (e.Syntax left) s r = (r, s)
 line_refused owed bytes e.Memory s r = tt
 

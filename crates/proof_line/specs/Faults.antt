@@ -25,9 +25,9 @@ pub record BeginsNode (bytes : List ℕ) : Type 0 where
   pub is_row : IsRowWord word
 
 -- no node begins on a level that a text may not have
-abbrev pub IsShallow : Owed → List ℕ → Type 0
-IsShallow (o.Node j m) bytes = BeginsNode bytes → j ≤ branch_limit
-IsShallow _ bytes = Unit {0}
+abbrev pub HasNoDeepNode : Owed → List ℕ → Type 0
+HasNoDeepNode (o.Node j m) bytes = BeginsNode bytes → j ≤ branch_limit
+HasNoDeepNode _ bytes = Unit {0}
 
 -- a node begins on such a level
 abbrev pub IsTooDeep : Owed → List ℕ → Type 0
@@ -36,6 +36,6 @@ IsTooDeep _ bytes = ⊥
 
 -- what is owed is refused where no line that pays for it goes on, whatever the level; or where a node would stand too deep
 abbrev pub RefusesLine : Owed → List ℕ → Fault → Type 0
-RefusesLine owed bytes (f.Syntax left) = IsRefusedAt (Pays Any owed) line_text bytes left × IsShallow owed bytes
+RefusesLine owed bytes (f.Syntax left) = IsRefusedAt (Pays Any owed) line_text bytes left × HasNoDeepNode owed bytes
 RefusesLine owed bytes (f.Deep left) = IsTooDeep owed bytes × (length bytes ≡ left)
 RefusesLine owed bytes f.Memory = Unit {0}

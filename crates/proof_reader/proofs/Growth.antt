@@ -12,7 +12,7 @@ use Rattle.proof_line.specs.declared.lines.TextLine.TheVariants as w
 use Rattle.proof_line.specs.Lines.{last_lines, lines, lines_all}
 use Rattle.proof_line.specs.Owed.{Shallow}
 use Rattle.proof_grammar.specs.Shaped.{IsShapedNode, AreShapedNodes}
-use Rattle.proof_reader.specs.Trees.{TreeComes, IsReadTree, TreesCome, AreTrees, ClosingComes, IsClosed}
+use Rattle.proof_reader.specs.Trees.{TreeComes, IsReadTree, TreesCome, AreTrees, ClosingComes, ClosesNode}
 
 -- Trees of one level.
 
@@ -116,7 +116,7 @@ pub closing_comes : (before now after : List TextLine → Type 0) (j k : ℕ) (p
 closing_comes before now after j k p cs t r a = closing_by before now after j k p cs t.0 t.1 t.2 t.3 r a
 
 tree_by : (before now later after : List TextLine → Type 0) (j k : ℕ) (p : Pick) (cs : List Node) (es : List Entry) (d : List (List Literal)) (n : Node) (x : Proof) (ls : List TextLine) → IsShapedNode Shallow j x → before (lines x ++ ls)
-    → IsRow before now p k → AreTrees now later k (j + 1) cs → IsClosed later after p es d → proof_of n ≡ node p (proofs (map proof_of cs)) es d → (proof_of n ≡ x) × after ls
+    → IsRow before now p k → AreTrees now later k (j + 1) cs → ClosesNode later after p es d → proof_of n ≡ node p (proofs (map proof_of cs)) es d → (proof_of n ≡ x) × after ls
 tree_by before now later after j k p cs es d n (node q ns fs e) ls s h r t c m =
     let a = r q (width ns) ((lines_all ns ++ last_lines q fs e) ++ ls) h in
     let b = t ns (last_lines q fs e ++ ls) (sym a.1) s.4 (subst now (append_assoc (lines_all ns) (last_lines q fs e) ls) a.2) in
@@ -124,6 +124,6 @@ tree_by before now later after j k p cs es d n (node q ns fs e) ls s h r t c m =
     (m ∙ cc (a.0, b.0, z.0, z.1), z.2)
 
 -- the tree of what was read
-pub tree_is : (before now later after : List TextLine → Type 0) (j k : ℕ) (p : Pick) (cs : List Node) (es : List Entry) (d : List (List Literal)) (n : Node) → IsRow before now p k → AreTrees now later k (j + 1) cs → IsClosed later after p es d
+pub tree_is : (before now later after : List TextLine → Type 0) (j k : ℕ) (p : Pick) (cs : List Node) (es : List Entry) (d : List (List Literal)) (n : Node) → IsRow before now p k → AreTrees now later k (j + 1) cs → ClosesNode later after p es d
     → proof_of n ≡ node p (proofs (map proof_of cs)) es d → IsReadTree before after j n
 tree_is before now later after j k p cs es d n r t c m = λ x ls s h. tree_by before now later after j k p cs es d n x ls s h r t c m

@@ -33,5 +33,5 @@ abbrev pub ClosingComes : (List TextLine → Type 0) → Pick → Type 0
 ClosingComes coming p = (es : List Entry) × (d : List (List Literal)) × (ls : List TextLine) × coming (last_lines p es d ++ ls)
 
 -- these are the log, which is empty where the rule does not eliminate, and the constraint that came, and the others come behind them
-abbrev pub IsClosed : (List TextLine → Type 0) → (List TextLine → Type 0) → Pick → List Entry → List (List Literal) → Type 0
-IsClosed before after p es d = (fs : List Entry) (e : List (List Literal)) (ls : List TextLine) → (eliminates p ≡ false → fs ≡ []) → before (last_lines p fs e ++ ls) → (es ≡ fs) × (d ≡ e) × after ls
+abbrev pub ClosesNode : (List TextLine → Type 0) → (List TextLine → Type 0) → Pick → List Entry → List (List Literal) → Type 0
+ClosesNode before after p es d = (fs : List Entry) (e : List (List Literal)) (ls : List TextLine) → (eliminates p ≡ false → fs ≡ []) → before (last_lines p fs e ++ ls) → (es ≡ fs) × (d ≡ e) × after ls

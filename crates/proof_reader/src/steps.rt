@@ -6,7 +6,7 @@ ghost use Rattle.sequent.specs.declared.member.Pick.{Pick};
 ghost use Rattle.std.specs.Prelude.{◌≡◌, ◌∷◌, IfOk, List, ℕ};
 ghost use Rattle.proof_line.specs.declared.lines.TextLine.{TextLine};
 ghost use Rattle.proof_line.specs.declared.lines.TextLine.TheVariants as w;
-ghost use Rattle.proof_reader.specs.Trees.{ClosingComes, IsClosed};
+ghost use Rattle.proof_reader.specs.Trees.{ClosingComes, ClosesNode};
 
 use clause_set::Literal;
 use line_source::{Line, ProofLines};
@@ -45,7 +45,7 @@ pub(crate) fn next_closing<L: ProofLines>(
     lines: &mut L,
 ) -> Result<(ElimLog, Items<Items<Literal>>), Memory>
     requires comes { (p : Pick) × ClosingComes (L.coming lines.old) p }
-    ensures { IfOk result (λ r. (p : Pick) → IsClosed (L.coming lines.old) (L.coming lines.new) p r.0.entries r.1) }
+    ensures { IfOk result (λ r. (p : Pick) → ClosesNode (L.coming lines.old) (L.coming lines.new) p r.0.entries r.1) }
 {
     match lines.next(alloc)? {
         Some(Line::Log) => {

@@ -6,14 +6,14 @@ use Rattle.proof_tokens.specs.declared.tokens.Token.{Token}
 use Rattle.proof_tokens.specs.declared.tokens.Token.TheVariants as t
 use Rattle.proof_tokens.specs.declared.scanner.Piece.{Piece}
 use Rattle.proof_tokens.specs.Scanning.{first_piece_of, piece_of}
-use Rattle.proof_tokens.specs.Spellings.{IsGood, IsRanged, IsProofToken, spelling, spelled}
+use Rattle.proof_tokens.specs.Spellings.{IsGood, IsRangedToken, IsProofToken, spelling, spelled}
 use Rattle.proof_tokens.specs.Reading.{Cuts}
 use Rattle.proof_tokens.proofs.Spelled.{Spelled, piece_spelled}
 
 pub some_same : {A : Type 0} (a b : A) → Some a ≡ Some b → a ≡ b
 some_same a b q = cc
 
-token_ranged : (x : Token) → IsProofToken x → IsRanged x
+token_ranged : (x : Token) → IsProofToken x → IsRangedToken x
 token_ranged t.Bad h = absurd h
 token_ranged (t.Number n) h = h
 token_ranged (t.Name x) h = h
@@ -31,18 +31,18 @@ piece_is (b ∷ text) x n g q =
     let P : Piece → Type 0 = λ p. Spelled (take p.len (b ∷ text)) p.token in
     by_piece (b ∷ text) x n g (subst P (some_same (piece_of b text) (record { token = x; len = n }) q) (piece_spelled b text))
 
-ranged_by : (w : List ℕ) (x : Token) → Spelled w x → IsRanged x
-ranged_by w x (inl q) = subst IsRanged (sym q) tt
+ranged_by : (w : List ℕ) (x : Token) → Spelled w x → IsRangedToken x
+ranged_by w x (inl q) = subst IsRangedToken (sym q) tt
 ranged_by w x (inr q) = token_ranged x q.1
 
 -- the numbers of a token that bytes begin with are in their ranges
-pub piece_ranged : (bytes : List ℕ) (p : Piece) → first_piece_of bytes ≡ Some p → IsRanged p.token
+pub piece_ranged : (bytes : List ℕ) (p : Piece) → first_piece_of bytes ≡ Some p → IsRangedToken p.token
 piece_ranged [] p e = absurd (cc)
 piece_ranged (b ∷ text) p e =
     let P : Piece → Type 0 = λ q. Spelled (take q.len (b ∷ text)) q.token in
     ranged_by (take p.len (b ∷ text)) p.token (subst P (some_same (piece_of b text) p e) (piece_spelled b text))
 
-pub cut_ranged : (x : Token) (bytes rest : List ℕ) → Cuts (x ∷ []) bytes rest → IsRanged x
+pub cut_ranged : (x : Token) (bytes rest : List ℕ) → Cuts (x ∷ []) bytes rest → IsRangedToken x
 cut_ranged x bytes rest c = piece_ranged bytes (record { token = x; len = c.0 }) c.1
 
 -- the bytes of tokens are their spellings

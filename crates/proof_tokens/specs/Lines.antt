@@ -27,16 +27,16 @@ abbrev pub charges_text : ℕ → List Token
 charges_text n = t.Charges ∷ numbered_text n
 
 -- the number is from `least` to `most`
-abbrev pub IsIn : ℕ → ℕ → ℕ → Type 0
-IsIn least most n = (least ≤ n) × (n ≤ most)
+abbrev pub LiesBetween : ℕ → ℕ → ℕ → Type 0
+LiesBetween least most n = (least ≤ n) × (n ≤ most)
 
 -- the formats of a proof: in the second one a log that stands on several lines may be written once
 abbrev pub IsFormat : ℕ → Type 0
-IsFormat = IsIn 1 2
+IsFormat = LiesBetween 1 2
 
 -- a proof is for at most so many charges
 abbrev pub IsCharges : ℕ → Type 0
-IsCharges = IsIn 0 most_budget
+IsCharges = LiesBetween 0 most_budget
 
 -- entries of a log, each behind a blank, to the end of the line
 abbrev pub entries_text : List Entry → List Token
@@ -146,11 +146,11 @@ AreValues vs = AllByRecursion InRange vs
 
 -- a position fits 32 bits
 abbrev pub IsPosition : ℕ → Type 0
-IsPosition = IsIn 0 4294967295
+IsPosition = LiesBetween 0 4294967295
 
 -- a number of premises, at least one
 abbrev pub IsCount : ℕ → Type 0
-IsCount = IsIn 1 4294967295
+IsCount = LiesBetween 1 4294967295
 
 -- a position and a number of premises, and the end of the line
 abbrev pub counted_text : (ℕ × ℕ) → List Token

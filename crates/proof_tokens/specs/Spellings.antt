@@ -89,12 +89,12 @@ IsProofToken t.Bad = ⊥
 IsProofToken _ = Unit {0}
 
 -- the same, and any token that no text has
-abbrev pub IsRanged : Token → Type 0
-IsRanged (t.Number n) = n < 2 ^ 127
-IsRanged (t.Name x) = x < 2 ^ 32
-IsRanged (t.Use i) = i < 2 ^ 32
-IsRanged (t.Step e) = IsEntry e
-IsRanged _ = Unit {0}
+abbrev pub IsRangedToken : Token → Type 0
+IsRangedToken (t.Number n) = n < 2 ^ 127
+IsRangedToken (t.Name x) = x < 2 ^ 32
+IsRangedToken (t.Use i) = i < 2 ^ 32
+IsRangedToken (t.Step e) = IsEntry e
+IsRangedToken _ = Unit {0}
 
 -- a sign, a blank or the end of a line: anything may stand directly before and behind it
 abbrev pub is_sign : Token → Bool

@@ -5,7 +5,7 @@ ghost use Rattle.numerals.specs.Numerals.{decimal_value};
 ghost use Rattle.proof_tokens.specs.Lines.{IsName, IsSmallNumber};
 ghost use Rattle.proof_tokens.specs.Reading.{Cuts, HasNoneEnded};
 ghost use Rattle.proof_tokens.specs.Scanning.{ends_digits, ends_word, HasNoNumber};
-ghost use Rattle.proof_tokens.specs.Spellings.{IsRanged};
+ghost use Rattle.proof_tokens.specs.Spellings.{IsRangedToken};
 ghost use Rattle.proof_tokens.specs.declared.tokens.Token.TheVariants as t;
 ghost use Rattle.std.specs.Char.{is_ascii_digit};
 ghost use Rattle.std.specs.Fmt.{decimal};
@@ -21,7 +21,7 @@ use purse::Entry;
 /// token, or where that takes a closer look.
 pub(crate) fn figure_ahead(text: &[u8]) -> Option<(Token, &[u8])>
     ensures exact { IfSome result (λ x. Cuts (x.0 ∷ []) text.now x.1.now × (length x.1.now < length text.now)) }
-    ensures ranged { IfSome result (λ x. IsRanged x.0) }
+    ensures ranged { IfSome result (λ x. IsRangedToken x.0) }
 {
     if let Some((x, rest)) = name_ahead(text) {
         return Some((Token::Name(x), rest));

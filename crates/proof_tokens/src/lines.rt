@@ -1,6 +1,6 @@
 // The lines of a proof that speak of no sequent, read.
 
-ghost use Rattle.proof_tokens.specs.Lines.{AnyEntries, charges_text, entries_text, head_text, IsCharges, IsFormat, IsIn, numbered_text};
+ghost use Rattle.proof_tokens.specs.Lines.{AnyEntries, charges_text, entries_text, head_text, IsCharges, IsFormat, LiesBetween, numbered_text};
 ghost use Rattle.proof_tokens.specs.Reading.{Cuts, RefusesProof};
 ghost use Rattle.std.specs.Prelude.{◌≤◌, IfErr, IfOk};
 
@@ -36,8 +36,8 @@ pub(crate) fn entries(alloc: Global, text: &[u8]) -> Result<(Items<Entry>, &[u8]
 /// A blank, a number from `least` to `most` and the end of the line: the number, and the text behind it.
 pub(crate) fn numbered(text: &[u8], least: u128, most: u128) -> Result<(u128, &[u8]), Refusal>
     requires { least ≤ most }
-    ensures found { IfOk result (λ x. IsIn least most x.0 × Cuts (numbered_text x.0) text.now x.1.now) }
-    ensures first { IfErr result (RefusesProof (IsIn least most) numbered_text text.now) }
+    ensures found { IfOk result (λ x. LiesBetween least most x.0 × Cuts (numbered_text x.0) text.now x.1.now) }
+    ensures first { IfErr result (RefusesProof (LiesBetween least most) numbered_text text.now) }
 {
     let number = blank(text)?;
     let (amount, end) = number_between(number, least, most)?;

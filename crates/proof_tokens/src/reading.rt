@@ -1,7 +1,7 @@
 // One token after another, and what a refusal says.
 
 ghost use Rattle.proof_tokens.specs.Reading.{Cuts, RefusesNext};
-ghost use Rattle.proof_tokens.specs.Spellings.{IsRanged};
+ghost use Rattle.proof_tokens.specs.Spellings.{IsRangedToken};
 ghost use Rattle.std.specs.Prelude.{◌≡◌, ◌<◌, [], ◌∷◌, length, true, false, IfErr, IfOk, IfSome, MatchOption};
 
 use crate::ahead::figure_ahead;
@@ -43,7 +43,7 @@ impl From<Memory> for Refusal {
 /// The token that the text begins with, and the text behind it; none where the text has no byte.
 pub fn next(text: &[u8]) -> Option<(Token, &[u8])>
     ensures exact { MatchOption result (text.now ≡ []) (λ x. Cuts (x.0 ∷ []) text.now x.1.now × (length x.1.now < length text.now)) }
-    ensures ranged { IfSome result (λ x. IsRanged x.0) }
+    ensures ranged { IfSome result (λ x. IsRangedToken x.0) }
 {
     if let Some((token, rest)) = figure_ahead(text) {
         return Some((token, rest));

@@ -7,7 +7,7 @@ use Rattle.prover_io.specs.declared.whole.ReadFault.{ReadFault}
 use Rattle.prover_io.specs.declared.whole.ReadFault.TheVariants.{Long}
 use Rattle.answers.specs.Answer.{Answer, answer_of, long_answer, IsAnswerStatus}
 use Rattle.answers.specs.declared.output.Output.{Output}
-use Rattle.answers.specs.Outside.{Gives, Meets, PutsAll}
+use Rattle.answers.specs.Outside.{IsPutWhole, Meets, PutsAll}
 use Rattle.answers.specs.Files.{AnswersBytes, AnswersSource, most_of_file, most_of_proof, too_long, within}
 use Rattle.answers.proofs.Meeting.{long_answered, meets_more, whole_answered}
 use Rattle.job_words.specs.Jobs.{Task, solve, eliminate, run_script, minimise, check, drill, IsBudget, NamesJob}
@@ -151,7 +151,7 @@ bytes_means w budget bytes a (too_long l e) = λ z. let bad = sym z ∙ ap (λ b
 bytes_means w budget bytes a (within l is) = means w budget bytes a is
 
 -- a run that ends with neither 6 nor 7 nor 8 gives its answer whole
-given_to : (P : Answer → Type 0) (ends n : ℕ) (before after : Option (List ℕ)) → Meets P ends before after → ends ≡ n → n ≢ 6 → n ≢ 7 → n ≢ 8 → Gives P ends before after
+given_to : (P : Answer → Type 0) (ends n : ℕ) (before after : Option (List ℕ)) → Meets P ends before after → ends ≡ n → n ≢ 6 → n ≢ 7 → n ≢ 8 → IsPutWhole P ends before after
 given_to P ends n before after met e six seven eight = met.whole (λ z. six (sym e ∙ z)) (λ z. seven (sym e ∙ z)) (λ z. eight (sym e ∙ z))
 
 -- at status 0 a text says of the problem that it is valid

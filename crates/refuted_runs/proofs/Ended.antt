@@ -17,7 +17,7 @@ use Rattle.purse.specs.Ending.{ended, ending, ends_with}
 use Rattle.search.specs.Run.{RunAnswer, valid, invalid, saturated, too_long, canonical_run, concluded, has_open_leaf, judged, one_round, or_further, rounds}
 use Rattle.search.proofs.Given.{built-given}
 use Rattle.search.proofs.Retracing.{retraced}
-use Rattle.open_trees.specs.Levels.{HasLevels}
+use Rattle.open_trees.specs.Levels.{IsWithinLevels}
 use Rattle.open_trees.specs.Open.{IsSaturatedTree}
 use Rattle.refuted_runs.proofs.Levels.{built_levels}
 use Rattle.refuted_runs.proofs.Picked.{built_open}
@@ -26,7 +26,7 @@ use Rattle.refuted_runs.proofs.Picked.{built_open}
 abbrev Says : Form → ℕ → RunAnswer → Type 0
 Says f n (valid vs x) = Unit {0}
 Says f n (invalid log x) = Unit {0}
-Says f n (saturated log x) = IsSaturatedTree f n x × HasLevels branch_limit x
+Says f n (saturated log x) = IsSaturatedTree f n x × IsWithinLevels branch_limit x
 Says f n too_long = Unit {0}
 
 abbrev RoundSays : Form → ℕ → Option RunAnswer → Type 0
@@ -76,6 +76,6 @@ ended_value v a (refused c) b h = absurd (cc)
 ended_value v a (out_of_range ps c) b h = absurd (cc)
 
 -- what is so of the tree of a run that ends saturated
-pub saturated_says : (f : Form) (n : ℕ) (g : Funds) (log : List Entry) (x : Proof) (b : At) → IsFormOver n f → HasReducedTerms f → ending (canonical_run f n g.budget) (at g []) ≡ ends_with (saturated log x) b → IsSaturatedTree f n x × HasLevels branch_limit x
+pub saturated_says : (f : Form) (n : ℕ) (g : Funds) (log : List Entry) (x : Proof) (b : At) → IsFormOver n f → HasReducedTerms f → ending (canonical_run f n g.budget) (at g []) ≡ ends_with (saturated log x) b → IsSaturatedTree f n x × IsWithinLevels branch_limit x
 saturated_says f n g log x b over red h =
     subst (Says f n) (ended_value (canonical_run f n g.budget).value (saturated log x) (cut (canonical_run f n g.budget).events (at g [])) b h) (run_says f n g.budget over red)

@@ -5,7 +5,7 @@ ghost use Rattle.encoding.specs.Problems.{problem_root};
 ghost use Rattle.formula.specs.Form.{Form, IsFormOver, is_pure};
 ghost use Rattle.formula.specs.Reduced.{HasReducedTerms};
 ghost use Rattle.limits.specs.Limits.{branch_limit};
-ghost use Rattle.open_trees.specs.Levels.{HasLevels};
+ghost use Rattle.open_trees.specs.Levels.{IsWithinLevels};
 ghost use Rattle.open_trees.specs.Open.{IsOpenTree, IsSaturatedTree};
 ghost use Rattle.pri_typing.specs.Problems.{IsRefuted, IsUniversal};
 ghost use Rattle.pri_typing.specs.WellFormed.{IsWellFormed};
@@ -28,7 +28,7 @@ pub fn saturated_law()
     ensures tree { (f : Form) (n : ℕ) (g : Funds) (log : List Entry) (x : Proof) (b : At) → IsFormOver n f → HasReducedTerms f
         → ending (canonical_run f n g.budget) (at g []) ≡ ends_with (saturated log x) b → IsSaturatedTree f n x }
     ensures levels { (f : Form) (n : ℕ) (g : Funds) (log : List Entry) (x : Proof) (b : At) → IsFormOver n f → HasReducedTerms f
-        → ending (canonical_run f n g.budget) (at g []) ≡ ends_with (saturated log x) b → HasLevels branch_limit x }
+        → ending (canonical_run f n g.budget) (at g []) ≡ ends_with (saturated log x) b → IsWithinLevels branch_limit x }
 {}
 
 /// A problem on whose encoding a run ends saturated is refuted.

@@ -10,7 +10,7 @@ use Rattle.sexpr.specs.Expressions.{Expr, place_of}
 use Rattle.script_commands.specs.declared.refusal.ScriptRefusal.{ScriptRefusal}
 use Rattle.script_commands.specs.declared.table.Entry.{Entry}
 use Rattle.script_commands.specs.Commands as form
-use Rattle.script_commands.specs.Commands.{Form, Symbol as Named}
+use Rattle.script_commands.specs.Commands.{CommandForm, Symbol as Named}
 use Rattle.script_commands.specs.Symbols.{declared_number, is_known, or_int, sort_of}
 use Rattle.script_commands.specs.Faults as faults
 use Rattle.script_commands.specs.Faults.{argument_faults, behind, body_faults, command_faults, declaration_faults, definition_faults, name_faults, or_later, refusal_from, refusal_of, sort_fault, sort_faults, unless_exit, use_faults}
@@ -19,7 +19,7 @@ use Rattle.script_commands.proofs.Least.{none_found}
 use Rattle.script_commands.proofs.Fitting.{declarable, definable}
 use Rattle.script_terms.specs.declared.operator.Sort.{Sort}
 use Rattle.script_terms.specs.declared.operator.Sort.TheVariants as sort
-use Rattle.script_terms.specs.Term.{Phrase, first_byte}
+use Rattle.script_terms.specs.Term.{PlacedTerm, first_byte}
 use Rattle.script_terms.specs.Evaluation.{constant_of, function_of, predicate_of, defined_by}
 use Rattle.script_terms.specs.Translation.{asserted, said, symbol_said}
 use Rattle.script_terms.specs.Scripts.{Claim, Declared, State, after_declaration, checks, checks_from, claims_said, start}
@@ -28,7 +28,7 @@ use Rattle.script_typing.specs.Faults as typing
 use Rattle.script_typing.specs.Faults.{kind_faults, names_in, term_faults}
 use Rattle.script_typing.specs.Reading.{phrase_of}
 use Rattle.script_checks.specs.Commands.{commands_of, script_terms, with_form}
-use Rattle.script_checks.specs.Formed.{IsFormedCheck, IsRanged, Sound, symbol, symbols}
+use Rattle.script_checks.specs.Formed.{IsFormedCheck, IsRangedExpr, Sound, symbol, symbols}
 use Rattle.script_checks.proofs.Sound.{AllSound, IsSaid, all_everywhere, formula_of}
 use Rattle.script_checks.proofs.Faultless.{needed_is, none_both}
 use Rattle.script_checks.proofs.Terms.{IsRangedPhrase, formed, none}
@@ -139,7 +139,7 @@ declared_formed g s x (suc n) sort.Int f new room = function_formed g s x n f ne
 declared_formed g s x zero sort.Bool f new room = predicate_formed g s x 0 f new room
 declared_formed g s x (suc n) sort.Bool f new room = predicate_formed g s x (suc n) f new room
 
-defined_formed : (g : List Entry) (s : State) (x : List ℕ) (n : ℕ) (k : Sort) (xs : List (List ℕ)) (t : Phrase) → StateFormed g s → is_known x g ≡ false → n ≡ length xs → IsRangedPhrase t
+defined_formed : (g : List Entry) (s : State) (x : List ℕ) (n : ℕ) (k : Sort) (xs : List (List ℕ)) (t : PlacedTerm) → StateFormed g s → is_known x g ≡ false → n ≡ length xs → IsRangedPhrase t
     → term_faults g (variables xs []) (Some k) t ≡ []
     → StateFormed (g ++ (record { text = x; arity = n; sort = k; defined = true }) ∷ []) (record s { globals = (x, defined_by xs t) ∷ s.globals })
 defined_formed g s x n k xs t f new many ranged fine =
@@ -196,7 +196,7 @@ Goes es = (g : List Entry) (s : State) → StateFormed g s → refusal_from scri
 no_checks : All IsFormedCheck []
 no_checks i d h = absurd (omega (arith, h))
 
-definition_on : (es : List Expr) → Goes es → (g : List Entry) (s : State) (at : ℕ) (f : Named) (arguments : List Expr) (st t : Expr) → StateFormed g s → IsRanged t → length arguments ≡ length (names_in arguments)
+definition_on : (es : List Expr) → Goes es → (g : List Entry) (s : State) (at : ℕ) (f : Named) (arguments : List Expr) (st t : Expr) → StateFormed g s → IsRangedExpr t → length arguments ≡ length (names_in arguments)
     → least (definition_faults g f arguments st ++ body_faults script_terms g at f.text arguments (sort_of st) t) ≡ None
     → refusal_from script_terms (behind g (Some (form.define f arguments st t))) es ≡ None
     → All IsFormedCheck (checks_from (record s { globals = (f.text, defined_by (names_in arguments) (phrase_of t)) ∷ s.globals }) (commands_of es))
@@ -210,7 +210,7 @@ definition_on es go g s at f arguments st t h ranged many fits later =
     go _ _ (defined_formed g s f.text (length arguments) (or_int (sort_of st)) (names_in arguments) (phrase_of t) h new many (phrase_ranged t ranged)
     (subst (λ z. term_faults g (variables (names_in arguments) []) z (phrase_of t) ≡ []) sorted fine)) later
 
-command_on : (es : List Expr) → Goes es → (g : List Entry) (s : State) (at : ℕ) (f : Option Form) → StateFormed g s → IsRangedForm f → least (command_faults script_terms g at f) ≡ None
+command_on : (es : List Expr) → Goes es → (g : List Entry) (s : State) (at : ℕ) (f : Option CommandForm) → StateFormed g s → IsRangedForm f → least (command_faults script_terms g at f) ≡ None
     → unless_exit f (refusal_from script_terms (behind g f) es) ≡ None → All IsFormedCheck (checks_from s (with_form f (commands_of es)))
 command_on es go g s at None h r e later = absurd (cc)
 command_on es go g s at (Some form.skip) h r e later = go g s h later
@@ -230,7 +230,7 @@ command_on es go g s at (Some (form.assert t)) h r e later =
 command_on es go g s at (Some form.check_sat) h r e later = All-cons IsFormedCheck s (checks_from s (commands_of es)) (check_formed g s h) (go g s h later)
 command_on es go g s at (Some form.exit) h r e later = no_checks
 
-checks_on : (es : List Expr) → AllByRecursion IsRanged es → Goes es
+checks_on : (es : List Expr) → AllByRecursion IsRangedExpr es → Goes es
 checks_on [] r g s h e = no_checks
 checks_on (x ∷ es) r g s h e =
     let own = least (command_faults script_terms g (place_of x) (faults.form x)) in
@@ -240,5 +240,5 @@ checks_on (x ∷ es) r g s h e =
 start_formed : StateFormed [] start
 start_formed = record { linked = nothing refl refl; counted = refl; few = omega arith; claims = tt }
 
-pub checks_formed : (es : List Expr) → AllByRecursion IsRanged es → refusal_of script_terms es ≡ None → All IsFormedCheck (checks (commands_of es))
+pub checks_formed : (es : List Expr) → AllByRecursion IsRangedExpr es → refusal_of script_terms es ≡ None → All IsFormedCheck (checks (commands_of es))
 checks_formed es r e = checks_on es r [] start start_formed e

@@ -12,7 +12,7 @@ use Rattle.script_terms.specs.declared.operator.Sort.{Sort}
 use Rattle.script_terms.specs.declared.operator.Sort.TheVariants as sort
 use Rattle.script_terms.specs.declared.operator.Operator.{Operator}
 use Rattle.script_terms.specs.declared.operator.Operator.TheVariants as op
-use Rattle.script_terms.specs.Term.{Phrases, no_phrase, and_phrase, count}
+use Rattle.script_terms.specs.Term.{PlacedTerms, no_phrase, and_phrase, count}
 use Rattle.script_terms.specs.Operators.{operator_of}
 use Rattle.script_terms.specs.Translation.{Said, term_in, multiplied, operated, Standing, Replacements, Writer, at_depth, use_said, all_said}
 use Rattle.script_typing.specs.Faults.{arity_faults, is_sign, kind_faults}
@@ -53,7 +53,7 @@ at_least k n e = grind (arith, nat_tests)
 pub at_most : (n : ℕ) → nat_lt 1 n ≡ false → n ≤ 1
 at_most n e = grind (arith, nat_tests)
 
-pub count_said : (W : Writer) (ns : Replacements) (ts : Phrases) → length (all_said W ns ts) ≡ count ts
+pub count_said : (W : Writer) (ns : Replacements) (ts : PlacedTerms) → length (all_said W ns ts) ≡ count ts
 count_said W ns no_phrase = refl
 count_said W ns (and_phrase t ts) = ap suc (count_said W ns ts)
 
@@ -61,7 +61,7 @@ length_depth : (n : ℕ) (ss : List Standing) → length (at_depth n ss) ≡ len
 length_depth n [] = refl
 length_depth n (s ∷ ss) = ap suc (length_depth n ss)
 
-pub depth_count : (W : Writer) (ns : Replacements) (ts : Phrases) (n : ℕ) → length (at_depth n (all_said W ns ts)) ≡ count ts
+pub depth_count : (W : Writer) (ns : Replacements) (ts : PlacedTerms) (n : ℕ) → length (at_depth n (all_said W ns ts)) ≡ count ts
 depth_count W ns ts n = length_depth n (all_said W ns ts) ∙ count_said W ns ts
 
 -- Terms built of numerals.

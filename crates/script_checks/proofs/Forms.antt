@@ -8,7 +8,7 @@ use Rattle.script_commands.specs.declared.table.Entry.{Entry}
 use Rattle.script_commands.specs.declared.words.Word.{Word}
 use Rattle.script_commands.specs.declared.words.Word.TheVariants as w
 use Rattle.script_commands.specs.Commands as form
-use Rattle.script_commands.specs.Commands.{Form, Symbol, command_behind, command_by, command_of, declares, defined, defines, is_argument, is_keyword, is_some, items, members_of, skips, symbol_of}
+use Rattle.script_commands.specs.Commands.{CommandForm, Symbol, command_behind, command_by, command_of, declares, defined, defines, is_argument, is_keyword, is_some, items, members_of, skips, symbol_of}
 use Rattle.script_commands.specs.Words.{word_of}
 use Rattle.script_commands.specs.Faults as faults
 use Rattle.script_commands.specs.Faults.{argument_faults, body_faults, command_faults, declaration_faults, definition_faults, many_faults, name_faults, sort_fault, sort_faults, use_faults}
@@ -30,7 +30,7 @@ module _ (P : ℕ → Type 0) where
   MembersAt (Some es) = ListAt es
 
   -- every offset of a command is so
-  abbrev FormAt : Option Form → Type 0
+  abbrev FormAt : Option CommandForm → Type 0
   FormAt (Some (form.declare x sorts s)) = P x.at × ListAt sorts × ExprAt P s
   FormAt (Some (form.define f arguments s t)) = P f.at × ListAt arguments × ExprAt P s × ExprAt P t
   FormAt (Some (form.assert t)) = ExprAt P t
@@ -158,7 +158,7 @@ module _ (P : ℕ → Type 0) where
       both_at P (use_faults script_terms at text arguments t) (script_terms.faults table arguments want t) (perhaps (script_uses text arguments t) (r.Profile at) h)
       (term_at P table (variables (names_in arguments) []) want t k)
 
-  form_faults_at : (table : List Entry) (at : ℕ) (f : Option Form) → P at → FormAt f → FaultsAt P (command_faults script_terms table at f)
+  form_faults_at : (table : List Entry) (at : ℕ) (f : Option CommandForm) → P at → FormAt f → FaultsAt P (command_faults script_terms table at f)
   form_faults_at table at None h k = (h, tt)
   form_faults_at table at (Some (form.declare x sorts s)) h k = declaration_at table x sorts s k.0 k.1 k.2
   form_faults_at table at (Some (form.define f arguments s t)) h k =

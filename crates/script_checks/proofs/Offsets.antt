@@ -16,7 +16,7 @@ use Rattle.script_terms.specs.declared.operator.Operator.{Operator}
 use Rattle.script_terms.specs.declared.operator.Operator.TheVariants as op
 use Rattle.script_terms.specs.declared.term.Name.{Name}
 use Rattle.script_terms.specs.declared.term.Variable.{Variable}
-use Rattle.script_terms.specs.Term.{Phrase, Phrases, Bindings, BoundTerm, bindings, number, large, used, let_in, quantified, annotated, ill, no_phrase, and_phrase, no_binding, and_binding, count, first_byte}
+use Rattle.script_terms.specs.Term.{PlacedTerm, PlacedTerms, Bindings, BoundTerm, bindings, number, large, used, let_in, quantified, annotated, ill, no_phrase, and_phrase, no_binding, and_binding, count, first_byte}
 use Rattle.script_terms.specs.Operators.{found, operator_of}
 use Rattle.script_terms.specs.Evaluation.{names_of, texts_of, with_names}
 use Rattle.script_typing.specs.declared.forms.Head.{Head}
@@ -48,7 +48,7 @@ module _ (P : ℕ → Type 0) where
   VariablesAt (x ∷ xs) = IllAt x.ill × VariablesAt xs
 
   abbrev mutual
-    PhraseAt : Phrase → Type 0
+    PhraseAt : PlacedTerm → Type 0
     PhraseAt (number at n) = P at
     PhraseAt (large at) = P at
     PhraseAt (used at x ts) = P at × P x.at × PhrasesAt ts
@@ -57,7 +57,7 @@ module _ (P : ℕ → Type 0) where
     PhraseAt (annotated at t) = P at × PhraseAt t
     PhraseAt (ill at) = P at
 
-    PhrasesAt : Phrases → Type 0
+    PhrasesAt : PlacedTerms → Type 0
     PhrasesAt no_phrase = Unit {0}
     PhrasesAt (and_phrase t ts) = PhraseAt t × PhrasesAt ts
 
@@ -95,7 +95,7 @@ module _ (P : ℕ → Type 0) where
   OptionAt None = Unit {0}
   OptionAt (Some xs) = VariablesAt xs
 
-  let_at : (at : ℕ) (bs : Option (List BoundTerm)) (t : Phrase) → P at → ReadAt bs → PhraseAt t → PhraseAt (let_phrase at bs t)
+  let_at : (at : ℕ) (bs : Option (List BoundTerm)) (t : PlacedTerm) → P at → ReadAt bs → PhraseAt t → PhraseAt (let_phrase at bs t)
   let_at at None t p h l = p
   let_at at (Some bs) t p h l = by (are_proper bs)
     where
@@ -108,20 +108,20 @@ module _ (P : ℕ → Type 0) where
   before_at (Some b) None h l = tt
   before_at (Some b) (Some bs) h l = (h, l)
 
-  bound_at : (x : Option Symbol) (t : Phrase) → PhraseAt t → OneAt (bound_by x t)
+  bound_at : (x : Option Symbol) (t : PlacedTerm) → PhraseAt t → OneAt (bound_by x t)
   bound_at None t h = tt
   bound_at (Some x) t h = h
 
-  quantified_at : (at : ℕ) (all : Bool) (xs : Option (List Variable)) (t : Phrase) → P at → OptionAt xs → PhraseAt t → PhraseAt (quantified_phrase at all xs t)
+  quantified_at : (at : ℕ) (all : Bool) (xs : Option (List Variable)) (t : PlacedTerm) → P at → OptionAt xs → PhraseAt t → PhraseAt (quantified_phrase at all xs t)
   quantified_at at all None t p h l = p
   quantified_at at all (Some []) t p h l = p
   quantified_at at all (Some (x ∷ xs)) t p h l = (p, h, l)
 
-  note_at : (at : ℕ) (b : Bool) (t : Phrase) → P at → PhraseAt t → PhraseAt (if b then annotated at t else ill at)
+  note_at : (at : ℕ) (b : Bool) (t : PlacedTerm) → P at → PhraseAt t → PhraseAt (if b then annotated at t else ill at)
   note_at at true t p h = (p, h)
   note_at at false t p h = p
 
-  use_at : (at : ℕ) (x : Option Symbol) (ts : Phrases) → P at → SymbolAt x → PhrasesAt ts → PhraseAt (use_of at x ts)
+  use_at : (at : ℕ) (x : Option Symbol) (ts : PlacedTerms) → P at → SymbolAt x → PhrasesAt ts → PhraseAt (use_of at x ts)
   use_at at None ts p h l = p
   use_at at (Some x) ts p h l = (p, h, l)
 
@@ -241,7 +241,7 @@ module _ (P : ℕ → Type 0) where
 
   -- Faults.
 
-  byte_at : (t : Phrase) → PhraseAt t → P (first_byte t)
+  byte_at : (t : PlacedTerm) → PhraseAt t → P (first_byte t)
   byte_at (number at n) h = h
   byte_at (large at) h = h
   byte_at (used at x ts) h = h.0
@@ -271,7 +271,7 @@ module _ (P : ℕ → Type 0) where
   arity_at true at h = tt
   arity_at false at h = (h, tt)
 
-  product_at : (o : Operator) (at : ℕ) (ts : Phrases) → P at → FaultsAt (product_faults o at ts)
+  product_at : (o : Operator) (at : ℕ) (ts : PlacedTerms) → P at → FaultsAt (product_faults o at ts)
   product_at op.Times at ts h = some_at (nat_lt 1 (others ts)) (r.NonLinear at) h
   product_at (op.Truth b) at ts h = tt
   product_at op.Not at ts h = tt
@@ -287,7 +287,7 @@ module _ (P : ℕ → Type 0) where
   product_at op.Minus at ts h = tt
   product_at op.Abs at ts h = tt
 
-  used_at : (s : Option (Option Sort)) (o : Option Operator) (e : Option Entry) (x : Name) (ts : Phrases) → P x.at → FaultsAt (use_faults s o e x ts)
+  used_at : (s : Option (Option Sort)) (o : Option Operator) (e : Option Entry) (x : Name) (ts : PlacedTerms) → P x.at → FaultsAt (use_faults s o e x ts)
   used_at (Some s) o e x ts h = arity_at (nat_eq (count ts) 0) x.at h
   used_at None (Some o) e x ts h = both_at (arity_faults (takes o (count ts)) x.at) (product_faults o x.at ts) (arity_at (takes o (count ts)) x.at h) (product_at o x.at ts h)
   used_at None None (Some e) x ts h = arity_at (nat_eq (count ts) e.arity) x.at h
@@ -301,7 +301,7 @@ module _ (P : ℕ → Type 0) where
       by None l = tt
       by (Some at) l = (l, tt)
 
-  needs_at : (n : Need) (g : List Entry) (b : Sorts) (ts : Phrases) → ((want : Option Sort) → FaultsAt (each_faults g b want ts)) → FaultsAt (alike_faults g b ts) → FaultsAt (branch_faults g b ts)
+  needs_at : (n : Need) (g : List Entry) (b : Sorts) (ts : PlacedTerms) → ((want : Option Sort) → FaultsAt (each_faults g b want ts)) → FaultsAt (alike_faults g b ts) → FaultsAt (branch_faults g b ts)
       → FaultsAt (elim n [
         | need.Each want ↦ each_faults g b want ts
         | need.Alike ↦ alike_faults g b ts
@@ -312,7 +312,7 @@ module _ (P : ℕ → Type 0) where
   needs_at need.Branches g b ts e a c = c
 
   mutual
-    faults_at : (g : List Entry) (b : Sorts) (t : Phrase) → PhraseAt t → FaultsAt (faults g b t)
+    faults_at : (g : List Entry) (b : Sorts) (t : PlacedTerm) → PhraseAt t → FaultsAt (faults g b t)
     faults_at g b (number at n) h = tt
     faults_at g b (large at) h = (h, tt)
     faults_at g b (used at x ts) h =
@@ -328,17 +328,17 @@ module _ (P : ℕ → Type 0) where
     faults_at g b (annotated at t) h = faults_at g b t h.1
     faults_at g b (ill at) h = (h, tt)
 
-    each_at : (g : List Entry) (b : Sorts) (want : Option Sort) (ts : Phrases) → PhrasesAt ts → FaultsAt (each_faults g b want ts)
+    each_at : (g : List Entry) (b : Sorts) (want : Option Sort) (ts : PlacedTerms) → PhrasesAt ts → FaultsAt (each_faults g b want ts)
     each_at g b want no_phrase h = tt
     each_at g b want (and_phrase t ts) h =
         both_at (faults g b t ++ kind_faults want (term_sort g b t) (first_byte t)) (each_faults g b want ts)
         (both_at (faults g b t) (kind_faults want (term_sort g b t) (first_byte t)) (faults_at g b t h.0) (kind_at want (term_sort g b t) (first_byte t) (byte_at t h.0))) (each_at g b want ts h.1)
 
-    alike_at : (g : List Entry) (b : Sorts) (ts : Phrases) → PhrasesAt ts → FaultsAt (alike_faults g b ts)
+    alike_at : (g : List Entry) (b : Sorts) (ts : PlacedTerms) → PhrasesAt ts → FaultsAt (alike_faults g b ts)
     alike_at g b no_phrase h = tt
     alike_at g b (and_phrase t ts) h = both_at (faults g b t) (each_faults g b (term_sort g b t) ts) (faults_at g b t h.0) (each_at g b (term_sort g b t) ts h.1)
 
-    branch_at : (g : List Entry) (b : Sorts) (ts : Phrases) → PhrasesAt ts → FaultsAt (branch_faults g b ts)
+    branch_at : (g : List Entry) (b : Sorts) (ts : PlacedTerms) → PhrasesAt ts → FaultsAt (branch_faults g b ts)
     branch_at g b no_phrase h = tt
     branch_at g b (and_phrase t ts) h =
         both_at (faults g b t ++ kind_faults (Some sort.Bool) (term_sort g b t) (first_byte t)) (alike_faults g b ts)

@@ -8,18 +8,18 @@ use Rattle.sexpr.specs.Expressions.{Expr, Exprs, atom, list, no_expr, and_expr, 
 use Rattle.script_commands.specs.declared.words.Word.{Word}
 use Rattle.script_commands.specs.declared.words.Word.TheVariants as w
 use Rattle.script_commands.specs.Commands as form
-use Rattle.script_commands.specs.Commands.{Form, Symbol, command_behind, command_by, command_of, declares, defined, defines, is_argument, is_keyword, is_some, items, members_of, skips, symbol_of}
+use Rattle.script_commands.specs.Commands.{CommandForm, Symbol, command_behind, command_by, command_of, declares, defined, defines, is_argument, is_keyword, is_some, items, members_of, skips, symbol_of}
 use Rattle.script_commands.specs.Words.{word_of}
 use Rattle.script_commands.specs.Faults as faults
 use Rattle.script_commands.specs.Faults.{form_in}
 use Rattle.script_terms.specs.declared.term.Variable.{Variable}
-use Rattle.script_terms.specs.Term.{Phrase, Phrases, BoundTerm, bindings, let_in, ill}
+use Rattle.script_terms.specs.Term.{PlacedTerm, PlacedTerms, BoundTerm, bindings, let_in, ill}
 use Rattle.script_typing.specs.declared.forms.Head.{Head}
 use Rattle.script_typing.specs.declared.forms.Head.TheVariants as head
 use Rattle.script_typing.specs.Reading.{are_attributes, are_proper, atom_phrase, before, bindings_in, bound_by, bound_read, head_of, let_of, let_phrase, note_of, phrase_of, phrases_in, quantified_of, quantified_phrase, use_of, ill_by, variable_by, variable_of, variables_of}
 use Rattle.script_commands.specs.Symbols.{sort_of}
 use Rattle.script_typing.specs.Faults.{names_by, names_in}
-use Rattle.script_checks.specs.Formed.{AreRanged, IsRanged, IsRangedAtom}
+use Rattle.script_checks.specs.Formed.{AreRangedExprs, IsRangedExpr, IsRangedAtom}
 use Rattle.script_checks.proofs.Faultless.{left_true, right_true}
 use Rattle.script_checks.proofs.Terms.{AreRangedBindings, AreRangedPhrases, IsRangedPhrase}
 
@@ -32,7 +32,7 @@ abbrev IsRead : Option BoundTerm → Type 0
 IsRead None = Unit {0}
 IsRead (Some b) = IsRangedPhrase b.term
 
-let_ranged : (at : ℕ) (bs : Option (List BoundTerm)) (t : Phrase) → AreRead bs → IsRangedPhrase t → IsRangedPhrase (let_phrase at bs t)
+let_ranged : (at : ℕ) (bs : Option (List BoundTerm)) (t : PlacedTerm) → AreRead bs → IsRangedPhrase t → IsRangedPhrase (let_phrase at bs t)
 let_ranged at None t h l = tt
 let_ranged at (Some bs) t h l = by (are_proper bs)
   where
@@ -45,20 +45,20 @@ before_ranged None bs h l = tt
 before_ranged (Some b) None h l = tt
 before_ranged (Some b) (Some bs) h l = (h, l)
 
-bound_ranged : (x : Option Symbol) (t : Phrase) → IsRangedPhrase t → IsRead (bound_by x t)
+bound_ranged : (x : Option Symbol) (t : PlacedTerm) → IsRangedPhrase t → IsRead (bound_by x t)
 bound_ranged None t h = tt
 bound_ranged (Some x) t h = h
 
-quantified_ranged : (at : ℕ) (all : Bool) (xs : Option (List Variable)) (t : Phrase) → IsRangedPhrase t → IsRangedPhrase (quantified_phrase at all xs t)
+quantified_ranged : (at : ℕ) (all : Bool) (xs : Option (List Variable)) (t : PlacedTerm) → IsRangedPhrase t → IsRangedPhrase (quantified_phrase at all xs t)
 quantified_ranged at all None t h = tt
 quantified_ranged at all (Some []) t h = tt
 quantified_ranged at all (Some (x ∷ xs)) t h = h
 
-note_ranged : (at : ℕ) (b : Bool) (t : Phrase) → IsRangedPhrase t → IsRangedPhrase (if b then Rattle.script_terms.specs.Term.annotated at t else ill at)
+note_ranged : (at : ℕ) (b : Bool) (t : PlacedTerm) → IsRangedPhrase t → IsRangedPhrase (if b then Rattle.script_terms.specs.Term.annotated at t else ill at)
 note_ranged at true t h = h
 note_ranged at false t h = tt
 
-use_ranged : (at : ℕ) (x : Option Symbol) (ts : Phrases) → AreRangedPhrases ts → IsRangedPhrase (use_of at x ts)
+use_ranged : (at : ℕ) (x : Option Symbol) (ts : PlacedTerms) → AreRangedPhrases ts → IsRangedPhrase (use_of at x ts)
 use_ranged at None ts h = tt
 use_ranged at (Some x) ts h = h
 
@@ -88,51 +88,51 @@ head_ranged at h es head.Other l q n u = tt
 head_ranged at h es head.Use l q n u = use_ranged at (symbol_of h) (phrases_in es) u
 
 mutual
-  pub phrase_ranged : (e : Expr) → IsRanged e → IsRangedPhrase (phrase_of e)
+  pub phrase_ranged : (e : Expr) → IsRangedExpr e → IsRangedPhrase (phrase_of e)
   phrase_ranged (atom a) h = atom_ranged a.at a.kind h
   phrase_ranged (list at no_expr) h = tt
   phrase_ranged (list at (and_expr e es)) h =
       head_ranged at e es (head_of e) (let_of_ranged at es h.1) (λ all. quantified_of_ranged at all es h.1) (note_of_ranged at es h.1) (phrases_ranged es h.1)
 
-  phrases_ranged : (es : Exprs) → AreRanged es → AreRangedPhrases (phrases_in es)
+  phrases_ranged : (es : Exprs) → AreRangedExprs es → AreRangedPhrases (phrases_in es)
   phrases_ranged no_expr h = tt
   phrases_ranged (and_expr e es) h = (phrase_ranged e h.0, phrases_ranged es h.1)
 
-  let_of_ranged : (at : ℕ) (es : Exprs) → AreRanged es → IsRangedPhrase (let_of at es)
+  let_of_ranged : (at : ℕ) (es : Exprs) → AreRangedExprs es → IsRangedPhrase (let_of at es)
   let_of_ranged at no_expr h = tt
   let_of_ranged at (and_expr (atom a) es) h = tt
   let_of_ranged at (and_expr (list l bs) no_expr) h = tt
   let_of_ranged at (and_expr (list l bs) (and_expr t no_expr)) h = let_ranged at (bindings_in bs) (phrase_of t) (bindings_ranged bs h.0) (phrase_ranged t h.1.0)
   let_of_ranged at (and_expr (list l bs) (and_expr t (and_expr e es))) h = tt
 
-  bindings_ranged : (es : Exprs) → AreRanged es → AreRead (bindings_in es)
+  bindings_ranged : (es : Exprs) → AreRangedExprs es → AreRead (bindings_in es)
   bindings_ranged no_expr h = tt
   bindings_ranged (and_expr e es) h = before_ranged (bound_read e) (bindings_in es) (read_ranged e h.0) (bindings_ranged es h.1)
 
-  read_ranged : (e : Expr) → IsRanged e → IsRead (bound_read e)
+  read_ranged : (e : Expr) → IsRangedExpr e → IsRead (bound_read e)
   read_ranged (atom a) h = tt
   read_ranged (list l no_expr) h = tt
   read_ranged (list l (and_expr x no_expr)) h = tt
   read_ranged (list l (and_expr x (and_expr t no_expr))) h = bound_ranged (symbol_of x) (phrase_of t) (phrase_ranged t h.1.0)
   read_ranged (list l (and_expr x (and_expr t (and_expr e es)))) h = tt
 
-  quantified_of_ranged : (at : ℕ) (all : Bool) (es : Exprs) → AreRanged es → IsRangedPhrase (quantified_of at all es)
+  quantified_of_ranged : (at : ℕ) (all : Bool) (es : Exprs) → AreRangedExprs es → IsRangedPhrase (quantified_of at all es)
   quantified_of_ranged at all no_expr h = tt
   quantified_of_ranged at all (and_expr (atom a) es) h = tt
   quantified_of_ranged at all (and_expr (list l xs) no_expr) h = tt
   quantified_of_ranged at all (and_expr (list l xs) (and_expr t no_expr)) h = quantified_ranged at all (variables_of (items xs)) (phrase_of t) (phrase_ranged t h.1.0)
   quantified_of_ranged at all (and_expr (list l xs) (and_expr t (and_expr e es))) h = tt
 
-  note_of_ranged : (at : ℕ) (es : Exprs) → AreRanged es → IsRangedPhrase (note_of at es)
+  note_of_ranged : (at : ℕ) (es : Exprs) → AreRangedExprs es → IsRangedPhrase (note_of at es)
   note_of_ranged at no_expr h = tt
   note_of_ranged at (and_expr t es) h = note_ranged at (are_attributes (items es)) (phrase_of t) (phrase_ranged t h.0)
 
 -- The terms of commands.
 
 -- the term of a command is so, and a definition has as many names as arguments
-abbrev pub IsRangedForm : Option Form → Type 0
-IsRangedForm (Some (form.assert t)) = IsRanged t
-IsRangedForm (Some (form.define f arguments s t)) = IsRanged t × (length arguments ≡ length (names_in arguments))
+abbrev pub IsRangedForm : Option CommandForm → Type 0
+IsRangedForm (Some (form.assert t)) = IsRangedExpr t
+IsRangedForm (Some (form.define f arguments s t)) = IsRangedExpr t × (length arguments ≡ length (names_in arguments))
 IsRangedForm _ = Unit {0}
 
 variable_made : (e : Expr) → is_argument e ≡ true → (x : Variable) × (variable_of e ≡ Some x)
@@ -175,16 +175,16 @@ declares_ranged None sorts s = tt
 declares_ranged (Some x) None s = tt
 declares_ranged (Some x) (Some sorts) s = tt
 
-defined_ranged : (f : Symbol) (arguments : List Expr) (s t : Expr) (b : Bool) → list_all is_argument arguments ≡ b → IsRanged t → IsRangedForm (defined f arguments s t b)
+defined_ranged : (f : Symbol) (arguments : List Expr) (s t : Expr) (b : Bool) → list_all is_argument arguments ≡ b → IsRangedExpr t → IsRangedForm (defined f arguments s t b)
 defined_ranged f arguments s t true e h = (h, names_made arguments (variables_of arguments) (variables_made arguments e))
 defined_ranged f arguments s t false e h = tt
 
-defines_ranged : (f : Option Symbol) (arguments : Option (List Expr)) (s t : Expr) → IsRanged t → IsRangedForm (defines f arguments s t)
+defines_ranged : (f : Option Symbol) (arguments : Option (List Expr)) (s t : Expr) → IsRangedExpr t → IsRangedForm (defines f arguments s t)
 defines_ranged None arguments s t h = tt
 defines_ranged (Some f) None s t h = tt
 defines_ranged (Some f) (Some arguments) s t h = defined_ranged f arguments s t (list_all is_argument arguments) refl h
 
-by_ranged : (v : Word) (es : List Expr) → AllByRecursion IsRanged es → IsRangedForm (command_by v es)
+by_ranged : (v : Word) (es : List Expr) → AllByRecursion IsRangedExpr es → IsRangedForm (command_by v es)
 by_ranged w.SetLogic [] h = tt
 by_ranged w.SetLogic (a ∷ []) h = skips_ranged (is_some (symbol_of a))
 by_ranged w.SetLogic (a ∷ (b ∷ es)) h = tt
@@ -219,22 +219,22 @@ by_ranged w.CheckSat (a ∷ es) h = tt
 by_ranged w.Exit [] h = tt
 by_ranged w.Exit (a ∷ es) h = tt
 
-word_ranged : (v : Option Word) (es : List Expr) → AllByRecursion IsRanged es → IsRangedForm (elim v [ None ↦ None | Some u ↦ command_by u es ])
+word_ranged : (v : Option Word) (es : List Expr) → AllByRecursion IsRangedExpr es → IsRangedForm (elim v [ None ↦ None | Some u ↦ command_by u es ])
 word_ranged None es h = tt
 word_ranged (Some u) es h = by_ranged u es h
 
-behind_ranged : (x : Option Symbol) (es : List Expr) → AllByRecursion IsRanged es → IsRangedForm (command_behind x es)
+behind_ranged : (x : Option Symbol) (es : List Expr) → AllByRecursion IsRangedExpr es → IsRangedForm (command_behind x es)
 behind_ranged None es h = tt
 behind_ranged (Some x) es h = word_ranged (word_of x.text) es h
 
-command_ranged : (es : List Expr) → AllByRecursion IsRanged es → IsRangedForm (command_of es)
+command_ranged : (es : List Expr) → AllByRecursion IsRangedExpr es → IsRangedForm (command_of es)
 command_ranged [] h = tt
 command_ranged (e ∷ es) h = behind_ranged (symbol_of e) es h.1
 
-items_ranged : (es : Exprs) → AreRanged es → AllByRecursion IsRanged (items es)
+items_ranged : (es : Exprs) → AreRangedExprs es → AllByRecursion IsRangedExpr (items es)
 items_ranged no_expr h = tt
 items_ranged (and_expr e es) h = (h.0, items_ranged es h.1)
 
-pub form_ranged : (e : Expr) → IsRanged e → IsRangedForm (faults.form e)
+pub form_ranged : (e : Expr) → IsRangedExpr e → IsRangedForm (faults.form e)
 form_ranged (atom a) h = tt
 form_ranged (list at es) h = command_ranged (items es) (items_ranged es h)

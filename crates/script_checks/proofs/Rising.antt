@@ -8,11 +8,11 @@ use Rattle.sexpr.specs.Expressions.{Expr, Exprs, atom, list, no_expr, and_expr, 
 use Rattle.sexpr.proofs.Folds.{expr-Atom, expr-List}
 use Rattle.script_lists.specs.Atoms.{atom_of}
 use Rattle.script_lists.specs.Grammar as grammar
-use Rattle.script_lists.specs.Grammar.{IsScriptText, SayAll, Says, more, nothing}
+use Rattle.script_lists.specs.Grammar.{IsScriptText, SayAll, SaysSexp, more, nothing}
 use Rattle.script_commands.specs.declared.refusal.ScriptRefusal.{ScriptRefusal}
 use Rattle.script_commands.specs.declared.table.Entry.{Entry}
 use Rattle.script_commands.specs.Commands as form
-use Rattle.script_commands.specs.Commands.{Form}
+use Rattle.script_commands.specs.Commands.{CommandForm}
 use Rattle.script_commands.specs.Faults as faults
 use Rattle.script_commands.specs.Faults.{behind, command_faults, or_later, refusal_from, refusal_of, unless_exit}
 use Rattle.script_commands.specs.Least.{is_before, least, least_from, number_of, place_in, sooner}
@@ -95,7 +95,7 @@ row_more low [] e middle high l h k = (high, omega (arith, h, l), wider middle h
 row_more low (x ∷ es) e middle high l h k = (h.0, h.1, h.2, row_more h.0 es e middle high l h.3 k)
 
 mutual
-  one_in : (b : List ℕ) (n : ℕ) (e : Sexp) (tokens : List Lexeme) → Says b n e tokens → (low high : ℕ) → Rising low tokens high → ExprAt (In low high) (expr e)
+  one_in : (b : List ℕ) (n : ℕ) (e : Sexp) (tokens : List Lexeme) → SaysSexp b n e tokens → (low high : ℕ) → Rising low tokens high → ExprAt (In low high) (expr e)
   one_in b n e tokens (grammar.atom x a is parts) low high h =
       let own : Rising low (x ∷ []) high = subst (λ z. Rising low z high) parts h in
       subst (ExprAt (In low high)) (sym (ap expr is ∙ expr-Atom (atom_of b x))) (own.0, omega (arith, own.1))
@@ -165,7 +165,7 @@ found_or (Some a) middle ys h k = stays a middle ys h k
 least_both : (low middle : ℕ) (xs ys : List ScriptRefusal) → FaultsAt (In low middle) xs → FaultsAt (Behind middle) ys → least (xs ++ ys) ≡ or_later (least xs) (least ys)
 least_both low middle xs ys h k = least_from-append None xs ys ∙ found_or (least xs) middle ys (least_before None low middle xs tt h) k
 
-end_behind : (f : Option Form) (low : ℕ) (ys : List ScriptRefusal) → FaultsAt (Behind low) ys → FaultsAt (Behind low) (unless_end f ys)
+end_behind : (f : Option CommandForm) (low : ℕ) (ys : List ScriptRefusal) → FaultsAt (Behind low) ys → FaultsAt (Behind low) (unless_end f ys)
 end_behind None low ys h = h
 end_behind (Some form.skip) low ys h = h
 end_behind (Some (form.declare x sorts s)) low ys h = h
@@ -174,7 +174,7 @@ end_behind (Some (form.assert t)) low ys h = h
 end_behind (Some form.check_sat) low ys h = h
 end_behind (Some form.exit) low ys h = tt
 
-end_least : (f : Option Form) (ys : List ScriptRefusal) → least (unless_end f ys) ≡ unless_exit f (least ys)
+end_least : (f : Option CommandForm) (ys : List ScriptRefusal) → least (unless_end f ys) ≡ unless_exit f (least ys)
 end_least None ys = refl
 end_least (Some form.skip) ys = refl
 end_least (Some (form.declare x sorts s)) ys = refl

@@ -11,11 +11,11 @@ use Rattle.sexpr.specs.Expressions.{Expr, Exprs, atom, list, no_expr, and_expr, 
 use Rattle.sexpr.proofs.Folds.{expr-Atom, expr-List}
 use Rattle.script_lists.specs.Atoms.{atom_of}
 use Rattle.script_lists.specs.Grammar as grammar
-use Rattle.script_lists.specs.Grammar.{IsScriptText, SayAll, Says, more, nothing}
+use Rattle.script_lists.specs.Grammar.{IsScriptText, SayAll, SaysSexp, more, nothing}
 use Rattle.script_commands.specs.declared.words.Word.{Word}
 use Rattle.script_commands.specs.declared.words.Word.TheVariants as w
 use Rattle.script_commands.specs.Commands as form
-use Rattle.script_commands.specs.Commands.{Form, Symbol, command_behind, command_by, command_of, declares, defined, defines, is_argument, is_keyword, is_some, items, members_of, skips, symbol_of}
+use Rattle.script_commands.specs.Commands.{CommandForm, Symbol, command_behind, command_by, command_of, declares, defined, defines, is_argument, is_keyword, is_some, items, members_of, skips, symbol_of}
 use Rattle.script_commands.specs.Words.{word_of}
 use Rattle.script_commands.specs.Faults as faults
 use Rattle.script_terms.specs.declared.term.Variable.{Variable}
@@ -52,7 +52,7 @@ narrow_more : (n : ℕ) (es : List Sexp) (e : Sexp) → AllByRecursion (IsNarrow
 narrow_more n [] e h k = (k, tt)
 narrow_more n (x ∷ es) e h k = (h.0, narrow_more n es e h.1 k)
 
-some_tokens : (b : List ℕ) (n : ℕ) (e : Sexp) (tokens : List Lexeme) → Says b n e tokens → 1 ≤ length tokens
+some_tokens : (b : List ℕ) (n : ℕ) (e : Sexp) (tokens : List Lexeme) → SaysSexp b n e tokens → 1 ≤ length tokens
 some_tokens b n e tokens (grammar.atom x a is parts) = omega (arith, ap length parts)
 some_tokens b n e tokens (grammar.list m x y es inner o all c levels is parts) = omega (arith, ap length parts, length-append inner (y ∷ []))
 
@@ -62,7 +62,7 @@ as_many b n es tokens (more before e front back all one is parts) =
     omega (arith, ap length is, ap length parts, length-append before (e ∷ []), length-append front back, as_many b n before front all, some_tokens b n e back one)
 
 mutual
-  one_narrow : (b : List ℕ) (most n : ℕ) (e : Sexp) (tokens : List Lexeme) → Says b n e tokens → length tokens ≤ most → IsNarrow most (expr e)
+  one_narrow : (b : List ℕ) (most n : ℕ) (e : Sexp) (tokens : List Lexeme) → SaysSexp b n e tokens → length tokens ≤ most → IsNarrow most (expr e)
   one_narrow b most n e tokens (grammar.atom x a is parts) h = subst (IsNarrow most) (sym (ap expr is ∙ expr-Atom (atom_of b x))) tt
   one_narrow b most n e tokens (grammar.list m x y es inner o all c levels is parts) h =
       let within : length inner ≤ most = omega (arith, h, ap length parts, length-append inner (y ∷ [])) in
@@ -82,7 +82,7 @@ text_narrow bytes lists h = all_narrow bytes (length bytes) 200 lists (lexemes_o
 -- Commands.
 
 -- the arguments of a command are few
-abbrev FewArguments : ℕ → Option Form → Type 0
+abbrev FewArguments : ℕ → Option CommandForm → Type 0
 FewArguments n (Some (form.declare x sorts s)) = length sorts ≤ n
 FewArguments n (Some (form.define f arguments s t)) = length arguments ≤ n
 FewArguments n _ = Unit {0}
@@ -185,7 +185,7 @@ names_few (e ∷ es) = before_few (variable_of e) (variables_of es) (length es) 
 no_commands : (n : ℕ) → All (HasFew n) []
 no_commands n i d h = absurd (omega (arith, h))
 
-form_on : (n : ℕ) (f : Option Form) (cs : List Command) → FewArguments n f → All (HasFew n) cs → All (HasFew n) (with_form f cs)
+form_on : (n : ℕ) (f : Option CommandForm) (cs : List Command) → FewArguments n f → All (HasFew n) cs → All (HasFew n) (with_form f cs)
 form_on n None cs h k = k
 form_on n (Some form.skip) cs h k = k
 form_on n (Some (form.declare x sorts s)) cs h k = All-cons (HasFew n) _ cs h k

@@ -14,7 +14,7 @@ use Rattle.script_terms.specs.declared.operator.Sort.TheVariants as sort
 use Rattle.script_terms.specs.declared.operator.Operator.{Operator}
 use Rattle.script_terms.specs.declared.operator.Operator.TheVariants as op
 use Rattle.script_terms.specs.declared.term.Name.{Name}
-use Rattle.script_terms.specs.Term.{Phrase, Phrases, Bindings, number, large, used, let_in, quantified, annotated, ill, no_phrase, and_phrase, no_binding, and_binding, count, first_byte}
+use Rattle.script_terms.specs.Term.{PlacedTerm, PlacedTerms, Bindings, number, large, used, let_in, quantified, annotated, ill, no_phrase, and_phrase, no_binding, and_binding, count, first_byte}
 use Rattle.script_terms.specs.Operators.{found, operator_of}
 use Rattle.script_terms.specs.Evaluation.{names_of, texts_of, with_names}
 use Rattle.script_terms.specs.Translation.{Said, formula_in, term_in, operated, Standing, Replacements, Writer, at_depth, use_said, variable, bound_said, said, all_said, bindings_said}
@@ -29,7 +29,7 @@ use Rattle.script_checks.proofs.Sound.{IsSaid, AreSaid, formula_of, plain, plain
 
 -- the numerals of a term are in the range
 abbrev mutual
-  pub IsRangedPhrase : Phrase → Type 0
+  pub IsRangedPhrase : PlacedTerm → Type 0
   IsRangedPhrase (number at n) = InRange n
   IsRangedPhrase (large at) = Unit {0}
   IsRangedPhrase (used at x ts) = AreRangedPhrases ts
@@ -38,7 +38,7 @@ abbrev mutual
   IsRangedPhrase (annotated at t) = IsRangedPhrase t
   IsRangedPhrase (ill at) = Unit {0}
 
-  pub AreRangedPhrases : Phrases → Type 0
+  pub AreRangedPhrases : PlacedTerms → Type 0
   AreRangedPhrases no_phrase = Unit {0}
   AreRangedPhrases (and_phrase t ts) = IsRangedPhrase t × AreRangedPhrases ts
 
@@ -95,13 +95,13 @@ module _ (c : ℕ) (functions predicates : List Symbol) where
     pub at : (x : List ℕ) (e : Entry) → entry_of x g ≡ Some e → (m : ℕ) (ss : List Standing) → AreGood m sort.Int ss → length ss ≡ e.arity → Good m e.sort (W x ss)
 
   -- what a term becomes
-  pub record Formed (g : List Entry) (b : Sorts) (W : Writer) (ns : Replacements) (m : ℕ) (t : Phrase) : Type 0 where
+  pub record Formed (g : List Entry) (b : Sorts) (W : Writer) (ns : Replacements) (m : ℕ) (t : PlacedTerm) : Type 0 where
     pub kind : Sort
     pub sorted : term_sort g b t ≡ Some kind
     pub good : Good m kind (said W ns t)
 
   -- what arguments of one sort become
-  record AlikeFormed (g : List Entry) (b : Sorts) (W : Writer) (ns : Replacements) (m : ℕ) (ts : Phrases) : Type 0 where
+  record AlikeFormed (g : List Entry) (b : Sorts) (W : Writer) (ns : Replacements) (m : ℕ) (ts : PlacedTerms) : Type 0 where
     kind : Sort
     first : first_of (sorts_in g b ts) ≡ Some kind
     good : AreGood m kind (all_said W ns ts)
@@ -111,20 +111,20 @@ module _ (c : ℕ) (functions predicates : List Symbol) where
   AreBranches m k [] = ⊥
   AreBranches m k (s ∷ ss) = Good m sort.Bool s × AreGood m k ss
 
-  record BranchesFormed (g : List Entry) (b : Sorts) (W : Writer) (ns : Replacements) (m : ℕ) (ts : Phrases) : Type 0 where
+  record BranchesFormed (g : List Entry) (b : Sorts) (W : Writer) (ns : Replacements) (m : ℕ) (ts : PlacedTerms) : Type 0 where
     kind : Sort
     second : second_of (sorts_in g b ts) ≡ Some kind
     good : AreBranches m kind (all_said W ns ts)
 
   -- what is known of the arguments of a symbol, by the faults that they have not
-  record Known (g : List Entry) (b : Sorts) (W : Writer) (ns : Replacements) (m : ℕ) (ts : Phrases) : Type 0 where
+  record Known (g : List Entry) (b : Sorts) (W : Writer) (ns : Replacements) (m : ℕ) (ts : PlacedTerms) : Type 0 where
     each : (k : Sort) → each_faults g b (Some k) ts ≡ [] → AreGood m k (all_said W ns ts)
     alike : 1 ≤ count ts → alike_faults g b ts ≡ [] → AlikeFormed g b W ns m ts
     branches : 2 ≤ count ts → branch_faults g b ts ≡ [] → BranchesFormed g b W ns m ts
     plains : each_faults g b (Some sort.Int) ts ≡ [] → (n : ℕ) → plain (map term_in (at_depth n (all_said W ns ts))) ≤ others ts
 
   -- an operator at its arguments
-  record OperatorFormed (g : List Entry) (b : Sorts) (W : Writer) (ns : Replacements) (m : ℕ) (o : Operator) (ts : Phrases) : Type 0 where
+  record OperatorFormed (g : List Entry) (b : Sorts) (W : Writer) (ns : Replacements) (m : ℕ) (o : Operator) (ts : PlacedTerms) : Type 0 where
     kind : Sort
     sorted : operator_sort o (count ts) (second_of (sorts_in g b ts)) ≡ Some kind
     good : Good m kind (λ n. operated o (at_depth n (all_said W ns ts)))
@@ -144,7 +144,7 @@ module _ (c : ℕ) (functions predicates : List Symbol) where
   branches_said m n k [] h e f = elim f [ ]
   branches_said m n k (s ∷ ss) h e f = three_said n k (at_depth (c + n) (s ∷ ss)) e (s (c + n)) (at_depth (c + n) ss) refl (f.0 n h) (said_at m n k ss h f.1)
 
-  operator_formed : (g : List Entry) (b : Sorts) (W : Writer) (ns : Replacements) (m : ℕ) (o : Operator) (at : ℕ) (ts : Phrases) → Known g b W ns m ts → takes o (count ts) ≡ true → product_faults o at ts ≡ []
+  operator_formed : (g : List Entry) (b : Sorts) (W : Writer) (ns : Replacements) (m : ℕ) (o : Operator) (at : ℕ) (ts : PlacedTerms) → Known g b W ns m ts → takes o (count ts) ≡ true → product_faults o at ts ≡ []
       → argument_faults g b (wants o) ts ≡ [] → OperatorFormed g b W ns m o ts
   operator_formed g b W ns m (op.Truth v) at ts w a p e = record { kind = sort.Bool; sorted = refl; good = λ n h. truth_said c functions predicates n v (at_depth (c + n) (all_said W ns ts)) }
   operator_formed g b W ns m op.Not at ts w a p e =
@@ -197,12 +197,12 @@ module _ (c : ℕ) (functions predicates : List Symbol) where
       record { kind = sort.Int; sorted = refl; good = λ n h. abs_said c functions predicates n (at_depth (c + n) (all_said W ns ts)) (depth_count W ns ts (c + n) ∙ exactly (count ts) 1 a) (said_at m n sort.Int (all_said W ns ts) h good) }
 
   -- a symbol at its arguments
-  record UseFormed (g : List Entry) (b : Sorts) (W : Writer) (ns : Replacements) (m : ℕ) (s : Option (Option Sort)) (p : Option Standing) (o : Option Operator) (y : Option Entry) (x : List ℕ) (ts : Phrases) : Type 0 where
+  record UseFormed (g : List Entry) (b : Sorts) (W : Writer) (ns : Replacements) (m : ℕ) (s : Option (Option Sort)) (p : Option Standing) (o : Option Operator) (y : Option Entry) (x : List ℕ) (ts : PlacedTerms) : Type 0 where
     kind : Sort
     sorted : use_sort s o y (count ts) (sorts_in g b ts) ≡ Some kind
     good : Good m kind (use_said W p o x (all_said W ns ts))
 
-  use_formed : (g : List Entry) (b : Sorts) (W : Writer) (ns : Replacements) (m : ℕ) (x : Name) (ts : Phrases) → SymbolsFormed g W → Known g b W ns m ts
+  use_formed : (g : List Entry) (b : Sorts) (W : Writer) (ns : Replacements) (m : ℕ) (x : Name) (ts : PlacedTerms) → SymbolsFormed g W → Known g b W ns m ts
       → (s : Option (Option Sort)) (p : Option Standing) → FoundFormed m s p → (o : Option Operator) (y : Option Entry) → entry_of x.text g ≡ y
       → use_faults s o y x ts ++ argument_faults g b (use_wants s o y) ts ≡ [] → UseFormed g b W ns m s p o y x.text ts
   use_formed g b W ns m x ts symbols w None (Some s) f o y q e = elim f [ ]
@@ -241,7 +241,7 @@ module _ (c : ℕ) (functions predicates : List Symbol) where
             (bound_formed false ys body (suc n) ((y, Some sort.Int) ∷ b) ((y, v) ∷ ns) (one y sort.Int v named (deeper (suc n) (omega arith) f)) h),
       )
 
-  none_found : (m : ℕ) (o : Option (Option Sort)) (p : Option Standing) (q : Option Operator) (y : Option Entry) (x : Name) (ts : Phrases) (more : List ScriptRefusal) → FoundFormed m o p → 1 ≤ count ts
+  none_found : (m : ℕ) (o : Option (Option Sort)) (p : Option Standing) (q : Option Operator) (y : Option Entry) (x : Name) (ts : PlacedTerms) (more : List ScriptRefusal) → FoundFormed m o p → 1 ≤ count ts
       → use_faults o q y x ts ++ more ≡ [] → (o ≡ None) × (p ≡ None)
   none_found m None None q y x ts more f some e = (refl, refl)
   none_found m None (Some s) q y x ts more f some e = elim f [ ]
@@ -251,7 +251,7 @@ module _ (c : ℕ) (functions predicates : List Symbol) where
       let none = exactly (count ts) 0 (fits_by (nat_eq (count ts) 0) x.at (none_both (arity_faults (nat_eq (count ts) 0) x.at) more e).0) in
       absurd (omega arith)
 
-  numeric_signs : (o : Option Operator) (p : Option (Option Sort)) (y : Option Entry) (g : List Entry) (b : Sorts) (ts : Phrases) → IsSign o → p ≡ None → (want : Option Need)
+  numeric_signs : (o : Option Operator) (p : Option (Option Sort)) (y : Option Entry) (g : List Entry) (b : Sorts) (ts : PlacedTerms) → IsSign o → p ≡ None → (want : Option Need)
       → argument_faults g b (use_wants p o y) ts ≡ [] → each_faults g b (Some sort.Int) ts ≡ []
   numeric_signs o p y g b ts i q want e = by i (sym (ap (λ z. argument_faults g b (use_wants z o y) ts) q) ∙ e)
     where
@@ -262,7 +262,7 @@ module _ (c : ℕ) (functions predicates : List Symbol) where
 
   -- a term without faults that is built of numerals becomes one
   mutual
-    numeral : (g : List Entry) (b : Sorts) (W : Writer) (ns : Replacements) (m : ℕ) (t : Phrase) → AreFormed m b ns → faults g b t ≡ [] → is_numeral t ≡ true → (n : ℕ) → is_numeric (term_in (said W ns t n)) ≡ true
+    numeral : (g : List Entry) (b : Sorts) (W : Writer) (ns : Replacements) (m : ℕ) (t : PlacedTerm) → AreFormed m b ns → faults g b t ≡ [] → is_numeral t ≡ true → (n : ℕ) → is_numeric (term_in (said W ns t n)) ≡ true
     numeral g b W ns m (number at k) f e h n = refl
     numeral g b W ns m (large at) f e h n = absurd (cc)
     numeral g b W ns m (let_in at bs t) f e h n = absurd (cc)
@@ -281,7 +281,7 @@ module _ (c : ℕ) (functions predicates : List Symbol) where
         subst (λ z. is_numeric (term_in (use_said W z (operator_of x.text) x.text (all_said W ns ts) n)) ≡ true) (sym none.1)
         (numeric_sign W x.text (all_said W ns ts) n sign (omega (arith, depth_count W ns ts n, some)) (numerals g b W ns m ts f each inner n))
 
-    numerals : (g : List Entry) (b : Sorts) (W : Writer) (ns : Replacements) (m : ℕ) (ts : Phrases) → AreFormed m b ns → each_faults g b (Some sort.Int) ts ≡ [] → are_numerals ts ≡ true → (n : ℕ)
+    numerals : (g : List Entry) (b : Sorts) (W : Writer) (ns : Replacements) (m : ℕ) (ts : PlacedTerms) → AreFormed m b ns → each_faults g b (Some sort.Int) ts ≡ [] → are_numerals ts ≡ true → (n : ℕ)
         → AreNumeric (at_depth n (all_said W ns ts))
     numerals g b W ns m no_phrase f e h n = tt
     numerals g b W ns m (and_phrase t ts) f e h n =
@@ -295,7 +295,7 @@ module _ (c : ℕ) (functions predicates : List Symbol) where
   plain_more n k false false h l = omega arith
   plain_more n k false true h l = absurd (let bad = h refl in cc)
 
-  plains_formed : (g : List Entry) (b : Sorts) (W : Writer) (ns : Replacements) (m : ℕ) (ts : Phrases) → AreFormed m b ns → each_faults g b (Some sort.Int) ts ≡ [] → (n : ℕ)
+  plains_formed : (g : List Entry) (b : Sorts) (W : Writer) (ns : Replacements) (m : ℕ) (ts : PlacedTerms) → AreFormed m b ns → each_faults g b (Some sort.Int) ts ≡ [] → (n : ℕ)
       → plain (map term_in (at_depth n (all_said W ns ts))) ≤ others ts
   plains_formed g b W ns m no_phrase f e n = omega arith
   plains_formed g b W ns m (and_phrase t ts) f e n =
@@ -304,7 +304,7 @@ module _ (c : ℕ) (functions predicates : List Symbol) where
       plain_more (plain (map term_in (at_depth n (all_said W ns ts)))) (others ts) (is_numeric (term_in (said W ns t n))) (is_numeral t) (λ h. numeral g b W ns m t f own.0 h n) (plains_formed g b W ns m ts f both.1 n)
 
   mutual
-    pub formed : (g : List Entry) (W : Writer) → SymbolsFormed g W → (t : Phrase) (b : Sorts) (ns : Replacements) (m : ℕ) → AreFormed m b ns → IsRangedPhrase t → faults g b t ≡ [] → Formed g b W ns m t
+    pub formed : (g : List Entry) (W : Writer) → SymbolsFormed g W → (t : PlacedTerm) (b : Sorts) (ns : Replacements) (m : ℕ) → AreFormed m b ns → IsRangedPhrase t → faults g b t ≡ [] → Formed g b W ns m t
     formed g W s (number at n) b ns m f h e = record { kind = sort.Int; sorted = refl; good = λ i l. (h, tt, tt, tt, tt) }
     formed g W s (large at) b ns m f h e = absurd (cc)
     formed g W s (used at x ts) b ns m f h e =
@@ -338,7 +338,7 @@ module _ (c : ℕ) (functions predicates : List Symbol) where
         record { kind = made.kind; sorted = made.sorted; good = made.good }
     formed g W s (ill at) b ns m f h e = absurd (cc)
 
-    each_formed : (g : List Entry) (W : Writer) → SymbolsFormed g W → (ts : Phrases) (b : Sorts) (ns : Replacements) (m : ℕ) (k : Sort) → AreFormed m b ns → AreRangedPhrases ts → each_faults g b (Some k) ts ≡ []
+    each_formed : (g : List Entry) (W : Writer) → SymbolsFormed g W → (ts : PlacedTerms) (b : Sorts) (ns : Replacements) (m : ℕ) (k : Sort) → AreFormed m b ns → AreRangedPhrases ts → each_faults g b (Some k) ts ≡ []
         → AreGood m k (all_said W ns ts)
     each_formed g W s no_phrase b ns m k f h e = tt
     each_formed g W s (and_phrase t ts) b ns m k f h e =
@@ -348,7 +348,7 @@ module _ (c : ℕ) (functions predicates : List Symbol) where
         let is = needed_is k made.kind (term_sort g b t) (first_byte t) made.sorted own.1 in
         (subst (λ z. Good m z (said W ns t)) is made.good, each_formed g W s ts b ns m k f h.1 both.1)
 
-    alike_formed : (g : List Entry) (W : Writer) → SymbolsFormed g W → (ts : Phrases) (b : Sorts) (ns : Replacements) (m : ℕ) → AreFormed m b ns → AreRangedPhrases ts → 1 ≤ count ts → alike_faults g b ts ≡ []
+    alike_formed : (g : List Entry) (W : Writer) → SymbolsFormed g W → (ts : PlacedTerms) (b : Sorts) (ns : Replacements) (m : ℕ) → AreFormed m b ns → AreRangedPhrases ts → 1 ≤ count ts → alike_faults g b ts ≡ []
         → AlikeFormed g b W ns m ts
     alike_formed g W s no_phrase b ns m f h l e = absurd (omega arith)
     alike_formed g W s (and_phrase t ts) b ns m f h l e =
@@ -357,7 +357,7 @@ module _ (c : ℕ) (functions predicates : List Symbol) where
         let more = each_formed g W s ts b ns m made.kind f h.1 (sym (ap (λ z. each_faults g b z ts) made.sorted) ∙ both.1) in
         record { kind = made.kind; first = made.sorted; good = (made.good, more) }
 
-    branches_formed : (g : List Entry) (W : Writer) → SymbolsFormed g W → (ts : Phrases) (b : Sorts) (ns : Replacements) (m : ℕ) → AreFormed m b ns → AreRangedPhrases ts → 2 ≤ count ts → branch_faults g b ts ≡ []
+    branches_formed : (g : List Entry) (W : Writer) → SymbolsFormed g W → (ts : PlacedTerms) (b : Sorts) (ns : Replacements) (m : ℕ) → AreFormed m b ns → AreRangedPhrases ts → 2 ≤ count ts → branch_faults g b ts ≡ []
         → BranchesFormed g b W ns m ts
     branches_formed g W s no_phrase b ns m f h l e = absurd (omega arith)
     branches_formed g W s (and_phrase t ts) b ns m f h l e =

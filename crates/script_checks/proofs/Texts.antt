@@ -11,12 +11,12 @@ use Rattle.sexpr.specs.Expressions.{Expr, exprs, expr}
 use Rattle.sexpr.proofs.Folds.{expr-Atom, expr-List}
 use Rattle.numerals.specs.Numerals.{decimal_value}
 use Rattle.script_lists.specs.Atoms.{atom_of, kind_of, span}
-use Rattle.script_lists.specs.Grammar.{IsScriptText, SayAll, Says, atom, list, more, nothing}
+use Rattle.script_lists.specs.Grammar.{IsScriptText, SayAll, SaysSexp, atom, list, more, nothing}
 use Rattle.script_commands.specs.Faults.{refusal_of}
 use Rattle.script_terms.specs.Scripts.{checks}
 use Rattle.script_checks.specs.Commands.{commands_of, script_terms}
 use Rattle.script_checks.proofs.Checks.{checks_formed}
-use Rattle.script_checks.specs.Formed.{AreRanged, IsFormedCheck, IsRanged, IsRangedAtom}
+use Rattle.script_checks.specs.Formed.{AreRangedExprs, IsFormedCheck, IsRangedExpr, IsRangedAtom}
 
 numeral_by : (n : ℕ) (b : Bool) → nat_lt n (2 ^ 127) ≡ b → IsRangedAtom (if b then k.Numeral (pos n) else k.LargeNumeral)
 numeral_by n true e = grind (arith, nat_tests)
@@ -38,26 +38,26 @@ kind_ranged b x t.Close = tt
 kind_ranged b x t.Bad = tt
 kind_ranged b x t.Unfinished = tt
 
-exprs_ranged : (es : List Expr) → AllByRecursion IsRanged es → AreRanged (exprs es)
+exprs_ranged : (es : List Expr) → AllByRecursion IsRangedExpr es → AreRangedExprs (exprs es)
 exprs_ranged [] h = tt
 exprs_ranged (e ∷ es) h = (h.0, exprs_ranged es h.1)
 
-more_ranged : (es : List Sexp) (e : Sexp) → AllByRecursion IsRanged (map expr es) → IsRanged (expr e) → AllByRecursion IsRanged (map expr (es ++ e ∷ []))
+more_ranged : (es : List Sexp) (e : Sexp) → AllByRecursion IsRangedExpr (map expr es) → IsRangedExpr (expr e) → AllByRecursion IsRangedExpr (map expr (es ++ e ∷ []))
 more_ranged [] e h k = (k, tt)
 more_ranged (x ∷ es) e h k = (h.0, more_ranged es e h.1 k)
 
 mutual
-  one_ranged : (b : List ℕ) (n : ℕ) (e : Sexp) (tokens : List Lexeme) → Says b n e tokens → IsRanged (expr e)
-  one_ranged b n e tokens (atom x a is parts) = subst IsRanged (sym (ap expr is ∙ expr-Atom (atom_of b x))) (kind_ranged b x x.terminal)
+  one_ranged : (b : List ℕ) (n : ℕ) (e : Sexp) (tokens : List Lexeme) → SaysSexp b n e tokens → IsRangedExpr (expr e)
+  one_ranged b n e tokens (atom x a is parts) = subst IsRangedExpr (sym (ap expr is ∙ expr-Atom (atom_of b x))) (kind_ranged b x x.terminal)
   one_ranged b n e tokens (list m x y es inner o all c levels is parts) =
-      subst IsRanged (sym (ap expr is ∙ expr-List x.at es)) (exprs_ranged (map expr es) (all_ranged b m es inner all))
+      subst IsRangedExpr (sym (ap expr is ∙ expr-List x.at es)) (exprs_ranged (map expr es) (all_ranged b m es inner all))
 
-  all_ranged : (b : List ℕ) (n : ℕ) (es : List Sexp) (tokens : List Lexeme) → SayAll b n es tokens → AllByRecursion IsRanged (map expr es)
-  all_ranged b n es tokens (nothing is parts) = subst (λ z. AllByRecursion IsRanged (map expr z)) (sym is) tt
+  all_ranged : (b : List ℕ) (n : ℕ) (es : List Sexp) (tokens : List Lexeme) → SayAll b n es tokens → AllByRecursion IsRangedExpr (map expr es)
+  all_ranged b n es tokens (nothing is parts) = subst (λ z. AllByRecursion IsRangedExpr (map expr z)) (sym is) tt
   all_ranged b n es tokens (more before e front back all one is parts) =
-      subst (λ z. AllByRecursion IsRanged (map expr z)) (sym is) (more_ranged before e (all_ranged b n before front all) (one_ranged b n e back one))
+      subst (λ z. AllByRecursion IsRangedExpr (map expr z)) (sym is) (more_ranged before e (all_ranged b n before front all) (one_ranged b n e back one))
 
-pub text_ranged : (bytes : List ℕ) (lists : List Sexp) → IsScriptText bytes lists → AllByRecursion IsRanged (map expr lists)
+pub text_ranged : (bytes : List ℕ) (lists : List Sexp) → IsScriptText bytes lists → AllByRecursion IsRangedExpr (map expr lists)
 text_ranged bytes lists h = all_ranged bytes 200 lists _ h.said
 
 pub text_checks : (bytes : List ℕ) (lists : List Sexp) → IsScriptText bytes lists → refusal_of script_terms (map expr lists) ≡ None → All IsFormedCheck (checks (commands_of (map expr lists)))

@@ -2,20 +2,20 @@
 use Rattle.std.specs.Prelude.{ℕ, ◌≤◌, List, [], ◌∷◌, length, Option, Some, None}
 use Rattle.sexpr.specs.Expressions.{Expr}
 use Rattle.script_commands.specs.Commands as form
-use Rattle.script_commands.specs.Commands.{Form}
+use Rattle.script_commands.specs.Commands.{CommandForm}
 use Rattle.script_commands.specs.Faults as faults
-use Rattle.script_commands.specs.Faults.{Terms}
+use Rattle.script_commands.specs.Faults.{TermFaults}
 use Rattle.script_commands.specs.Symbols.{or_int, sort_of}
 use Rattle.script_terms.specs.Scripts.{Command, declare, define, claim, check}
 use Rattle.script_typing.specs.Faults.{names_in, script_faults, script_uses}
 use Rattle.script_typing.specs.Reading.{phrase_of}
 
 -- the terms of scripts
-abbrev pub script_terms : Terms
+abbrev pub script_terms : TermFaults
 script_terms = record { faults = script_faults; uses = script_uses }
 
 -- a command before those behind it; nothing comes behind an `exit`
-abbrev pub with_form : Option Form → List Command → List Command
+abbrev pub with_form : Option CommandForm → List Command → List Command
 with_form (Some (form.declare x sorts s)) cs = declare x.text (length sorts) (or_int (sort_of s)) ∷ cs
 with_form (Some (form.define f arguments s t)) cs = define f.text (names_in arguments) (or_int (sort_of s)) (phrase_of t) ∷ cs
 with_form (Some (form.assert t)) cs = claim (phrase_of t) ∷ cs

@@ -35,13 +35,13 @@ IsRangedAtom (k.Numeral n) = InRange n
 IsRangedAtom _ = Unit {0}
 
 abbrev mutual
-  pub IsRanged : Expr → Type 0
-  IsRanged (atom a) = IsRangedAtom a.kind
-  IsRanged (list at es) = AreRanged es
+  pub IsRangedExpr : Expr → Type 0
+  IsRangedExpr (atom a) = IsRangedAtom a.kind
+  IsRangedExpr (list at es) = AreRangedExprs es
 
-  pub AreRanged : Exprs → Type 0
-  AreRanged no_expr = Unit {0}
-  AreRanged (and_expr e es) = IsRanged e × AreRanged es
+  pub AreRangedExprs : Exprs → Type 0
+  AreRangedExprs no_expr = Unit {0}
+  AreRangedExprs (and_expr e es) = IsRangedExpr e × AreRangedExprs es
 
 -- how many members a list has
 abbrev pub members : Exprs → ℕ

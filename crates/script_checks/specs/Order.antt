@@ -3,15 +3,15 @@ use Rattle.std.specs.Prelude.{List, [], ◌∷◌, ◌++◌, Option, Some}
 use Rattle.sexpr.specs.Expressions.{Expr, place_of}
 use Rattle.script_commands.specs.declared.refusal.ScriptRefusal.{ScriptRefusal}
 use Rattle.script_commands.specs.declared.table.Entry.{Entry}
-use Rattle.script_commands.specs.Commands.{Form, exit}
-use Rattle.script_commands.specs.Faults.{Terms, behind, command_faults, form}
+use Rattle.script_commands.specs.Commands.{CommandForm, exit}
+use Rattle.script_commands.specs.Faults.{TermFaults, behind, command_faults, form}
 
 -- what comes behind a command, unless that ends the script
-abbrev pub unless_end : Option Form → List ScriptRefusal → List ScriptRefusal
+abbrev pub unless_end : Option CommandForm → List ScriptRefusal → List ScriptRefusal
 unless_end (Some exit) later = []
 unless_end _ later = later
 
 -- the faults of all commands up to an `exit`, each behind the symbols of those before it
-abbrev pub all_faults : Terms → List Entry → List Expr → List ScriptRefusal
+abbrev pub all_faults : TermFaults → List Entry → List Expr → List ScriptRefusal
 all_faults terms table [] = []
 all_faults terms table (e ∷ es) = command_faults terms table (place_of e) (form e) ++ unless_end (form e) (all_faults terms (behind table (form e)) es)

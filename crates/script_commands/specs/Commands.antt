@@ -15,13 +15,13 @@ pub record Symbol : Type 0 where
 
 -- a command: without effect; a symbol that is declared, with the sorts of its arguments and its sort; a symbol that is
 -- defined, with its arguments, its sort and its term; an assertion; a check; the end
-pub data Form : Type 0 where
-  skip : Form
-  declare : Symbol → List Expr → Expr → Form
-  define : Symbol → List Expr → Expr → Expr → Form
-  assert : Expr → Form
-  check_sat : Form
-  exit : Form
+pub data CommandForm : Type 0 where
+  skip : CommandForm
+  declare : Symbol → List Expr → Expr → CommandForm
+  define : Symbol → List Expr → Expr → Expr → CommandForm
+  assert : Expr → CommandForm
+  check_sat : CommandForm
+  exit : CommandForm
 
 abbrev pub symbol_in : ℕ → AtomKind → Option Symbol
 symbol_in at (k.Symbol text) = Some (record { at = at; text = text })
@@ -66,24 +66,24 @@ pair_of (Some es) = pair_in es
 abbrev pub is_argument : Expr → Bool
 is_argument e = pair_of (members_of e)
 
-abbrev pub skips : Bool → Option Form
+abbrev pub skips : Bool → Option CommandForm
 skips true = Some skip
 skips false = None
 
-abbrev pub declares : Option Symbol → Option (List Expr) → Expr → Option Form
+abbrev pub declares : Option Symbol → Option (List Expr) → Expr → Option CommandForm
 declares (Some x) (Some sorts) s = Some (declare x sorts s)
 declares _ _ s = None
 
-abbrev pub defined : Symbol → List Expr → Expr → Expr → Bool → Option Form
+abbrev pub defined : Symbol → List Expr → Expr → Expr → Bool → Option CommandForm
 defined f arguments s t true = Some (define f arguments s t)
 defined f arguments s t false = None
 
-abbrev pub defines : Option Symbol → Option (List Expr) → Expr → Expr → Option Form
+abbrev pub defines : Option Symbol → Option (List Expr) → Expr → Expr → Option CommandForm
 defines (Some f) (Some arguments) s t = defined f arguments s t (list_all is_argument arguments)
 defines _ _ s t = None
 
 -- a command by its word and by what stands behind it
-abbrev pub command_by : Word → List Expr → Option Form
+abbrev pub command_by : Word → List Expr → Option CommandForm
 command_by w.SetLogic (l ∷ []) = skips (is_some (symbol_of l))
 command_by w.SetInfo (k ∷ []) = skips (is_keyword k)
 command_by w.SetInfo (k ∷ v ∷ []) = skips (is_keyword k)
@@ -96,11 +96,11 @@ command_by w.CheckSat [] = Some check_sat
 command_by w.Exit [] = Some exit
 command_by _ _ = None
 
-abbrev pub command_behind : Option Symbol → List Expr → Option Form
+abbrev pub command_behind : Option Symbol → List Expr → Option CommandForm
 command_behind None es = None
 command_behind (Some x) es = elim (word_of x.text) [ None ↦ None | Some w ↦ command_by w es ]
 
 -- the command that a list of these members is
-abbrev pub command_of : List Expr → Option Form
+abbrev pub command_of : List Expr → Option CommandForm
 command_of [] = None
 command_of (e ∷ es) = command_behind (symbol_of e) es

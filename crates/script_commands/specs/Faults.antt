@@ -7,14 +7,14 @@ use Rattle.script_commands.specs.declared.refusal.ScriptRefusal.{ScriptRefusal}
 use Rattle.script_commands.specs.declared.refusal.ScriptRefusal.TheVariants as r
 use Rattle.script_terms.specs.declared.operator.Sort.{Sort}
 use Rattle.script_terms.specs.declared.operator.Sort.TheVariants as sort
-use Rattle.script_commands.specs.Commands.{Symbol, Form, declare, define, assert, exit, members_of, command_of}
+use Rattle.script_commands.specs.Commands.{Symbol, CommandForm, declare, define, assert, exit, members_of, command_of}
 use Rattle.script_commands.specs.declared.table.Entry.{Entry}
 use Rattle.script_commands.specs.Least.{least}
 use Rattle.script_commands.specs.Symbols.{sort_of, after, declared_number, is_taken}
 
 -- what terms are asked for: the faults of a term where a sort is needed, or any, behind these symbols and with these arguments
 -- of a definition bound around it; and whether a symbol occurs in it that no binder and none of the arguments hides
-pub record Terms : Type 0 where
+pub record TermFaults : Type 0 where
   pub faults : List Entry → List Expr → Option Sort → Expr → List ScriptRefusal
   pub uses : List ℕ → List Expr → Expr → Bool
 
@@ -49,11 +49,11 @@ abbrev pub many_faults : List Entry → Symbol → List ScriptRefusal
 many_faults table x = if nat_le most_symbols (declared_number table) then r.Many x.at ∷ [] else []
 
 -- a symbol may not occur in the term that defines it
-abbrev pub use_faults : Terms → ℕ → List ℕ → List Expr → Expr → List ScriptRefusal
+abbrev pub use_faults : TermFaults → ℕ → List ℕ → List Expr → Expr → List ScriptRefusal
 use_faults terms at text arguments t = if terms.uses text arguments t then r.Profile at ∷ [] else []
 
 -- the faults of the term of a definition whose `(` is at this offset
-abbrev pub body_faults : Terms → List Entry → ℕ → List ℕ → List Expr → Option Sort → Expr → List ScriptRefusal
+abbrev pub body_faults : TermFaults → List Entry → ℕ → List ℕ → List Expr → Option Sort → Expr → List ScriptRefusal
 body_faults terms table at text arguments want t = use_faults terms at text arguments t ++ terms.faults table arguments want t
 
 -- the faults of a declaration
@@ -65,23 +65,23 @@ abbrev pub definition_faults : List Entry → Symbol → List Expr → Expr → 
 definition_faults table f arguments s = name_faults table f ++ flat_map argument_faults arguments ++ sort_faults true s
 
 -- the faults of the command whose `(` is at this offset, behind these symbols
-abbrev pub command_faults : Terms → List Entry → ℕ → Option Form → List ScriptRefusal
+abbrev pub command_faults : TermFaults → List Entry → ℕ → Option CommandForm → List ScriptRefusal
 command_faults terms table at None = r.Profile at ∷ []
 command_faults terms table at (Some (declare x sorts s)) = declaration_faults table x sorts s
 command_faults terms table at (Some (define f arguments s t)) = definition_faults table f arguments s ++ body_faults terms table at f.text arguments (sort_of s) t
 command_faults terms table at (Some (assert t)) = terms.faults table [] (Some sort.Bool) t
 command_faults terms table at (Some _) = []
 
-abbrev pub form_in : Option (List Expr) → Option Form
+abbrev pub form_in : Option (List Expr) → Option CommandForm
 form_in None = None
 form_in (Some es) = command_of es
 
 -- the command that an S-expression is
-abbrev pub form : Expr → Option Form
+abbrev pub form : Expr → Option CommandForm
 form e = form_in (members_of e)
 
 -- the symbols behind what may be a command
-abbrev pub behind : List Entry → Option Form → List Entry
+abbrev pub behind : List Entry → Option CommandForm → List Entry
 behind table None = table
 behind table (Some f) = after table f
 
@@ -90,17 +90,17 @@ abbrev pub or_later : Option ScriptRefusal → Option ScriptRefusal → Option S
 or_later None later = later
 or_later (Some e) later = Some e
 
-abbrev pub unless_exit : Option Form → Option ScriptRefusal → Option ScriptRefusal
+abbrev pub unless_exit : Option CommandForm → Option ScriptRefusal → Option ScriptRefusal
 unless_exit (Some exit) later = None
 unless_exit _ later = later
 
 -- the refusal of a script from a command on, behind these symbols: the least fault of the first command that has one, where
 -- no `exit` stands before it
-abbrev pub refusal_from : Terms → List Entry → List Expr → Option ScriptRefusal
+abbrev pub refusal_from : TermFaults → List Entry → List Expr → Option ScriptRefusal
 refusal_from terms table [] = None
 refusal_from terms table (e ∷ es) =
     or_later (least (command_faults terms table (place_of e) (form e))) (unless_exit (form e) (refusal_from terms (behind table (form e)) es))
 
 -- the refusal of a script
-abbrev pub refusal_of : Terms → List Expr → Option ScriptRefusal
+abbrev pub refusal_of : TermFaults → List Expr → Option ScriptRefusal
 refusal_of terms = refusal_from terms []

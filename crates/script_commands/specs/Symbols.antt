@@ -7,7 +7,7 @@ use Rattle.script_commands.specs.declared.table.Entry.{Entry}
 use Rattle.script_terms.specs.declared.operator.Sort.{Sort}
 use Rattle.script_terms.specs.declared.operator.Sort.TheVariants as sort
 use Rattle.script_terms.specs.Operators.{operator_of}
-use Rattle.script_commands.specs.Commands.{Symbol, symbol_of, Form, declare, define, is_some}
+use Rattle.script_commands.specs.Commands.{Symbol, symbol_of, CommandForm, declare, define, is_some}
 
 -- the sort of a name
 abbrev pub sort_named : List ℕ → Option Sort
@@ -30,7 +30,7 @@ abbrev pub entry : Symbol → List Expr → Expr → Bool → Entry
 entry x arguments s defined = record { text = x.text; arity = length arguments; sort = or_int (sort_of s); defined = defined }
 
 -- the symbols behind a command
-abbrev pub after : List Entry → Form → List Entry
+abbrev pub after : List Entry → CommandForm → List Entry
 after table (declare x sorts s) = table ++ entry x sorts s false ∷ []
 after table (define f arguments s t) = table ++ entry f arguments s true ∷ []
 after table _ = table

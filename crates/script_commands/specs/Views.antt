@@ -6,7 +6,7 @@ use Rattle.sexpr.specs.Expressions.{Expr, expr}
 use Rattle.script_commands.specs.declared.command.Name.{Name}
 use Rattle.script_commands.specs.declared.command.Command.{Command}
 use Rattle.script_commands.specs.declared.command.Command.TheVariants as c
-use Rattle.script_commands.specs.Commands.{Symbol, Form, skip, declare, define, assert, check_sat, exit}
+use Rattle.script_commands.specs.Commands.{Symbol, CommandForm, skip, declare, define, assert, check_sat, exit}
 
 -- the symbol that a name is
 abbrev pub symbol_is : Name → Symbol
@@ -17,7 +17,7 @@ abbrev pub items_of : Bor (List Sexp) → List Expr
 items_of es = map expr es.now
 
 -- what a command is
-abbrev pub form_of : Command → Form
+abbrev pub form_of : Command → CommandForm
 form_of c.Skip = skip
 form_of (c.Declare x sorts s) = declare (symbol_is x) (map expr sorts.now) (expr s.now)
 form_of (c.Define f arguments s t) = define (symbol_is f) (map expr arguments.now) (expr s.now) (expr t.now)

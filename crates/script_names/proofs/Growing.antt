@@ -2,7 +2,7 @@
 use Rattle.std.proofs.Common.{◌≡◌, ℕ, suc, ◌+◌, ◌<◌, ◌≤◌, Bool, true, false, List, [], ◌∷◌, ◌++◌, length, Some, refl, sym, ap, ap₂, subst, ◌∙◌, nat_eq, take, get_or, if◌then◌else◌, arith, append_assoc, length-append}
 use Rattle.std.proofs.lemmas.List.{length-take-le, take_more}
 use Rattle.texts.specs.Texts.{is_text, is_among}
-use Rattle.script_terms.specs.Term.{Phrase}
+use Rattle.script_terms.specs.Term.{PlacedTerm}
 use Rattle.script_terms.specs.Operators.{found}
 use Rattle.script_terms.specs.Evaluation as evaluation
 use Rattle.script_terms.specs.Evaluation.{Globals, defined_by, with_names}
@@ -128,7 +128,7 @@ there ds b ss n =
     ∙ ap (λ z. shape_said (calls_of z) ss (shape (get_or (ds ++ b ∷ []) (length ds) b)) n) (taken-all ds (b ∷ []))
     ∙ ap (λ z. shape_said (calls_of ds) ss (shape z) n) (got-last ds b b)
 
-pub agrees-define : (gs : Globals) (s s' : Symbols) (ds ds' : List Body) (b : Body) (x : List ℕ) (xs : List (List ℕ)) (t : Phrase) (k arity : ℕ) → StandsFor gs s ds → is_among x s.texts ≡ false
+pub agrees-define : (gs : Globals) (s s' : Symbols) (ds ds' : List Body) (b : Body) (x : List ℕ) (xs : List (List ℕ)) (t : PlacedTerm) (k arity : ℕ) → StandsFor gs s ds → is_among x s.texts ≡ false
     → s'.texts ≡ s.texts ++ x ∷ [] → s'.meant.items ≡ s.meant.items ++ m.Defined k arity ∷ [] → ds' ≡ ds ++ b ∷ [] → k ≡ length ds → arity ≡ length xs
     → ((e : List Standing) → length e ≡ length xs → shape_said (calls_of ds) e (shape b) ≡ said (symbol_said gs) (names_in e (slots_onto 0 xs [])) t)
     → StandsFor ((x, defined_by xs t) ∷ gs) s' ds'

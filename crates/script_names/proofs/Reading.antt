@@ -4,7 +4,7 @@ use Rattle.std.proofs.lemmas.List.{length-map, length-take-le, map-append, take_
 use Rattle.texts.specs.Texts.{is_text}
 use Rattle.script_terms.specs.Operators.{found}
 use Rattle.typed_formula.specs.Formula.{Formula}
-use Rattle.script_terms.specs.Term.{Phrase}
+use Rattle.script_terms.specs.Term.{PlacedTerm}
 use Rattle.script_terms.specs.declared.term.Variable.{Variable}
 use Rattle.script_terms.specs.Evaluation.{texts_of, with_names}
 use Rattle.script_terms.specs.Translation.{Said, a_formula, formula_in, Standing, Replacements, Writer, variable, said}
@@ -105,7 +105,7 @@ one-quantifier : (all : Bool) (x : List ℕ) (xs : List (List ℕ)) (F : Replace
 one-quantifier true x xs F c n = refl
 one-quantifier false x xs F c n = refl
 
-pub quantified-said : (D : Calls) (W : Writer) (all : Bool) (xs : List (List ℕ)) (t : Phrase) (s : Shape) (ls : BoundNames) (e : List Standing) (n : ℕ) → AreWithin (length e) ls
+pub quantified-said : (D : Calls) (W : Writer) (all : Bool) (xs : List (List ℕ)) (t : PlacedTerm) (s : Shape) (ls : BoundNames) (e : List Standing) (n : ℕ) → AreWithin (length e) ls
     → ((f : List Standing) → length f ≡ length e + length xs → shape_said D f s ≡ said W (names_in f (slots_onto (length e) xs ls)) t)
     → quantified_over all (length xs) (formula_in (shape_said D (with_variables (length xs) e n) s (n + length xs)))
     ≡ translation.bound_said all xs (λ c m. formula_in (said W c t m)) (names_in e ls) n

@@ -2,11 +2,11 @@
 use Rattle.std.proofs.Common.{ℕ, zero, suc, ◌+◌, ◌<◌, List, [], ◌∷◌, ap, arith, length, get_or}
 use Rattle.script_terms.specs.declared.term.Term.{Term}
 use Rattle.script_terms.specs.declared.term.Binding.{Binding}
-use Rattle.script_terms.specs.Term.{Phrase, Phrases, Bindings, phrase, phrases_of, bindings_of, number, large, used, let_in, quantified, annotated, ill, no_phrase, and_phrase, no_binding, and_binding}
+use Rattle.script_terms.specs.Term.{PlacedTerm, PlacedTerms, Bindings, phrase, phrases_of, bindings_of, number, large, used, let_in, quantified, annotated, ill, no_phrase, and_phrase, no_binding, and_binding}
 use Rattle.script_terms.proofs.Folds.{bound-term}
 
 abbrev mutual
-  pub weight : Phrase → ℕ
+  pub weight : PlacedTerm → ℕ
   weight (number at n) = 1
   weight (large at) = 1
   weight (used at x ts) = 2 + weights ts
@@ -15,7 +15,7 @@ abbrev mutual
   weight (annotated at t) = 1 + weight t
   weight (ill at) = 1
 
-  pub weights : Phrases → ℕ
+  pub weights : PlacedTerms → ℕ
   weights no_phrase = 0
   weights (and_phrase t ts) = 1 + (weight t + weights ts)
 

@@ -7,17 +7,17 @@ use Rattle.script_lists.specs.Grammar.{IsScriptText}
 use Rattle.script_lists.specs.First.{IsFirstListRefusal}
 use Rattle.script_commands.specs.declared.refusal.ScriptRefusal.{ScriptRefusal}
 use Rattle.script_commands.specs.declared.table.Entry.{Entry}
-use Rattle.script_commands.specs.Faults.{Terms, refusal_of}
+use Rattle.script_commands.specs.Faults.{TermFaults, refusal_of}
 use Rattle.script_commands.specs.Least.{IsScriptRefused}
 use Rattle.script_walk.specs.Steps.{symbols_of}
 use Rattle.script_reading.specs.Scripts.{IsTaken, RefusesScript, as_script}
 
-pub taken : (terms : Terms) (b : List ℕ) (es : List Sexp) (symbols : List Entry) → IsScriptText b es → refusal_of terms (map expr es) ≡ None → symbols ≡ symbols_of (map expr es)
+pub taken : (terms : TermFaults) (b : List ℕ) (es : List Sexp) (symbols : List Entry) → IsScriptText b es → refusal_of terms (map expr es) ≡ None → symbols ≡ symbols_of (map expr es)
     → IsTaken terms b symbols
 taken terms b es symbols s f a = record { lists = es; said = s; fits = f; are = a }
 
-pub refused_tokens : (terms : Terms) (b : List ℕ) (e : ReadRefusal) (fault : ScriptRefusal) → IsFirstListRefusal b e → fault ≡ as_script e → RefusesScript terms b fault
+pub refused_tokens : (terms : TermFaults) (b : List ℕ) (e : ReadRefusal) (fault : ScriptRefusal) → IsFirstListRefusal b e → fault ≡ as_script e → RefusesScript terms b fault
 refused_tokens terms b e fault f q = inl (record { tokens = e; first = f; is = q })
 
-pub refused_commands : (terms : Terms) (b : List ℕ) (es : List Sexp) (fault : ScriptRefusal) → IsScriptText b es → IsScriptRefused fault (refusal_of terms (map expr es)) → RefusesScript terms b fault
+pub refused_commands : (terms : TermFaults) (b : List ℕ) (es : List Sexp) (fault : ScriptRefusal) → IsScriptText b es → IsScriptRefused fault (refusal_of terms (map expr es)) → RefusesScript terms b fault
 refused_commands terms b es fault s q = inr (record { lists = es; said = s; is = q })

@@ -9,7 +9,7 @@ use Rattle.script_lists.specs.First.{IsFirstListRefusal}
 use Rattle.script_commands.specs.declared.refusal.ScriptRefusal.{ScriptRefusal}
 use Rattle.script_commands.specs.declared.refusal.ScriptRefusal.TheVariants as r
 use Rattle.script_commands.specs.declared.table.Entry.{Entry}
-use Rattle.script_commands.specs.Faults.{Terms, refusal_of}
+use Rattle.script_commands.specs.Faults.{TermFaults, refusal_of}
 use Rattle.script_commands.specs.Least.{IsScriptRefused}
 use Rattle.script_walk.specs.Steps.{symbols_of}
 
@@ -20,7 +20,7 @@ as_script (e.Deep at) = r.Deep at
 as_script e.Memory = r.Memory
 
 -- the text is lists, no command among them has a fault, and these are the symbols that they declare and define
-pub record IsTaken (terms : Terms) (bytes : List ℕ) (symbols : List Entry) : Type 0 where
+pub record IsTaken (terms : TermFaults) (bytes : List ℕ) (symbols : List Entry) : Type 0 where
   pub lists : List Sexp
   pub said : IsScriptText bytes lists
   pub fits : refusal_of terms (map expr lists) ≡ None
@@ -33,11 +33,11 @@ pub record RefusesTokens (bytes : List ℕ) (fault : ScriptRefusal) : Type 0 whe
   pub is : fault ≡ as_script tokens
 
 -- the text is lists, and this is the refusal of its commands
-pub record RefusesCommands (terms : Terms) (bytes : List ℕ) (fault : ScriptRefusal) : Type 0 where
+pub record RefusesCommands (terms : TermFaults) (bytes : List ℕ) (fault : ScriptRefusal) : Type 0 where
   pub lists : List Sexp
   pub said : IsScriptText bytes lists
   pub is : IsScriptRefused fault (refusal_of terms (map expr lists))
 
 -- the text is refused so
-abbrev pub RefusesScript : Terms → List ℕ → ScriptRefusal → Type 0
+abbrev pub RefusesScript : TermFaults → List ℕ → ScriptRefusal → Type 0
 RefusesScript terms bytes fault = RefusesTokens bytes fault ⊎ RefusesCommands terms bytes fault

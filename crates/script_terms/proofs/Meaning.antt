@@ -3,7 +3,7 @@ use Rattle.std.proofs.Common.{◌≡◌, ◌↔◌, ℕ, suc, ℤ, Bool, true, f
 use Rattle.typed_formula.specs.Formula.{Formula}
 use Rattle.typed_formula.specs.Truth.{Meaning, Truth}
 use Rattle.script_terms.specs.declared.operator.Operator.{Operator}
-use Rattle.script_terms.specs.Term.{Phrase, Phrases, Bindings, number, large, used, let_in, quantified, annotated, ill, no_phrase, and_phrase, no_binding, and_binding}
+use Rattle.script_terms.specs.Term.{PlacedTerm, PlacedTerms, Bindings, number, large, used, let_in, quantified, annotated, ill, no_phrase, and_phrase, no_binding, and_binding}
 use Rattle.script_terms.specs.Operators.{Value, integer, truth, applied, found, operator_of}
 use Rattle.script_terms.specs.Evaluation.{Values, Symbols, HasTruth, UseHas, Ranges, IsTruth, Has, HaveAll, HaveBound, names_of, terms_of, texts_of, with_names}
 use Rattle.script_terms.specs.Translation.{Said, formula_in, operated, Standing, Replacements, Writer, at_depth, use_said, variable, bound_said, said, all_said, bindings_said}
@@ -26,19 +26,19 @@ pub symbols_on : (w : Meaning) (e d : List ℤ) (S : Symbols) (W : Writer) → E
 symbols_on w e d S W x a = record { at = λ e' y. a.at e' (extends_further e d e' x y) }
 
 -- a term has a property exactly where what it becomes has it
-pub record Law (w : Meaning) (S : Symbols) (W : Writer) (t : Phrase) : Type 1 where
+pub record Law (w : Meaning) (S : Symbols) (W : Writer) (t : PlacedTerm) : Type 1 where
   pub at : (e : List ℤ) (b : Values) (c : Replacements) → SymbolsAgree w e S W → Agree w e b c → (P : Value → Type 0) → Stable P → Has S b t P ↔ SaidHas w (said W c t (length e)) e P
 
-data Laws (w : Meaning) (S : Symbols) (W : Writer) : Phrases → Type 1 where
+data Laws (w : Meaning) (S : Symbols) (W : Writer) : PlacedTerms → Type 1 where
   no_law : Laws w S W no_phrase
-  and_law : {t : Phrase} {ts : Phrases} → Law w S W t → Laws w S W ts → Laws w S W (and_phrase t ts)
+  and_law : {t : PlacedTerm} {ts : PlacedTerms} → Law w S W t → Laws w S W ts → Laws w S W (and_phrase t ts)
 
 -- the terms have these values
-record Evaluate (S : Symbols) (b : Values) (ts : Phrases) (vs : List Value) : Type 1 where
+record Evaluate (S : Symbols) (b : Values) (ts : PlacedTerms) (vs : List Value) : Type 1 where
   at : (Q : List Value → Type 0) → ListStable Q → HaveAll S b ts Q ↔ Q vs
 
 -- A fact that holds where it cannot fail may be shown with values of some terms at hand.
-with_values : (w : Meaning) (S : Symbols) → SymbolsStable S → (W : Writer) (ts : Phrases) → Laws w S W ts → (e : List ℤ) (b : Values) (c : Replacements) → SymbolsAgree w e S W → Agree w e b c
+with_values : (w : Meaning) (S : Symbols) → SymbolsStable S → (W : Writer) (ts : PlacedTerms) → Laws w S W ts → (e : List ℤ) (b : Values) (c : Replacements) → SymbolsAgree w e S W → Agree w e b c
     → (X : Type 0) → (¬ (¬ X) → X) → ((vs : List Value) → Evaluate S b ts vs → AllKeep w e (all_said W c ts) vs → X) → X
 with_values w S ss W no_phrase no_law e b c a g X st k = k [] (record { at = λ Q s. (λ h. h, λ h. h) }) no_keep
 with_values w S ss W (and_phrase t ts) (and_law l ls) e b c a g X st k =
@@ -113,7 +113,7 @@ pub junk_law : (w : Meaning) (e : List ℤ) (P : Value → Type 0) → P (truth 
 junk_law w e P = (λ h. (λ p. absurd (let bad : false ≡ true = p in cc), λ _. h), λ h. h.1 (λ p. let bad : false ≡ true = p in cc))
 
 -- a list of terms at a property of their values: both ways by values at hand
-at_values : (w : Meaning) (S : Symbols) → SymbolsStable S → (W : Writer) (ts : Phrases) → Laws w S W ts → (e : List ℤ) (b : Values) (c : Replacements) → SymbolsAgree w e S W → Agree w e b c
+at_values : (w : Meaning) (S : Symbols) → SymbolsStable S → (W : Writer) (ts : PlacedTerms) → Laws w S W ts → (e : List ℤ) (b : Values) (c : Replacements) → SymbolsAgree w e S W → Agree w e b c
     → (Q : List Value → Type 0) → ListStable Q → (Y : Type 0) → (¬ (¬ Y) → Y) → ((vs : List Value) → AllKeep w e (all_said W c ts) vs → Q vs ↔ Y) → HaveAll S b ts Q ↔ Y
 at_values w S ss W ts ls e b c a g Q sq Y sy is = (
   λ h. with_values w S ss W ts ls e b c a g Y sy (λ vs ev keep. (is vs keep).0 ((ev.at Q sq).0 h)),
@@ -129,7 +129,7 @@ bindings_all : (W : Writer) (c : Replacements) (bs : Bindings) → bindings_said
 bindings_all W c no_binding = refl
 bindings_all W c (and_binding x t bs) = ap (λ z. said W c t ∷ z) (bindings_all W c bs)
 
-used_law : (w : Meaning) (S : Symbols) → SymbolsStable S → (W : Writer) (at : ℕ) (x : List ℕ) (o : Option Operator) (ts : Phrases) → Laws w S W ts
+used_law : (w : Meaning) (S : Symbols) → SymbolsStable S → (W : Writer) (at : ℕ) (x : List ℕ) (o : Option Operator) (ts : PlacedTerms) → Laws w S W ts
     → (e : List ℤ) (b : Values) (c : Replacements) → SymbolsAgree w e S W → Agree w e b c → (P : Value → Type 0) → Stable P
     → HaveAll S b ts (λ vs. UseHas S (found x b) o x vs P) ↔ SaidHas w (use_said W (found x c) o x (all_said W c ts) (length e)) e P
 used_law w S ss W at x o ts ls e b c a g P st =
@@ -138,7 +138,7 @@ used_law w S ss W at x o ts ls e b c a g P st =
     (said_stable w (use_said W (found x c) o x (all_said W c ts) (length e)) e P st)
     (λ vs keep. use_is w e S W a (found x b) (found x c) (found_alike x g) o x (all_said W c ts) vs keep P st)
 
-let_law : (w : Meaning) (S : Symbols) → SymbolsStable S → (W : Writer) (bs : Bindings) (t : Phrase) → Laws w S W (terms_of bs) → Law w S W t
+let_law : (w : Meaning) (S : Symbols) → SymbolsStable S → (W : Writer) (bs : Bindings) (t : PlacedTerm) → Laws w S W (terms_of bs) → Law w S W t
     → (e : List ℤ) (b : Values) (c : Replacements) → SymbolsAgree w e S W → Agree w e b c → (P : Value → Type 0) → Stable P
     → HaveBound S b bs (λ vs. Has S (with_names (names_of bs) vs b) t P) ↔ SaidHas w (said W (with_names (names_of bs) (bindings_said W c bs) c) t (length e)) e P
 let_law w S ss W bs t ls l e b c a g P st =
@@ -151,7 +151,7 @@ let_law w S ss W bs t ls l e b c a g P st =
     subst (λ (X : Type 0). X ↔ SaidHas w (said W (with_names (names_of bs) (all_said W c (terms_of bs)) c) t (length e)) e P) (sym (bound_all S b bs Q)) all in
     subst (λ ss'. HaveBound S b bs Q ↔ SaidHas w (said W (with_names (names_of bs) ss' c) t (length e)) e P) (sym (bindings_all W c bs)) there
 
-quantified_law : (w : Meaning) (S : Symbols) (W : Writer) (all : Bool) (xs : List (List ℕ)) (t : Phrase) → Law w S W t
+quantified_law : (w : Meaning) (S : Symbols) (W : Writer) (all : Bool) (xs : List (List ℕ)) (t : PlacedTerm) → Law w S W t
     → (e : List ℤ) (b : Values) (c : Replacements) → SymbolsAgree w e S W → Agree w e b c → (P : Value → Type 0)
     → HasTruth (Ranges all xs (λ d. Has S d t IsTruth) b) P ↔ HasTruth (Truth w (bound_said all xs (λ d m. formula_in (said W d t m)) c (length e)) e) P
 quantified_law w S W all xs t l e b c a g P =
@@ -163,7 +163,7 @@ quantified_law w S W all xs t l e b c a g P =
     }) g)
 
 mutual
-  pub law : (w : Meaning) (S : Symbols) → SymbolsStable S → (W : Writer) (t : Phrase) → Law w S W t
+  pub law : (w : Meaning) (S : Symbols) → SymbolsStable S → (W : Writer) (t : PlacedTerm) → Law w S W t
   law w S ss W (number _ n) = record { at = λ e b c a g P st. (λ h. h, λ h. h) }
   law w S ss W (large _) = record { at = λ e b c a g P st. junk_law w e P }
   law w S ss W (used at x ts) = record { at = used_law w S ss W at x.text (operator_of x.text) ts (laws w S ss W ts) }
@@ -172,7 +172,7 @@ mutual
   law w S ss W (annotated _ t) = record { at = (law w S ss W t).at }
   law w S ss W (ill _) = record { at = λ e b c a g P st. junk_law w e P }
 
-  laws : (w : Meaning) (S : Symbols) → SymbolsStable S → (W : Writer) (ts : Phrases) → Laws w S W ts
+  laws : (w : Meaning) (S : Symbols) → SymbolsStable S → (W : Writer) (ts : PlacedTerms) → Laws w S W ts
   laws w S ss W no_phrase = no_law
   laws w S ss W (and_phrase t ts) = and_law (law w S ss W t) (laws w S ss W ts)
 

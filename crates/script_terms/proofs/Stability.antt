@@ -4,7 +4,7 @@ use Rattle.std.specs.Bool.{MatchBool}
 use Rattle.typed_formula.specs.Truth.{Meaning}
 use Rattle.texts.specs.Texts.{is_text}
 use Rattle.script_terms.specs.declared.operator.Operator.{Operator}
-use Rattle.script_terms.specs.Term.{Phrase, Phrases, Bindings, number, large, used, let_in, quantified, annotated, ill, no_phrase, and_phrase, no_binding, and_binding}
+use Rattle.script_terms.specs.Term.{PlacedTerm, PlacedTerms, Bindings, number, large, used, let_in, quantified, annotated, ill, no_phrase, and_phrase, no_binding, and_binding}
 use Rattle.script_terms.specs.Operators.{Value, integer, truth, applied, found, operator_of}
 use Rattle.script_terms.specs.Evaluation.{Values, Symbols, UseHas, Has, HaveAll, HaveBound, names_of, with_names, Meant, constant_of, function_of, predicate_of, defined_by, Globals, MeantHas, SymbolHas}
 use Rattle.script_terms.proofs.Values.{Stable}
@@ -23,7 +23,7 @@ use_stable S s None (Some o) x P st = record { at = λ vs. st.at (applied o vs) 
 use_stable S s None None x P st = record { at = λ vs. s.at x P st vs }
 
 mutual
-  pub has_stable : (S : Symbols) → SymbolsStable S → (b : Values) (t : Phrase) (P : Value → Type 0) → Stable P → ¬ (¬ (Has S b t P)) → Has S b t P
+  pub has_stable : (S : Symbols) → SymbolsStable S → (b : Values) (t : PlacedTerm) (P : Value → Type 0) → Stable P → ¬ (¬ (Has S b t P)) → Has S b t P
   has_stable S s b (number _ n) P st h = st.at (integer n) h
   has_stable S s b (large _) P st h = st.at (truth false) h
   has_stable S s b (used _ x ts) P st h = all_stable S s b ts _ (use_stable S s (found x.text b) (operator_of x.text) x.text P st) h
@@ -33,7 +33,7 @@ mutual
   has_stable S s b (annotated _ t) P st h = has_stable S s b t P st h
   has_stable S s b (ill _) P st h = st.at (truth false) h
 
-  pub all_stable : (S : Symbols) → SymbolsStable S → (b : Values) (ts : Phrases) (Q : List Value → Type 0) → ListStable Q → ¬ (¬ (HaveAll S b ts Q)) → HaveAll S b ts Q
+  pub all_stable : (S : Symbols) → SymbolsStable S → (b : Values) (ts : PlacedTerms) (Q : List Value → Type 0) → ListStable Q → ¬ (¬ (HaveAll S b ts Q)) → HaveAll S b ts Q
   all_stable S s b no_phrase Q st h = st.at [] h
   all_stable S s b (and_phrase t ts) Q st h =
       has_stable S s b t (λ v. HaveAll S b ts (λ vs. Q (v ∷ vs))) (record { at = λ v. all_stable S s b ts (λ vs. Q (v ∷ vs)) (record { at = λ vs. st.at (v ∷ vs) }) }) h

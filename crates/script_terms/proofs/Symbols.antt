@@ -7,7 +7,7 @@ use Rattle.typed_formula.specs.Formula.{Expression, expressions}
 use Rattle.typed_formula.specs.Truth.{Meaning, Truth, HasValue, HaveValues}
 use Rattle.typed_formula.proofs.Values.{values_more, values_clash}
 use Rattle.texts.specs.Texts.{is_text}
-use Rattle.script_terms.specs.Term.{Phrase}
+use Rattle.script_terms.specs.Term.{PlacedTerm}
 use Rattle.script_terms.specs.Operators.{Value, integer, truth, as_integer}
 use Rattle.script_terms.specs.Evaluation.{Symbols, IsTruth, Has, with_names, Meant, constant_of, function_of, predicate_of, defined_by, Globals, MeantHas, SymbolHas, IsTrue}
 use Rattle.script_terms.specs.Translation.{a_formula, a_term, term_in, Standing, Writer, at_depth, said, meant_said, symbol_said, asserted}
@@ -64,17 +64,17 @@ symbols_agree w u (g ∷ gs) lt = record { at = λ e x name ss vs keep P st. by 
     by e x name ss vs keep P st false a = a.at e x name ss vs keep P st
 
 -- the law of the terms of a script
-script_law : (w : Meaning) (u : List ℤ) (gs : Globals) (t : Phrase) → AreConstantsBelow (length u) gs → (P : Value → Type 0) → Stable P
+script_law : (w : Meaning) (u : List ℤ) (gs : Globals) (t : PlacedTerm) → AreConstantsBelow (length u) gs → (P : Value → Type 0) → Stable P
     → Has (SymbolHas w u gs) [] t P ↔ SaidHas w (said (symbol_said gs) [] t (length u)) u P
 script_law w u gs t lt P st = (law w (SymbolHas w u gs) (symbols_stable w u gs) (symbol_said gs) t).at u [] [] (symbols_agree w u gs lt) no_name P st
 
-pub value_law : (w : Meaning) (u : List ℤ) (gs : Globals) (t : Phrase) (v : Value) → AreConstantsBelow (length u) gs
+pub value_law : (w : Meaning) (u : List ℤ) (gs : Globals) (t : PlacedTerm) (v : Value) → AreConstantsBelow (length u) gs
     → Has (SymbolHas w u gs) [] t (λ x. x ≡ v) ↔ IsValue w (said (symbol_said gs) [] t (length u)) u v
 value_law w u gs t v lt =
     let is = script_law w u gs t lt (λ x. x ≡ v) (is_stable v) in
     (λ h. value_from w (said (symbol_said gs) [] t (length u)) u v (is.0 h), λ h. is.1 (has_property w (said (symbol_said gs) [] t (length u)) u v (λ x. x ≡ v) h refl))
 
-pub truth_law : (w : Meaning) (u : List ℤ) (gs : Globals) (t : Phrase) → AreConstantsBelow (length u) gs → Truth w (asserted gs (length u) t) u ↔ IsTrue w u gs t
+pub truth_law : (w : Meaning) (u : List ℤ) (gs : Globals) (t : PlacedTerm) → AreConstantsBelow (length u) gs → Truth w (asserted gs (length u) t) u ↔ IsTrue w u gs t
 truth_law w u gs t lt =
     let is = script_law w u gs t lt IsTruth truth_is_stable in
     let said_is = truth_said w (said (symbol_said gs) [] t (length u)) u in
@@ -82,10 +82,10 @@ truth_law w u gs t lt =
 
 -- A term has one value.
 
-pub one_value : (w : Meaning) (u : List ℤ) (gs : Globals) (t : Phrase) (v x : Value) → AreConstantsBelow (length u) gs
+pub one_value : (w : Meaning) (u : List ℤ) (gs : Globals) (t : PlacedTerm) (v x : Value) → AreConstantsBelow (length u) gs
     → Has (SymbolHas w u gs) [] t (λ y. y ≡ v) → Has (SymbolHas w u gs) [] t (λ y. y ≡ x) → v ≡ x
 one_value w u gs t v x lt h k =
     one_said w (said (symbol_said gs) [] t (length u)) u v x ((value_law w u gs t v lt).0 h) ((value_law w u gs t x lt).0 k)
 
-pub some_value : (w : Meaning) (u : List ℤ) (gs : Globals) (t : Phrase) → AreConstantsBelow (length u) gs → ¬ ((v : Value) → ¬ (Has (SymbolHas w u gs) [] t (λ x. x ≡ v)))
+pub some_value : (w : Meaning) (u : List ℤ) (gs : Globals) (t : PlacedTerm) → AreConstantsBelow (length u) gs → ¬ ((v : Value) → ¬ (Has (SymbolHas w u gs) [] t (λ x. x ≡ v)))
 some_value w u gs t lt h = some_said w (said (symbol_said gs) [] t (length u)) u (λ v is. h v ((value_law w u gs t v lt).1 is))

@@ -10,7 +10,7 @@ use Rattle.typed_formula.specs.Truth.{Meaning}
 use Rattle.texts.specs.Texts.{is_text}
 use Rattle.script_terms.specs.declared.operator.Operator.{Operator}
 use Rattle.script_terms.specs.declared.term.Variable.{Variable}
-use Rattle.script_terms.specs.Term.{Phrase, Phrases, Bindings, number, large, used, let_in, quantified, annotated, ill, no_phrase, and_phrase, no_binding, and_binding}
+use Rattle.script_terms.specs.Term.{PlacedTerm, PlacedTerms, Bindings, number, large, used, let_in, quantified, annotated, ill, no_phrase, and_phrase, no_binding, and_binding}
 use Rattle.script_terms.specs.Operators.{Value, integer, truth, as_integer, as_truth, applied, found, operator_of}
 
 -- the names that are bound where a term stands, with their values, the innermost first
@@ -29,7 +29,7 @@ names_of no_binding = []
 names_of (and_binding x t bs) = x ∷ names_of bs
 
 -- the terms to which it binds them
-abbrev pub terms_of : Bindings → Phrases
+abbrev pub terms_of : Bindings → PlacedTerms
 terms_of no_binding = no_phrase
 terms_of (and_binding x t bs) = and_phrase t (terms_of bs)
 
@@ -63,7 +63,7 @@ IsTruth v = as_truth v ≡ true
 
 abbrev mutual
   -- the value of the term has the property
-  pub Has : Symbols → Values → Phrase → (Value → Type 0) → Type 0
+  pub Has : Symbols → Values → PlacedTerm → (Value → Type 0) → Type 0
   Has S b (number _ n) P = P (integer n)
   Has S b (large _) P = P (truth false)
   Has S b (used _ x ts) P = HaveAll S b ts (λ vs. UseHas S (found x.text b) (operator_of x.text) x.text vs P)
@@ -73,7 +73,7 @@ abbrev mutual
   Has S b (ill _) P = P (truth false)
 
   -- the list of the values of the terms has the property
-  pub HaveAll : Symbols → Values → Phrases → (List Value → Type 0) → Type 0
+  pub HaveAll : Symbols → Values → PlacedTerms → (List Value → Type 0) → Type 0
   HaveAll S b no_phrase P = P []
   HaveAll S b (and_phrase t ts) P = Has S b t (λ v. HaveAll S b ts (λ vs. P (v ∷ vs)))
 
@@ -90,7 +90,7 @@ pub data Meant : Type 0 where
   constant_of : ℕ → Meant
   function_of : ℕ → Meant
   predicate_of : ℕ → Meant
-  defined_by : List (List ℕ) → Phrase → Meant
+  defined_by : List (List ℕ) → PlacedTerm → Meant
 
 -- the symbols of a script, the last one first
 abbrev pub Globals : Type 0
@@ -110,5 +110,5 @@ SymbolHas w u [] x vs P = P (truth false)
 SymbolHas w u (g ∷ gs) x vs P = MatchBool (is_text x g.0) (MeantHas w u (SymbolHas w u gs) g.1 vs P) (SymbolHas w u gs x vs P)
 
 -- the term is true in the interpretation, at these integers of the Int constants
-abbrev pub IsTrue : Meaning → List ℤ → Globals → Phrase → Type 0
+abbrev pub IsTrue : Meaning → List ℤ → Globals → PlacedTerm → Type 0
 IsTrue w u gs t = Has (SymbolHas w u gs) [] t IsTruth

@@ -5,7 +5,7 @@ use Rattle.typed_formula.specs.Formula.{Formula, formulas, negation, every}
 use Rattle.typed_formula.specs.Truth.{Meaning, Truth}
 use Rattle.script_terms.specs.declared.operator.Sort.{Sort}
 use Rattle.script_terms.specs.declared.operator.Sort.TheVariants as sort
-use Rattle.script_terms.specs.Term.{Phrase}
+use Rattle.script_terms.specs.Term.{PlacedTerm}
 use Rattle.script_terms.specs.Evaluation.{Globals, constant_of, function_of, predicate_of, defined_by, IsTrue}
 use Rattle.script_terms.specs.Translation.{asserted}
 
@@ -14,14 +14,14 @@ pub data Command : Type 0 where
   -- a symbol with so many arguments of the sort Int
   declare : List ℕ → ℕ → Sort → Command
   -- a function of these arguments by a term
-  define : List ℕ → List (List ℕ) → Sort → Phrase → Command
-  claim : Phrase → Command
+  define : List ℕ → List (List ℕ) → Sort → PlacedTerm → Command
+  claim : PlacedTerm → Command
   check : Command
 
 -- an asserted term, with the symbols before it
 pub record Claim : Type 0 where
   pub globals : Globals
-  pub term : Phrase
+  pub term : PlacedTerm
 
 -- a declared symbol with the number of its arguments
 pub record Declared : Type 0 where

@@ -10,7 +10,7 @@ use Rattle.typed_formula.specs.Formula.{Formula, Expression, formulas, expressio
 use Rattle.texts.specs.Texts.{is_text}
 use Rattle.script_terms.specs.declared.operator.Operator.{Operator}
 use Rattle.script_terms.specs.declared.operator.Operator.TheVariants as op
-use Rattle.script_terms.specs.Term.{Phrase, Phrases, Bindings, number, large, used, let_in, quantified, annotated, ill, no_phrase, and_phrase, no_binding, and_binding}
+use Rattle.script_terms.specs.Term.{PlacedTerm, PlacedTerms, Bindings, number, large, used, let_in, quantified, annotated, ill, no_phrase, and_phrase, no_binding, and_binding}
 use Rattle.script_terms.specs.Operators.{found, operator_of, neighbours, pairs}
 use Rattle.script_terms.specs.Evaluation.{with_names, names_of, texts_of, Meant, constant_of, function_of, predicate_of, defined_by, Globals}
 
@@ -135,7 +135,7 @@ bound_said false (x ∷ xs) body b n = logic.for_some sort.Int (bound_said false
 
 abbrev mutual
   -- what a term becomes where so many names are around
-  pub said : Writer → Replacements → Phrase → ℕ → Said
+  pub said : Writer → Replacements → PlacedTerm → ℕ → Said
   said W b (number _ k) n = a_term (logic.number k)
   said W b (large _) n = a_formula (logic.constant false)
   said W b (used _ x ts) n = use_said W (found x.text b) (operator_of x.text) x.text (all_said W b ts) n
@@ -145,7 +145,7 @@ abbrev mutual
   said W b (ill _) n = a_formula (logic.constant false)
 
   -- what each of several becomes
-  pub all_said : Writer → Replacements → Phrases → List Standing
+  pub all_said : Writer → Replacements → PlacedTerms → List Standing
   all_said W b no_phrase = []
   all_said W b (and_phrase t ts) = said W b t ∷ all_said W b ts
 
@@ -168,5 +168,5 @@ symbol_said [] x ss n = a_formula (logic.constant false)
 symbol_said (g ∷ gs) x ss n = if is_text x g.0 then meant_said (symbol_said gs) g.1 ss n else symbol_said gs x ss n
 
 -- the formula that an asserted term becomes, where so many constants are declared
-abbrev pub asserted : Globals → ℕ → Phrase → Formula
+abbrev pub asserted : Globals → ℕ → PlacedTerm → Formula
 asserted gs n t = formula_in (said (symbol_said gs) [] t n)

@@ -3,7 +3,7 @@
 
 ghost use Rattle.std.specs.Prelude.{◌≡◌, ◌↔◌, ℤ, List, [], length, All};
 ghost use Rattle.typed_formula.specs.Truth.{Meaning, Truth};
-ghost use Rattle.script_terms.specs.Term.{Phrase};
+ghost use Rattle.script_terms.specs.Term.{PlacedTerm};
 ghost use Rattle.script_terms.specs.Operators.{Value};
 ghost use Rattle.script_terms.specs.Evaluation.{Globals, Has, IsTrue, SymbolHas};
 ghost use Rattle.script_terms.specs.Translation.{asserted, said, symbol_said};
@@ -13,17 +13,17 @@ ghost use Rattle.script_terms.specs.Meaning.{AreConstantsBelow, IsValue};
 /// A term with `let` and `define-fun` written out has the value that it has where they are evaluated, and an asserted term
 /// becomes a formula that is true exactly where the term is.
 pub fn written_out_law()
-    ensures value { (w : Meaning) (u : List ℤ) (gs : Globals) (t : Phrase) (v : Value) → AreConstantsBelow (length u) gs
+    ensures value { (w : Meaning) (u : List ℤ) (gs : Globals) (t : PlacedTerm) (v : Value) → AreConstantsBelow (length u) gs
         → Has (SymbolHas w u gs) [] t (λ x. x ≡ v) ↔ IsValue w (said (symbol_said gs) [] t (length u)) u v }
-    ensures truth { (w : Meaning) (u : List ℤ) (gs : Globals) (t : Phrase) → AreConstantsBelow (length u) gs
+    ensures truth { (w : Meaning) (u : List ℤ) (gs : Globals) (t : PlacedTerm) → AreConstantsBelow (length u) gs
         → Truth w (asserted gs (length u) t) u ↔ IsTrue w u gs t }
 {}
 
 /// A term has one value: it has not two values, and it cannot fail to have one.
 pub fn value_law()
-    ensures one_value { (w : Meaning) (u : List ℤ) (gs : Globals) (t : Phrase) (v x : Value) → AreConstantsBelow (length u) gs
+    ensures one_value { (w : Meaning) (u : List ℤ) (gs : Globals) (t : PlacedTerm) (v x : Value) → AreConstantsBelow (length u) gs
         → Has (SymbolHas w u gs) [] t (λ y. y ≡ v) → Has (SymbolHas w u gs) [] t (λ y. y ≡ x) → v ≡ x }
-    ensures some_value { (w : Meaning) (u : List ℤ) (gs : Globals) (t : Phrase) → AreConstantsBelow (length u) gs
+    ensures some_value { (w : Meaning) (u : List ℤ) (gs : Globals) (t : PlacedTerm) → AreConstantsBelow (length u) gs
         → ¬ ((v : Value) → ¬ (Has (SymbolHas w u gs) [] t (λ x. x ≡ v))) }
 {}
 

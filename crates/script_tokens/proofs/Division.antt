@@ -5,7 +5,7 @@ use Rattle.script_tokens.specs.declared.terminals.Terminal.{Terminal}
 use Rattle.script_tokens.specs.declared.terminals.Terminal.TheVariants as t
 use Rattle.script_tokens.specs.declared.terminals.Lexeme.{Lexeme}
 use Rattle.script_tokens.specs.Lexemes.{piece_of, named, put, lexemes_from, lexemes_of}
-use Rattle.script_tokens.specs.Tokens.{IsSpelled, opens, closes, numeral, decimal, hexadecimal, binary, string, keyword, symbol, quoted, IsScriptToken, IsLongestPiece, IsScriptBlank, white, comment, IsOpen, string as open_string, bars, IsBad, IsScriptTokenized, ends, blank, token, unfinished, bad}
+use Rattle.script_tokens.specs.Tokens.{IsSpelled, opens, closes, numeral, decimal, hexadecimal, binary, string, keyword, symbol, quoted, IsScriptToken, IsLongestPiece, IsScriptBlank, white, comment, IsUnended, string as open_string, bars, IsBad, IsScriptTokenized, ends, blank, token, unfinished, bad}
 use Rattle.script_tokens.proofs.Scan.{lexemes_piece}
 use Rattle.script_tokens.proofs.Longest.{piece_at, token_reaches}
 use Rattle.script_tokens.proofs.Pieces.{Begun, a_blank, a_token, an_open, a_bad, piece_begun, open_is, blank_is}
@@ -132,11 +132,11 @@ piece_longest : (terminal : Terminal) (text front rest : List ℕ) → text ≡ 
 piece_longest terminal [] front rest parts some l = absurd (no_front front rest parts some)
 piece_longest terminal (b ∷ bs) front rest parts some l = piece_by terminal b bs front rest parts l (piece_begun b bs)
 
-open_some : IsOpen [] → ⊥
+open_some : IsUnended [] → ⊥
 open_some (open_string inner s is) = absurd (cc)
 open_some (bars inner a is) = absurd (cc)
 
-open_only : (at : ℕ) (text : List ℕ) → IsOpen text → lexemes_from at 0 text ≡ (record { at = at; len = length text; terminal = t.Unfinished }) ∷ []
+open_only : (at : ℕ) (text : List ℕ) → IsUnended text → lexemes_from at 0 text ≡ (record { at = at; len = length text; terminal = t.Unfinished }) ∷ []
 open_only at [] x = absurd (open_some x)
 open_only at (b ∷ bs) x = cut_all at b bs t.Unfinished (open_is (b ∷ bs) x)
 

@@ -15,7 +15,7 @@ use Rattle.script_tokens.specs.declared.strings.Ending.{Ending}
 use Rattle.script_tokens.specs.declared.strings.Ending.TheVariants as e
 use Rattle.script_tokens.specs.Bytes.{is_white, is_in_line, is_symbol_byte, is_string_byte, is_bar_byte, is_binary_digit}
 use Rattle.script_tokens.specs.Lexemes.{piece_of, named, blank as blank_piece, marked, bad as bad_piece, number_piece, more_digits, fraction_len, fraction_of, hash_piece, enclosed, ending_from, string_ending_of, bars_ending_of, bars_end}
-use Rattle.script_tokens.specs.Tokens.{is_run, begins, is_none, is_numeral, IsString, nothing, byte, pair, IsSpelled, opens, closes, numeral, decimal, hexadecimal, binary, string, keyword, symbol, quoted, IsScriptToken, IsScriptBlank, white, comment, IsOpen, string as open_string, bars}
+use Rattle.script_tokens.specs.Tokens.{is_run, begins, is_none, is_numeral, IsString, nothing, byte, pair, IsSpelled, opens, closes, numeral, decimal, hexadecimal, binary, string, keyword, symbol, quoted, IsScriptToken, IsScriptBlank, white, comment, IsUnended, string as open_string, bars}
 use Rattle.script_tokens.proofs.Longest.{piece_at, run_is, if_yes, choose}
 
 -- Runs.
@@ -65,7 +65,7 @@ whole_len : (b : ℕ) (bs : List ℕ) (terminal : Terminal) → named (1 + lengt
 whole_len b bs terminal = ap (λ z. named z terminal) (one-add (length bs))
 
 -- such a text is one token
-pub open_is : (text : List ℕ) → IsOpen text → piece_at text ≡ named (length text) t.Unfinished
+pub open_is : (text : List ℕ) → IsUnended text → piece_at text ≡ named (length text) t.Unfinished
 open_is text (open_string inner s is) =
     ap piece_at is ∙ ap (enclosed t.StringLiteral inner) (string_missing 0 inner s) ∙ whole_len 34 inner t.Unfinished ∙ ap (λ z. named (length z) t.Unfinished) (sym is)
 open_is text (bars inner a is) =
@@ -84,7 +84,7 @@ blank_is front rest (comment inner a h is) =
 pub data Begun (text : List ℕ) (piece : Piece) : Type 0 where
   a_blank : (front rest : List ℕ) → text ≡ front ++ rest → IsScriptBlank front rest → piece ≡ blank_piece (length front) → Begun text piece
   a_token : (terminal : Terminal) (front rest : List ℕ) → text ≡ front ++ rest → IsScriptToken terminal front rest → piece ≡ named (length front) terminal → Begun text piece
-  an_open : IsOpen text → piece ≡ named (length text) t.Unfinished → Begun text piece
+  an_open : IsUnended text → piece ≡ named (length text) t.Unfinished → Begun text piece
   a_bad : piece ≡ named (length text) t.Bad → Begun text piece
 
 bad_begun : (b : ℕ) (bs : List ℕ) → Begun (b ∷ bs) (bad_piece bs)

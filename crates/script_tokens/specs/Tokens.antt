@@ -61,16 +61,16 @@ pub data IsScriptBlank : List ℕ → List ℕ → Type 0 where
   comment : {front rest : List ℕ} (inner : List ℕ) → list_all is_in_line inner ≡ true → begins is_in_line rest ≡ false → front ≡ 59 ∷ inner → IsScriptBlank front rest
 
 -- a string or a symbol between bars that does not end
-pub data IsOpen : List ℕ → Type 0 where
-  string : {text : List ℕ} (inner : List ℕ) → IsString inner → text ≡ 34 ∷ inner → IsOpen text
-  bars : {text : List ℕ} (inner : List ℕ) → list_all is_bar_byte inner ≡ true → text ≡ 124 ∷ inner → IsOpen text
+pub data IsUnended : List ℕ → Type 0 where
+  string : {text : List ℕ} (inner : List ℕ) → IsString inner → text ≡ 34 ∷ inner → IsUnended text
+  bars : {text : List ℕ} (inner : List ℕ) → list_all is_bar_byte inner ≡ true → text ≡ 124 ∷ inner → IsUnended text
 
 -- no white space, comment or token begins the text, and it is no string or symbol without its end
 pub record IsBad (text : List ℕ) : Type 0 where
   pub some : text ≡ [] → ⊥
   pub blank : (front rest : List ℕ) → text ≡ front ++ rest → IsScriptBlank front rest → ⊥
   pub token : (terminal : Terminal) (front rest : List ℕ) → text ≡ front ++ rest → IsScriptToken terminal front rest → ⊥
-  pub open_ended : IsOpen text → ⊥
+  pub open_ended : IsUnended text → ⊥
 
 -- The text, which stands at this offset, is these tokens in order, each the longest that begins there, parted by white space
 -- and comments; where the text ends in a string or between bars, or where nothing begins, that is the last one.
@@ -80,5 +80,5 @@ pub data IsScriptTokenized : ℕ → List ℕ → List Lexeme → Type 0 where
       → IsScriptTokenized (at + length front) rest found → IsScriptTokenized at text found
   token : {at : ℕ} {text : List ℕ} {found : List Lexeme} (terminal : Terminal) (front rest : List ℕ) → text ≡ front ++ rest → IsLongestPiece terminal front rest
       → IsScriptTokenized (at + length front) rest found → IsScriptTokenized at text ((record { at = at; len = length front; terminal = terminal }) ∷ found)
-  unfinished : {at : ℕ} {text : List ℕ} → IsOpen text → IsScriptTokenized at text ((record { at = at; len = length text; terminal = t.Unfinished }) ∷ [])
+  unfinished : {at : ℕ} {text : List ℕ} → IsUnended text → IsScriptTokenized at text ((record { at = at; len = length text; terminal = t.Unfinished }) ∷ [])
   bad : {at : ℕ} {text : List ℕ} → IsBad text → IsScriptTokenized at text ((record { at = at; len = length text; terminal = t.Bad }) ∷ [])

@@ -7,13 +7,13 @@ use Rattle.sexpr.proofs.Folds.{expr-List}
 use Rattle.script_commands.specs.Commands.{Symbol, items, members_of, symbol_of}
 use Rattle.script_terms.specs.declared.term.Variable.{Variable}
 use Rattle.script_terms.specs.declared.term.Term.{Term}
-use Rattle.script_terms.specs.Term.{Phrase, BoundTerm, bindings, phrase, phrases, phrases_of, and_phrase, let_in, quantified, annotated, ill}
+use Rattle.script_terms.specs.Term.{PlacedTerm, BoundTerm, bindings, phrase, phrases, phrases_of, and_phrase, let_in, quantified, annotated, ill}
 use Rattle.script_typing.specs.declared.forms.Head.{Head}
 use Rattle.script_typing.specs.declared.forms.Head.TheVariants as head
 use Rattle.script_typing.specs.Reading.{are_attributes, are_proper, bindings_in, bound_by, bound_read, head_by, head_named, head_of, let_of, let_phrase, note_of, phrase_of, phrases_in, quantified_of, quantified_phrase, use_of, variables_of}
 
 -- the term of a list that begins so
-abbrev pub by_head : Head → ℕ → Option Symbol → Exprs → Phrase
+abbrev pub by_head : Head → ℕ → Option Symbol → Exprs → PlacedTerm
 by_head head.Let at x es = let_of at es
 by_head head.Forall at x es = quantified_of at true es
 by_head head.Exists at x es = quantified_of at false es
@@ -77,10 +77,10 @@ let_known at rest first behind body end b at' pairs bs p q e f is k =
     ∙ ap (λ z. let_of at (and_expr (list at' (exprs_of pairs)) (and_expr (expr body) (exprs_of z)))) (empty_is end b e f)
     ∙ ap (λ z. let_phrase at z (phrase_of (expr body))) (sym k)
 
-pub let_made : (at : ℕ) (bs : List BoundTerm) (t : Phrase) (b : Bool) → b ≡ are_proper bs → b ≡ true → let_phrase at (Some bs) t ≡ let_in at (bindings bs) t
+pub let_made : (at : ℕ) (bs : List BoundTerm) (t : PlacedTerm) (b : Bool) → b ≡ are_proper bs → b ≡ true → let_phrase at (Some bs) t ≡ let_in at (bindings bs) t
 let_made at bs t b e f = ap (λ z. if z then let_in at (bindings bs) t else ill at) (sym e ∙ f)
 
-pub let_refused : (at : ℕ) (bs : List BoundTerm) (t : Phrase) (b : Bool) → b ≡ are_proper bs → b ≡ false → let_phrase at (Some bs) t ≡ ill at
+pub let_refused : (at : ℕ) (bs : List BoundTerm) (t : PlacedTerm) (b : Bool) → b ≡ are_proper bs → b ≡ false → let_phrase at (Some bs) t ≡ ill at
 let_refused at bs t b e f = ap (λ z. if z then let_in at (bindings bs) t else ill at) (sym e ∙ f)
 
 long_quantified : (at : ℕ) (all : Bool) (x y : Expr) (end : List Sexp) (b : Bool) → b ≡ (length end == 0) → b ≡ false → quantified_of at all (and_expr x (and_expr y (exprs_of end))) ≡ ill at
@@ -109,7 +109,7 @@ quantified_known at all rest first behind body end b pairs xs p q e f is k =
     ∙ quantified_members at all (expr first) (expr body) pairs is
     ∙ ap (λ z. quantified_phrase at all z (phrase_of (expr body))) (sym k)
 
-pub quantified_made : (at : ℕ) (all : Bool) (xs : List Variable) (t : Phrase) (b : Bool) → (xs ≡ [] → IsTrue b) → b ≡ false → quantified_phrase at all (Some xs) t ≡ quantified at all xs t
+pub quantified_made : (at : ℕ) (all : Bool) (xs : List Variable) (t : PlacedTerm) (b : Bool) → (xs ≡ [] → IsTrue b) → b ≡ false → quantified_phrase at all (Some xs) t ≡ quantified at all xs t
 quantified_made at all [] t b e f = let q = subst IsTrue f (e refl) in cc
 quantified_made at all (x ∷ xs) t b e f = refl
 

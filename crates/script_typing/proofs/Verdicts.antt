@@ -15,7 +15,7 @@ use Rattle.script_terms.specs.declared.term.Name.{Name}
 use Rattle.script_terms.specs.declared.term.Variable.{Variable}
 use Rattle.script_terms.specs.declared.term.Term.{Term}
 use Rattle.script_terms.specs.declared.term.Term.TheVariants as t
-use Rattle.script_terms.specs.Term.{Phrase, Phrases, bindings_of, count, phrase, phrases_of}
+use Rattle.script_terms.specs.Term.{PlacedTerm, PlacedTerms, bindings_of, count, phrase, phrases_of}
 use Rattle.script_terms.specs.Operators.{found, operator_of}
 use Rattle.script_terms.specs.Evaluation.{names_of, texts_of, with_names}
 use Rattle.script_terms.proofs.Folds.{phrase-Let}
@@ -129,7 +129,7 @@ operator_is g b o at ts f p q fits n j s a h k w l m e =
 
 -- a symbol at its arguments
 
-abbrev by_use : List Entry → Sorts → Name → Phrases → Option (Option Sort) → Option Operator → Option Entry → Option ScriptRefusal → Judged
+abbrev by_use : List Entry → Sorts → Name → PlacedTerms → Option (Option Sort) → Option Operator → Option Entry → Option ScriptRefusal → Judged
 by_use g b x ts s o e f = judged f (use_faults s o e x ts ++ argument_faults g b (use_wants s o e) ts) (use_sort s o e (count ts) (sorts_in g b ts))
 
 -- what is used, in the order of the look-ups
@@ -163,7 +163,7 @@ symbol_use g b x ts f p q y want s e h l k w gives m =
     ∙ ap (λ z. by_use g b x (phrases_of ts) z (operator_of x.text) (entry_of x.text g) f) (sym e)
 
 -- a quantifier
-pub quantifier_is : (g : List Entry) (b inner : Sorts) (xs : List Variable) (body : Phrase) (f p : Option ScriptRefusal) (j : Judged) (s : Option Sort) → inner ≡ variables (texts_of xs) b
+pub quantifier_is : (g : List Entry) (b inner : Sorts) (xs : List Variable) (body : PlacedTerm) (f p : Option ScriptRefusal) (j : Judged) (s : Option Sort) → inner ≡ variables (texts_of xs) b
     → p ≡ least_from f (variable_faults xs) → j ≡ judged p (term_faults g inner (Some sort.Bool) body) s → verdict j.found (Some sort.Bool) ≡ judged f (quantifier_faults g b xs body) (Some sort.Bool)
 quantifier_is g b inner xs body f p j s i h e =
     judged_is j.found f (quantifier_faults g b xs body) (Some sort.Bool) (Some sort.Bool)

@@ -12,7 +12,7 @@ use Rattle.script_terms.specs.declared.operator.Operator.{Operator}
 use Rattle.script_terms.specs.declared.operator.Operator.TheVariants as op
 use Rattle.script_terms.specs.declared.term.Name.{Name}
 use Rattle.script_terms.specs.declared.term.Variable.{Variable}
-use Rattle.script_terms.specs.Term.{Phrase, Phrases, Bindings, number, large, used, let_in, quantified, annotated, ill, no_phrase, and_phrase, no_binding, and_binding, first_byte, count}
+use Rattle.script_terms.specs.Term.{PlacedTerm, PlacedTerms, Bindings, number, large, used, let_in, quantified, annotated, ill, no_phrase, and_phrase, no_binding, and_binding, first_byte, count}
 use Rattle.script_terms.specs.Operators.{found, operator_of}
 use Rattle.script_terms.specs.Evaluation.{with_names, names_of, texts_of}
 use Rattle.script_typing.specs.declared.operators.Need.{Need}
@@ -67,23 +67,23 @@ is_sign x = is_among x (codes "+" ∷ codes "-" ∷ codes "*" ∷ [])
 
 abbrev mutual
   -- built of numerals, and of `+`, `-` and `*` at one argument or more, as the term is written
-  pub is_numeral : Phrase → Bool
+  pub is_numeral : PlacedTerm → Bool
   is_numeral (number _ n) = true
   is_numeral (large _) = true
   is_numeral (used _ x ts) = is_sign x.text && nat_le 1 (count ts) && are_numerals ts
   is_numeral _ = false
 
-  pub are_numerals : Phrases → Bool
+  pub are_numerals : PlacedTerms → Bool
   are_numerals no_phrase = true
   are_numerals (and_phrase t ts) = is_numeral t && are_numerals ts
 
 -- how many are not built so
-abbrev pub others : Phrases → ℕ
+abbrev pub others : PlacedTerms → ℕ
 others no_phrase = 0
 others (and_phrase t ts) = if is_numeral t then others ts else suc (others ts)
 
 -- two arguments of a `*` are not built of numerals
-abbrev pub product_faults : Operator → ℕ → Phrases → List ScriptRefusal
+abbrev pub product_faults : Operator → ℕ → PlacedTerms → List ScriptRefusal
 product_faults op.Times at ts = if nat_lt 1 (others ts) then r.NonLinear at ∷ [] else []
 product_faults _ at ts = []
 
@@ -96,7 +96,7 @@ symbol_faults (Some e) x at n = arity_faults (nat_eq n e.arity) at
 symbol_faults None x at n = if is_unlisted x then r.Profile at ∷ [] else r.Undeclared at ∷ []
 
 -- the faults of the symbol of a use itself: a bound name, else an operator, else a symbol of the script
-abbrev pub use_faults : Option (Option Sort) → Option Operator → Option Entry → Name → Phrases → List ScriptRefusal
+abbrev pub use_faults : Option (Option Sort) → Option Operator → Option Entry → Name → PlacedTerms → List ScriptRefusal
 use_faults (Some s) o e x ts = arity_faults (nat_eq (count ts) 0) x.at
 use_faults None (Some o) e x ts = arity_faults (takes o (count ts)) x.at ++ product_faults o x.at ts
 use_faults None None e x ts = symbol_faults e x.text x.at (count ts)
@@ -112,7 +112,7 @@ variable_faults (x ∷ xs) = ill_faults x.ill ++ variable_faults xs
 
 abbrev mutual
   -- the faults of a term behind these symbols, where these names are bound
-  pub faults : List Entry → Sorts → Phrase → List ScriptRefusal
+  pub faults : List Entry → Sorts → PlacedTerm → List ScriptRefusal
   faults g b (number _ n) = []
   faults g b (large at) = r.Literal at ∷ []
   faults g b (used _ x ts) = use_faults (found x.text b) (operator_of x.text) (entry_of x.text g) x ts ++ (elim (use_wants (found x.text b) (operator_of x.text) (entry_of x.text g)) [
@@ -127,17 +127,17 @@ abbrev mutual
   faults g b (ill at) = r.Profile at ∷ []
 
   -- those of arguments that each need this sort
-  pub each_faults : List Entry → Sorts → Option Sort → Phrases → List ScriptRefusal
+  pub each_faults : List Entry → Sorts → Option Sort → PlacedTerms → List ScriptRefusal
   each_faults g b want no_phrase = []
   each_faults g b want (and_phrase t ts) = (faults g b t ++ kind_faults want (term_sort g b t) (first_byte t)) ++ each_faults g b want ts
 
   -- those of arguments that need the sort of the first
-  pub alike_faults : List Entry → Sorts → Phrases → List ScriptRefusal
+  pub alike_faults : List Entry → Sorts → PlacedTerms → List ScriptRefusal
   alike_faults g b no_phrase = []
   alike_faults g b (and_phrase t ts) = faults g b t ++ each_faults g b (term_sort g b t) ts
 
   -- those of a condition and of branches that need the sort of the first branch
-  pub branch_faults : List Entry → Sorts → Phrases → List ScriptRefusal
+  pub branch_faults : List Entry → Sorts → PlacedTerms → List ScriptRefusal
   branch_faults g b no_phrase = []
   branch_faults g b (and_phrase c ts) = (faults g b c ++ kind_faults (Some sort.Bool) (term_sort g b c) (first_byte c)) ++ alike_faults g b ts
 
@@ -147,12 +147,12 @@ abbrev mutual
   bound_faults g b (and_binding x t bs) = faults g b t ++ bound_faults g b bs
 
 -- the faults of a term of which this sort is needed
-abbrev pub term_faults : List Entry → Sorts → Option Sort → Phrase → List ScriptRefusal
+abbrev pub term_faults : List Entry → Sorts → Option Sort → PlacedTerm → List ScriptRefusal
 term_faults g b want t = faults g b t ++ kind_faults want (term_sort g b t) (first_byte t)
 
 abbrev mutual
   -- whether a term uses a symbol: it stands there where nothing binds it; nothing stands in what is no term
-  pub uses : List ℕ → Phrase → Bool
+  pub uses : List ℕ → PlacedTerm → Bool
   uses f (number _ n) = false
   uses f (large _) = false
   uses f (used _ x ts) = is_text f x.text || any_uses f ts
@@ -161,7 +161,7 @@ abbrev mutual
   uses f (annotated _ t) = uses f t
   uses f (ill _) = false
 
-  pub any_uses : List ℕ → Phrases → Bool
+  pub any_uses : List ℕ → PlacedTerms → Bool
   any_uses f no_phrase = false
   any_uses f (and_phrase t ts) = uses f t || any_uses f ts
 

@@ -11,7 +11,7 @@ use Rattle.script_terms.specs.declared.operator.Sort.{Sort}
 use Rattle.script_terms.specs.declared.operator.Sort.TheVariants as sort
 use Rattle.script_terms.specs.declared.term.Name.{Name}
 use Rattle.script_terms.specs.declared.term.Variable.{Variable}
-use Rattle.script_terms.specs.Term.{Phrase, Phrases, BoundTerm, bindings, number, large, used, let_in, quantified, annotated, ill, no_phrase, and_phrase}
+use Rattle.script_terms.specs.Term.{PlacedTerm, PlacedTerms, BoundTerm, bindings, number, large, used, let_in, quantified, annotated, ill, no_phrase, and_phrase}
 use Rattle.script_typing.specs.declared.forms.Head.{Head}
 use Rattle.script_typing.specs.declared.forms.Head.TheVariants as head
 
@@ -37,12 +37,12 @@ abbrev pub name_is : Symbol → Name
 name_is x = record { at = x.at; text = x.text }
 
 -- a symbol at its arguments
-abbrev pub use_of : ℕ → Option Symbol → Phrases → Phrase
+abbrev pub use_of : ℕ → Option Symbol → PlacedTerms → PlacedTerm
 use_of at None ts = ill at
 use_of at (Some x) ts = used at (name_is x) ts
 
 -- the term that an atom is
-abbrev pub atom_phrase : ℕ → AtomKind → Phrase
+abbrev pub atom_phrase : ℕ → AtomKind → PlacedTerm
 atom_phrase at (k.Numeral n) = number at n
 atom_phrase at k.LargeNumeral = large at
 atom_phrase at (k.Symbol x) = used at (record { at = at; text = x }) no_phrase
@@ -59,11 +59,11 @@ are_proper [] = false
 are_proper (b ∷ bs) = are_new [] (map (λ c. c.text) (b ∷ bs))
 
 -- a `let` of these bindings
-abbrev pub let_phrase : ℕ → Option (List BoundTerm) → Phrase → Phrase
+abbrev pub let_phrase : ℕ → Option (List BoundTerm) → PlacedTerm → PlacedTerm
 let_phrase at None t = ill at
 let_phrase at (Some bs) t = if are_proper bs then let_in at (bindings bs) t else ill at
 
-abbrev pub bound_by : Option Symbol → Phrase → Option BoundTerm
+abbrev pub bound_by : Option Symbol → PlacedTerm → Option BoundTerm
 bound_by None t = None
 bound_by (Some x) t = Some (record { text = x.text; term = t })
 
@@ -93,7 +93,7 @@ variables_of [] = Some []
 variables_of (e ∷ es) = before (variable_of e) (variables_of es)
 
 -- a quantifier with these variables: at least one
-abbrev pub quantified_phrase : ℕ → Bool → Option (List Variable) → Phrase → Phrase
+abbrev pub quantified_phrase : ℕ → Bool → Option (List Variable) → PlacedTerm → PlacedTerm
 quantified_phrase at all (Some (x ∷ xs)) t = quantified at all (x ∷ xs) t
 quantified_phrase at all _ t = ill at
 
@@ -109,7 +109,7 @@ are_attributes (e ∷ es) = are_attributes_behind false (e ∷ es)
 
 abbrev mutual
   -- the term that an S-expression is
-  pub phrase_of : Expr → Phrase
+  pub phrase_of : Expr → PlacedTerm
   phrase_of (atom a) = atom_phrase a.at a.kind
   phrase_of (list at no_expr) = ill at
   phrase_of (list at (and_expr h es)) = elim (head_of h) [
@@ -122,12 +122,12 @@ abbrev mutual
   ]
 
   -- the terms that S-expressions are
-  pub phrases_in : Exprs → Phrases
+  pub phrases_in : Exprs → PlacedTerms
   phrases_in no_expr = no_phrase
   phrases_in (and_expr e es) = and_phrase (phrase_of e) (phrases_in es)
 
   -- a `let` whose word these follow
-  pub let_of : ℕ → Exprs → Phrase
+  pub let_of : ℕ → Exprs → PlacedTerm
   let_of at (and_expr (list _ bs) (and_expr t no_expr)) = let_phrase at (bindings_in bs) (phrase_of t)
   let_of at _ = ill at
 
@@ -142,11 +142,11 @@ abbrev mutual
   bound_read _ = None
 
   -- a quantifier whose word these follow
-  pub quantified_of : ℕ → Bool → Exprs → Phrase
+  pub quantified_of : ℕ → Bool → Exprs → PlacedTerm
   quantified_of at all (and_expr (list _ xs) (and_expr t no_expr)) = quantified_phrase at all (variables_of (items xs)) (phrase_of t)
   quantified_of at all _ = ill at
 
   -- a `!` that these follow
-  pub note_of : ℕ → Exprs → Phrase
+  pub note_of : ℕ → Exprs → PlacedTerm
   note_of at (and_expr t attributes) = if are_attributes (items attributes) then annotated at (phrase_of t) else ill at
   note_of at no_expr = ill at

@@ -6,7 +6,7 @@ use Rattle.script_terms.specs.declared.operator.Sort.{Sort}
 use Rattle.script_terms.specs.declared.operator.Sort.TheVariants as sort
 use Rattle.script_terms.specs.declared.operator.Operator.{Operator}
 use Rattle.script_terms.specs.declared.operator.Operator.TheVariants as op
-use Rattle.script_terms.specs.Term.{Phrase, Phrases, Bindings, number, large, used, let_in, quantified, annotated, ill, no_phrase, and_phrase, no_binding, and_binding, count}
+use Rattle.script_terms.specs.Term.{PlacedTerm, PlacedTerms, Bindings, number, large, used, let_in, quantified, annotated, ill, no_phrase, and_phrase, no_binding, and_binding, count}
 use Rattle.script_terms.specs.Operators.{found, operator_of}
 use Rattle.script_terms.specs.Evaluation.{with_names, names_of}
 
@@ -48,7 +48,7 @@ variables xs b = with_names xs (map (λ x. Some sort.Int) xs) b
 
 abbrev mutual
   -- the sort of a term behind these symbols, where these names are bound
-  pub term_sort : List Entry → Sorts → Phrase → Option Sort
+  pub term_sort : List Entry → Sorts → PlacedTerm → Option Sort
   term_sort g b (number _ n) = Some sort.Int
   term_sort g b (large _) = Some sort.Int
   term_sort g b (used _ x ts) = use_sort (found x.text b) (operator_of x.text) (entry_of x.text g) (count ts) (sorts_in g b ts)
@@ -58,7 +58,7 @@ abbrev mutual
   term_sort g b (ill _) = None
 
   -- the sorts of several terms
-  pub sorts_in : List Entry → Sorts → Phrases → List (Option Sort)
+  pub sorts_in : List Entry → Sorts → PlacedTerms → List (Option Sort)
   sorts_in g b no_phrase = []
   sorts_in g b (and_phrase t ts) = term_sort g b t ∷ sorts_in g b ts
 

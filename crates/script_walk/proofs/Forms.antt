@@ -11,7 +11,7 @@ use Rattle.script_terms.specs.declared.operator.Sort.{Sort}
 use Rattle.script_commands.specs.declared.table.Entry.{Entry}
 use Rattle.script_commands.specs.Commands.{Symbol, declare, define, command_of}
 use Rattle.script_commands.specs.Symbols.{after, is_known, sort_of, or_int}
-use Rattle.script_commands.specs.Faults.{Terms, body_faults, command_faults, declaration_faults, definition_faults, form, form_in}
+use Rattle.script_commands.specs.Faults.{TermFaults, body_faults, command_faults, declaration_faults, definition_faults, form, form_in}
 use Rattle.script_commands.specs.Least.{IsScriptRefused, least, least_from}
 use Rattle.script_commands.proofs.Least.{two}
 use Rattle.script_commands.proofs.Fitting.{definable}
@@ -26,11 +26,11 @@ form-List at es = ap form_in (members-List at es)
 
 pub ruleset forms = (form-Atom, form-List)
 
-pub declared_passes : (terms : Terms) (table : List Entry) (at : ℕ) (x : Symbol) (sorts : List Expr) (s : Expr) (new : List Entry)
+pub declared_passes : (terms : TermFaults) (table : List Entry) (at : ℕ) (x : Symbol) (sorts : List Expr) (s : Expr) (new : List Entry)
     → least (declaration_faults table x sorts s) ≡ None → new ≡ after table (declare x sorts s) → PassesCommand terms table at (Some (declare x sorts s)) new
 declared_passes terms table at x sorts s new fits is = record { fits = fits; symbols = is }
 
-pub declared_stops : (terms : Terms) (table : List Entry) (at : ℕ) (x : Symbol) (sorts : List Expr) (s : Expr) (e : ScriptRefusal)
+pub declared_stops : (terms : TermFaults) (table : List Entry) (at : ℕ) (x : Symbol) (sorts : List Expr) (s : Expr) (e : ScriptRefusal)
     → IsScriptRefused e (least (declaration_faults table x sorts s)) → StopsCommand terms table at (Some (declare x sorts s)) e
 declared_stops terms table at x sorts s e is = record { is = is }
 
@@ -50,10 +50,10 @@ told (r.Profile at) a q = q
 told r.Memory a q = tt
 
 -- what was found of a definition
-pub record Found (terms : Terms) (table : List Entry) (at : ℕ) (x : Symbol) (arguments : List Expr) (s t : Expr) (found : Option ScriptRefusal) : Type 0 where
+pub record Found (terms : TermFaults) (table : List Entry) (at : ℕ) (x : Symbol) (arguments : List Expr) (s t : Expr) (found : Option ScriptRefusal) : Type 0 where
   pub is : found ≡ least (command_faults terms table at (Some (define x arguments s t)))
 
-pub found_of : (terms : Terms) (table : List Entry) (at : ℕ) (x : Symbol) (arguments : List Expr) (s t : Expr) (want : Option Sort) (p f : Option ScriptRefusal)
+pub found_of : (terms : TermFaults) (table : List Entry) (at : ℕ) (x : Symbol) (arguments : List Expr) (s t : Expr) (want : Option Sort) (p f : Option ScriptRefusal)
     → p ≡ least_from None (definition_faults table x arguments s) → want ≡ sort_of s → f ≡ least_from p (body_faults terms table at x.text arguments want t)
     → Found terms table at x arguments s t f
 found_of terms table at x arguments s t want p f h w k = record {
@@ -61,15 +61,15 @@ found_of terms table at x arguments s t want p f h w k = record {
       (k ∙ ap (λ z. least_from p (body_faults terms table at x.text arguments z t)) w);
 }
 
-pub found_stops : (terms : Terms) (table : List Entry) (at : ℕ) (x : Symbol) (arguments : List Expr) (s t : Expr) (found : Option ScriptRefusal) (e : ScriptRefusal)
+pub found_stops : (terms : TermFaults) (table : List Entry) (at : ℕ) (x : Symbol) (arguments : List Expr) (s t : Expr) (found : Option ScriptRefusal) (e : ScriptRefusal)
     → Found terms table at x arguments s t found → found ≡ Some e → StopsCommand terms table at (Some (define x arguments s t)) e
 found_stops terms table at x arguments s t found e f q = record { is = told e (least (command_faults terms table at (Some (define x arguments s t)))) (sym f.is ∙ q) }
 
-pub found_new : (terms : Terms) (table : List Entry) (at : ℕ) (x : Symbol) (arguments : List Expr) (s t : Expr) (found : Option ScriptRefusal)
+pub found_new : (terms : TermFaults) (table : List Entry) (at : ℕ) (x : Symbol) (arguments : List Expr) (s t : Expr) (found : Option ScriptRefusal)
     → Found terms table at x arguments s t found → found ≡ None → is_known x.text table ≡ false
 found_new terms table at x arguments s t found f q = definable (body_faults terms table at x.text arguments (sort_of s) t) table x arguments s (sym q ∙ f.is)
 
-pub found_passes : (terms : Terms) (table : List Entry) (at : ℕ) (x : Symbol) (arguments : List Sexp) (s t : Expr) (found : Option ScriptRefusal) (n : ℕ) (k : Sort) (new : List Entry)
+pub found_passes : (terms : TermFaults) (table : List Entry) (at : ℕ) (x : Symbol) (arguments : List Sexp) (s t : Expr) (found : Option ScriptRefusal) (n : ℕ) (k : Sort) (new : List Entry)
     → Found terms table at x (map expr arguments) s t found → found ≡ None → n ≡ length arguments → k ≡ or_int (sort_of s)
     → new ≡ table ++ (record { text = x.text; arity = n; sort = k; defined = true }) ∷ [] → PassesCommand terms table at (Some (define x (map expr arguments) s t)) new
 found_passes terms table at x arguments s t found n k new f q h l is = record {

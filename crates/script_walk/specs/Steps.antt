@@ -3,17 +3,17 @@ use Rattle.std.specs.Prelude.{ℕ, ◌≡◌, Bool, true, false, List, [], ◌�
 use Rattle.sexpr.specs.Expressions.{Expr}
 use Rattle.script_commands.specs.declared.refusal.ScriptRefusal.{ScriptRefusal}
 use Rattle.script_commands.specs.declared.table.Entry.{Entry}
-use Rattle.script_commands.specs.Commands.{Form, exit}
-use Rattle.script_commands.specs.Faults.{Terms, behind, command_faults, form}
+use Rattle.script_commands.specs.Commands.{CommandForm, exit}
+use Rattle.script_commands.specs.Faults.{TermFaults, behind, command_faults, form}
 use Rattle.script_commands.specs.Least.{IsScriptRefused, least}
 
 -- the command ends the script
-abbrev pub is_exit : Option Form → Bool
+abbrev pub is_exit : Option CommandForm → Bool
 is_exit (Some exit) = true
 is_exit _ = false
 
 -- what comes of the commands behind one; this where it ends the script
-abbrev pub unless_last : {A : Type 0} → Option Form → A → A → A
+abbrev pub unless_last : {A : Type 0} → Option CommandForm → A → A → A
 unless_last (Some exit) here later = here
 unless_last _ here later = later
 
@@ -27,10 +27,10 @@ abbrev pub symbols_of : List Expr → List Entry
 symbols_of = symbols_from []
 
 -- the command has no fault, and these are the symbols behind it
-pub record PassesCommand (terms : Terms) (table : List Entry) (at : ℕ) (command : Option Form) (new : List Entry) : Type 0 where
+pub record PassesCommand (terms : TermFaults) (table : List Entry) (at : ℕ) (command : Option CommandForm) (new : List Entry) : Type 0 where
   pub fits : least (command_faults terms table at command) ≡ None
   pub symbols : new ≡ behind table command
 
 -- the command is refused so
-pub record StopsCommand (terms : Terms) (table : List Entry) (at : ℕ) (command : Option Form) (e : ScriptRefusal) : Type 0 where
+pub record StopsCommand (terms : TermFaults) (table : List Entry) (at : ℕ) (command : Option CommandForm) (e : ScriptRefusal) : Type 0 where
   pub is : IsScriptRefused e (least (command_faults terms table at command))

@@ -4,7 +4,7 @@ use Rattle.std.proofs.lemmas.List.{map-append, take_all}
 use Rattle.texts.specs.Texts.{is_among}
 use Rattle.pri_typing.specs.declared.problem.Symbol.{Symbol}
 use Rattle.script_terms.specs.declared.operator.Sort.TheVariants as sort
-use Rattle.script_terms.specs.Term.{Phrase}
+use Rattle.script_terms.specs.Term.{PlacedTerm}
 use Rattle.script_terms.specs.Evaluation.{Globals, constant_of, function_of, predicate_of, defined_by}
 use Rattle.script_terms.specs.Scripts as scripts
 use Rattle.script_terms.specs.Scripts.{State, after_declaration}
@@ -79,7 +79,7 @@ module _ (r : Reading) (s : State) (x : List ℕ) (k : Known) (f : FollowsState 
     size = f.size;
   }
 
-  pub define_on : (xs ys : List (List ℕ)) (t : Phrase) (fs : Forms) → length k.definitions ≡ length r.known.definitions + 1
+  pub define_on : (xs ys : List (List ℕ)) (t : PlacedTerm) (fs : Forms) → length k.definitions ≡ length r.known.definitions + 1
       → (Describes r.forms (take (length k.definitions - 1) k.definitions) → Describes fs k.definitions) → ((gs : Globals) → Knows r.known gs → is_among x r.known.symbols.texts ≡ false → Knows k ((x, defined_by xs t) ∷ gs)) → xs ≡ ys
       → FollowsState (record { known = k; constants = r.constants; functions = r.functions; predicates = r.predicates; claims = r.claims; forms = fs; size = r.size })
       (record s { globals = (x, defined_by ys t) ∷ s.globals })
@@ -100,7 +100,7 @@ all_of : {A : Type 0} (xs : List A) → take (length xs) xs ≡ xs
 all_of [] = refl
 all_of (x ∷ xs) = ap (λ z. x ∷ z) (all_of xs)
 
-pub claim_on : (r : Reading) (s : State) (t : Phrase) (b : Body) (n : ℕ) (as_ : List Assertion) (one both : Size)
+pub claim_on : (r : Reading) (s : State) (t : PlacedTerm) (b : Body) (n : ℕ) (as_ : List Assertion) (one both : Size)
     → ((gs : Globals) → Knows r.known gs → shape_said (calls_of r.known.definitions) [] (shape b) ≡ said (symbol_said gs) [] t)
     → (Describes r.forms r.known.definitions → (m : ℕ) → one ≡ size (formula_in (shape_said (calls_of r.known.definitions) [] (shape b) m))) → both ≡ beside r.size one
     → n ≡ length r.known.definitions → as_ ≡ r.claims ++ (record { body = b; definitions = n }) ∷ [] → FollowsState r s

@@ -4,7 +4,7 @@ use Rattle.sexpr.specs.Expressions.{Expr, place_of}
 use Rattle.script_commands.specs.declared.refusal.ScriptRefusal.{ScriptRefusal}
 use Rattle.script_commands.specs.declared.table.Entry.{Entry}
 use Rattle.script_commands.specs.Commands as form
-use Rattle.script_commands.specs.Commands.{Form}
+use Rattle.script_commands.specs.Commands.{CommandForm}
 use Rattle.script_commands.specs.Symbols.{entry, texts_of}
 use Rattle.script_commands.specs.Faults as faults
 use Rattle.script_commands.specs.Faults.{behind, body_faults, command_faults, or_later, refusal_from, refusal_of, unless_exit}
@@ -33,7 +33,7 @@ AreNewBehind es = (g : List Entry) → refusal_from script_terms g es ≡ None �
 more_new : (g : List Entry) (e : Entry) (cs : List Command) → AreNew (texts_of (g ++ e ∷ [])) cs → AreNew (texts_of g ++ e.text ∷ []) cs
 more_new g e cs h = subst (λ z. AreNew z cs) (texts_more g e) h
 
-command_new : (es : List Expr) → AreNewBehind es → (g : List Entry) (at : ℕ) (f : Option Form) → least (command_faults script_terms g at f) ≡ None
+command_new : (es : List Expr) → AreNewBehind es → (g : List Entry) (at : ℕ) (f : Option CommandForm) → least (command_faults script_terms g at f) ≡ None
     → unless_exit f (refusal_from script_terms (behind g f) es) ≡ None → AreNew (texts_of g) (with_form f (commands_of es))
 command_new es go g at None e later = absurd (cc)
 command_new es go g at (Some form.skip) e later = go g later

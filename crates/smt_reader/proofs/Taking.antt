@@ -4,7 +4,7 @@ use Rattle.pri_typing.specs.declared.problem.Problem.{Problem}
 use Rattle.script_terms.specs.Scripts.{Command, State, after, declare, define, claim, check, checks, checks_from}
 use Rattle.script_checks.specs.Posed.{IsCheckPosed}
 use Rattle.smt_reader.specs.declared.following.Reading.{Reading}
-use Rattle.smt_reader.specs.Following.{AreNew, FollowsState, IsNew, texts_behind}
+use Rattle.smt_reader.specs.Following.{AreNew, FollowsState, IsNewSymbol, texts_behind}
 use Rattle.smt_reader.specs.Poses.{ArePosed}
 use Rattle.std.proofs.lemmas.List.{map-append}
 use Rattle.typed_formula.specs.Formula.{formulas}
@@ -34,8 +34,8 @@ one_on s check cs = refl
 
 pub taken_on : (r new : Reading) (c more : Gathered) (k : Command) (cs all : List Command) → AreTaken r c (k ∷ cs) all
     → ((s : State) (done : List State) → FollowsState r s → ArePosed done c.problems → c.size ≡ size_together done → c.size ≢ Large → IsGathered (done ++ at_check s k) (Some more))
-    → ((s : State) → FollowsState r s → IsNew r.known.symbols.texts k → FollowsState new (after s k))
-    → (IsNew r.known.symbols.texts k → new.known.symbols.texts ≡ texts_behind r.known.symbols.texts k)
+    → ((s : State) → FollowsState r s → IsNewSymbol r.known.symbols.texts k → FollowsState new (after s k))
+    → (IsNewSymbol r.known.symbols.texts k → new.known.symbols.texts ≡ texts_behind r.known.symbols.texts k)
     → AreTaken new more cs all
 taken_on r new c more k cs all h taken follows texts =
     let now : IsGathered (h.done ++ at_check h.state k) (Some more) = taken h.state h.done h.follows h.posed h.size h.small in

@@ -38,11 +38,11 @@ pub record FollowsState (r : Reading) (s : State) : Type 0 where
   pub size : (n : ℕ) → r.size ≡ all_sizes (formulas (map (λ c. asserted c.globals n c.term) s.claims))
 
 -- a symbol that is declared or defined is none of these
-abbrev pub IsNew : List (List ℕ) → Command → Type 0
-IsNew texts (declare x n k) = is_among x texts ≡ false
-IsNew texts (define x xs k t) = is_among x texts ≡ false
-IsNew texts (claim t) = Unit {0}
-IsNew texts check = Unit {0}
+abbrev pub IsNewSymbol : List (List ℕ) → Command → Type 0
+IsNewSymbol texts (declare x n k) = is_among x texts ≡ false
+IsNewSymbol texts (define x xs k t) = is_among x texts ≡ false
+IsNewSymbol texts (claim t) = Unit {0}
+IsNewSymbol texts check = Unit {0}
 
 -- the symbols behind a command
 abbrev pub texts_behind : List (List ℕ) → Command → List (List ℕ)
@@ -54,4 +54,4 @@ texts_behind texts check = texts
 -- no symbol is declared or defined twice
 abbrev pub AreNew : List (List ℕ) → List Command → Type 0
 AreNew texts [] = Unit {0}
-AreNew texts (c ∷ cs) = IsNew texts c × AreNew (texts_behind texts c) cs
+AreNew texts (c ∷ cs) = IsNewSymbol texts c × AreNew (texts_behind texts c) cs

@@ -8,7 +8,7 @@ ghost use Rattle.script_terms.specs.Scripts as scripts;
 ghost use Rattle.script_terms.specs.Scripts.{State, after, after_declaration};
 ghost use Rattle.script_terms.specs.Term.{phrase};
 ghost use Rattle.script_checks.specs.Effects.{command_is};
-ghost use Rattle.smt_reader.specs.Following.{FollowsState, IsNew, texts_behind};
+ghost use Rattle.smt_reader.specs.Following.{FollowsState, IsNewSymbol, texts_behind};
 
 use linear_term::Memory;
 use pri_typing::Symbol;
@@ -278,8 +278,8 @@ fn claim(alloc: Global, reading: Reading, term: &Term) -> Result<Reading, Memory
 
 /// What comes of a command more.
 pub(crate) fn follow(alloc: Global, reading: Reading, effect: &Effect) -> Result<Reading, Memory>
-    ensures follows { IfOk result (λ r. (s : State) → FollowsState reading s → IsNew reading.known.symbols.texts (command_is effect.now) → FollowsState r (after s (command_is effect.now))) }
-    ensures texts { IfOk result (λ r. IsNew reading.known.symbols.texts (command_is effect.now) → r.known.symbols.texts ≡ texts_behind reading.known.symbols.texts (command_is effect.now)) }
+    ensures follows { IfOk result (λ r. (s : State) → FollowsState reading s → IsNewSymbol reading.known.symbols.texts (command_is effect.now) → FollowsState r (after s (command_is effect.now))) }
+    ensures texts { IfOk result (λ r. IsNewSymbol reading.known.symbols.texts (command_is effect.now) → r.known.symbols.texts ≡ texts_behind reading.known.symbols.texts (command_is effect.now)) }
 {
     match effect {
         Effect::Declare(text, arity, sort) => {

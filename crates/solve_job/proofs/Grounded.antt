@@ -22,10 +22,10 @@ use Rattle.search.specs.Closed.{IsClosed, AreClosed}
 use Rattle.purse.specs.Ending.{ending, out_of_steps}
 use Rattle.search.specs.Run.{canonical_run}
 use Rattle.search.proofs.Closed.{closed_enough}
-use Rattle.solve_job.specs.Ground.{IsGround, IsEnough, IsPlain}
+use Rattle.solve_job.specs.Ground.{IsGround, IsEnough, IsGroundFormula}
 
 plain : Property
-plain = record { of_formula = IsPlain; of_term = IsNoCall }
+plain = record { of_formula = IsGroundFormula; of_term = IsNoCall }
 
 related_closed : (r : Relation) (a b : Linear) → IsClosed (related r a b).value
 unfolding next just step

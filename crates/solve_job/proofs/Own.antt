@@ -11,7 +11,7 @@ use Rattle.proof_tokens.specs.declared.tokens.Token.{Token}
 use Rattle.proof_tokens.specs.declared.tokens.Token.TheVariants as t
 use Rattle.proof_tokens.specs.Lines.{counted_text, entries_text, numbered_text}
 use Rattle.proof_tokens.specs.Reading.{Cuts}
-use Rattle.proof_tokens.specs.Spellings.{AreSpaced, IsEntry, IsGood, IsRanged, IsProofToken, spelled}
+use Rattle.proof_tokens.specs.Spellings.{AreSpaced, IsEntry, IsGood, IsRangedToken, IsProofToken, spelled}
 use Rattle.proof_tokens.proofs.Cutting.{piece_ranged, spelled_front}
 use Rattle.proof_tokens.proofs.Spaced.{charges_spaced, counted_spaced, head_spaced, log_spaced, log_use_spaced, none_spaced, none_use_spaced, numbered_spaced, part_spaced, parts_spaced, sign_spaced, solution_spaced, spaced_append, word_spaced}
 use Rattle.proof_line.specs.declared.lines.Owed.{Owed}
@@ -26,7 +26,7 @@ use Rattle.proof_file.proofs.Own.{own_body}
 use Rattle.proof_printer.proofs.Readable.{gives_spaced}
 
 abbrev AreRanged : List Token → Type 0
-AreRanged xs = AllByRecursion IsRanged xs
+AreRanged xs = AllByRecursion IsRangedToken xs
 
 -- ---- the numbers of tokens that were cut are in their ranges
 cut_ranged : (xs : List Token) (bytes rest : List ℕ) → Cuts xs bytes rest → AreRanged xs

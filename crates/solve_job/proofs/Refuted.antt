@@ -18,7 +18,7 @@ use Rattle.pri_typing.specs.WellFormed.{IsWellFormed}
 use Rattle.problem_file.specs.Reads.{AreSame}
 use Rattle.problem_file.proofs.Encoded.{root_same}
 use Rattle.problem_file.proofs.Reduced.{problem_reduced}
-use Rattle.open_trees.specs.Levels.{HasLevels}
+use Rattle.open_trees.specs.Levels.{IsWithinLevels}
 use Rattle.open_trees.specs.Open.{IsSaturatedTree}
 use Rattle.open_trees.specs.Rows.{table_at}
 use Rattle.open_trees.specs.Walk.{Stop, walk}
@@ -30,14 +30,14 @@ use Rattle.solve_job.specs.Solved.{run_end}
 
 -- the tree of such a run is open, and how many levels it has
 ended_so : (budget : ℕ) (p : Problem) → IsFormOver (length p.existentials) (problem_root p).value → (log : List Entry) (x : Proof) (stands : At) → run_end budget p ≡ ends_with (run.saturated log x) stands
-    → IsSaturatedTree (problem_root p).value (length p.existentials) x × HasLevels 2000 x
+    → IsSaturatedTree (problem_root p).value (length p.existentials) x × IsWithinLevels 2000 x
 ended_so budget p over log x stands is = saturated_says (problem_root p).value (length p.existentials) (record { budget = budget; spent = 0 }) log x stands over (problem_reduced p) is
 
 pub saturated_is : (budget : ℕ) (p : Problem) → IsFormOver (length p.existentials) (problem_root p).value → (log : List Entry) (x : Proof) (stands : At) → run_end budget p ≡ ends_with (run.saturated log x) stands
     → IsSaturatedTree (problem_root p).value (length p.existentials) x
 saturated_is budget p over log x stands is = (ended_so budget p over log x stands is).0
 
-pub levels_are : (budget : ℕ) (p : Problem) → IsFormOver (length p.existentials) (problem_root p).value → (log : List Entry) (x : Proof) (stands : At) → run_end budget p ≡ ends_with (run.saturated log x) stands → HasLevels 2000 x
+pub levels_are : (budget : ℕ) (p : Problem) → IsFormOver (length p.existentials) (problem_root p).value → (log : List Entry) (x : Proof) (stands : At) → run_end budget p ≡ ends_with (run.saturated log x) stands → IsWithinLevels 2000 x
 levels_are budget p over log x stands is = (ended_so budget p over log x stands is).1
 
 pub refuted_is : (p : Problem) (x : Proof) → IsWellFormed p → IsSaturatedTree (problem_root p).value (length p.existentials) x → IsRefuted p

@@ -12,16 +12,16 @@ use Rattle.problem_file.specs.Encoded.{Fits}
 use Rattle.solve_job.specs.Solved.{run_end}
 
 -- neither a predicate nor a quantifier
-abbrev pub IsPlain : ℕ → Formula → Type 0
-IsPlain n (applies p ts) = ⊥
-IsPlain n (for_all s f) = ⊥
-IsPlain n (for_some s f) = ⊥
-IsPlain n _ = Unit {0}
+abbrev pub IsGroundFormula : ℕ → Formula → Type 0
+IsGroundFormula n (applies p ts) = ⊥
+IsGroundFormula n (for_all s f) = ⊥
+IsGroundFormula n (for_some s f) = ⊥
+IsGroundFormula n _ = Unit {0}
 
 -- the problem has no constant, quantifier, predicate or function
 pub record IsGround (p : Problem) : Type 0 where
   pub alone : constants p ≡ 0
-  pub plain : Everywhere (record { of_formula = IsPlain; of_term = IsNoCall }) 0 (formula p.formula)
+  pub plain : Everywhere (record { of_formula = IsGroundFormula; of_term = IsNoCall }) 0 (formula p.formula)
 
 -- seven steps a node of its encoding, and three more, are enough for such a problem
 abbrev pub IsEnough : ℕ → List ℕ → Type 0

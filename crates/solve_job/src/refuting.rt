@@ -4,7 +4,7 @@ ghost use Rattle.answers.specs.Answer.{answer_of};
 ghost use Rattle.countermodel.specs.Probes.{probe_values};
 ghost use Rattle.encoding.specs.Problems.{problem_root};
 ghost use Rattle.limits.specs.Limits.{branch_limit};
-ghost use Rattle.open_trees.specs.Levels.{HasLevels};
+ghost use Rattle.open_trees.specs.Levels.{IsWithinLevels};
 ghost use Rattle.open_trees.specs.Open.{IsSaturatedTree};
 ghost use Rattle.pri_typing.specs.WellFormed.{IsWellFormed};
 ghost use Rattle.problem_file.specs.Encoded.{IsEncoded};
@@ -36,7 +36,7 @@ pub fn refuted(
     requires well_formed { IsWellFormed problem.now }
     requires encoded { IsEncoded problem.now encoded.now }
     requires saturated { IsSaturatedTree (problem_root problem.now).value (length problem.now.existentials) (proof_of tree.now.root) }
-    requires levels { HasLevels branch_limit (proof_of tree.now.root) }
+    requires levels { IsWithinLevels branch_limit (proof_of tree.now.root) }
     requires budget { purse.old.budget < 2 ^ 32 }
     ensures { IfOk result (λ output. AnswersSaturated problem.now (proof_of tree.now.root) purse.old (answer_of output)) }
 {

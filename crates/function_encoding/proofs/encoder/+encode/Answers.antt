@@ -11,7 +11,7 @@ use Rattle.formula.proofs.Making.{made_ok, made_err, made_just, made_memory, lef
 use Rattle.encoding.specs.Encoding.{all_encoded, junction, related}
 use Rattle.encoding.specs.Extent.{above_two, extent, extents, leaf}
 use Rattle.function_encoding.specs.Instructions.{actions_of}
-use Rattle.function_encoding.specs.Ranged.{IsRanged}
+use Rattle.function_encoding.specs.Ranged.{HasRangedNumbers}
 use Rattle.function_encoding.specs.Room.{HasNamesLeft, extent_left}
 use Rattle.function_encoding.specs.Stops as stops
 use Rattle.function_encoding.specs.Stops.{Halts, IsTestRanged, test_extent, test_weight}
@@ -26,7 +26,7 @@ encoded-run-requires t c =
     let same = (ap formula c.in-Rel.is ∙ formula-Rel c.in-Rel.r c.in-Rel.s c.in-Rel.t) in
     let measure : weight (formula c.args.f.now) ≡ t = c.decreases in
     let is = ap weight same in
-    let ranged = subst IsRanged same c.requires.ranged in
+    let ranged = subst HasRangedNumbers same c.requires.ranged in
     let room = subst (λ z. HasNamesLeft c.args.n (extent z)) same c.requires.room in
     let ready = relation_ready (expression c.in-Rel.s) (expression c.in-Rel.t) c.signed.result c.in-Rel.r (actions_of c.as_slice.result.now) c.args.n (ap actions_of c.as_slice.ensures ∙ c.in_ok-code-in-Rel.ensures) ranged room in
     let less = ready.0 in
@@ -46,7 +46,7 @@ encoded-run-requires-in-Pred t c =
     let same = (ap formula c.in-Pred.is ∙ formula-Pred c.in-Pred.p c.in-Pred.ts ∙ ap (λ l. applies c.in-Pred.p (expressions_of l)) (sym c.as_slice-in-Pred.ensures)) in
     let measure : weight (formula c.args.f.now) ≡ t = c.decreases in
     let is = ap weight same in
-    let ranged = subst IsRanged same c.requires.ranged in
+    let ranged = subst HasRangedNumbers same c.requires.ranged in
     let room = subst (λ z. HasNamesLeft c.args.n (extent z)) same c.requires.room in
     let ready = predicate_ready (expressions_of c.as_slice-in-Pred.result.now) c.args.plus c.in-Pred.p (actions_of c.as_slice-in-Pred-2.result.now) c.args.n (ap actions_of c.as_slice-in-Pred-2.ensures ∙ c.in_ok-code-in-Pred.ensures) ranged room in
     let less = ready.0 in
@@ -66,7 +66,7 @@ encoded-encoded-requires t c =
     let same = (ap formula c.in-Not.is ∙ formula-Not _ ∙ ap (λ z. negation (formula z)) (sym c.get.ensures)) in
     let measure : weight (formula c.args.f.now) ≡ t = c.decreases in
     let is = ap weight same in
-    let ranged = subst IsRanged same c.requires.ranged in
+    let ranged = subst HasRangedNumbers same c.requires.ranged in
     let room = subst (λ z. HasNamesLeft c.args.n (extent z)) same c.requires.room in
     (omega (arith, is, measure), (ranged, room))
 
@@ -78,7 +78,7 @@ encoded-encoded-requires-in-Part t c =
     let same = (ap formula c.in-Part.is ∙ formula-Part _ _ ∙ ap (λ z. part c.in-Part.field-0 (formula z)) (sym c.get-in-Part.ensures)) in
     let measure : weight (formula c.args.f.now) ≡ t = c.decreases in
     let is = ap weight same in
-    let ranged = subst IsRanged same c.requires.ranged in
+    let ranged = subst HasRangedNumbers same c.requires.ranged in
     let room = subst (λ z. HasNamesLeft c.args.n (extent z)) same c.requires.room in
     (omega (arith, is, measure), (ranged, room))
 
@@ -90,7 +90,7 @@ encoded-all_encoded-requires t c =
     let same = (ap formula c.in-And.is ∙ formula-And _ ∙ ap (λ l. every (formulas_of l)) (sym c.as_slice-in-And.ensures)) in
     let measure : weight (formula c.args.f.now) ≡ t = c.decreases in
     let is = ap weight same in
-    let ranged = subst IsRanged same c.requires.ranged in
+    let ranged = subst HasRangedNumbers same c.requires.ranged in
     let room = subst (λ z. HasNamesLeft c.args.n (extent z)) same c.requires.room in
     (omega (arith, is, measure), (ranged, room_under c.args.n (extents (formulas_of c.as_slice-in-And.result.now)) room))
 
@@ -109,7 +109,7 @@ encoded-all_encoded-requires-in-Or t c =
     let same = (ap formula c.in-Or.is ∙ formula-Or _ ∙ ap (λ l. some (formulas_of l)) (sym c.as_slice-in-Or.ensures)) in
     let measure : weight (formula c.args.f.now) ≡ t = c.decreases in
     let is = ap weight same in
-    let ranged = subst IsRanged same c.requires.ranged in
+    let ranged = subst HasRangedNumbers same c.requires.ranged in
     let room = subst (λ z. HasNamesLeft c.args.n (extent z)) same c.requires.room in
     (omega (arith, is, measure), (ranged, room_under c.args.n (extents (formulas_of c.as_slice-in-Or.result.now)) room))
 
@@ -128,7 +128,7 @@ encoded-implied-requires t c =
     let same = (ap formula c.in-Implies.is ∙ formula-Implies _ _ ∙ (λ i. implies (formula (sym c.get-in-Implies.ensures i)) (formula (sym c.get-in-Implies-2.ensures i)))) in
     let measure : weight (formula c.args.f.now) ≡ t = c.decreases in
     let is = ap weight same in
-    let ranged = subst IsRanged same c.requires.ranged in
+    let ranged = subst HasRangedNumbers same c.requires.ranged in
     let room = subst (λ z. HasNamesLeft c.args.n (extent z)) same c.requires.room in
     (omega (arith, is, measure), (ranged, room))
 
@@ -140,7 +140,7 @@ encoded-equivalent-requires t c =
     let same = (ap formula c.in-Iff.is ∙ formula-Iff _ _ ∙ (λ i. iff (formula (sym c.get-in-Iff.ensures i)) (formula (sym c.get-in-Iff-2.ensures i)))) in
     let measure : weight (formula c.args.f.now) ≡ t = c.decreases in
     let is = ap weight same in
-    let ranged = subst IsRanged same c.requires.ranged in
+    let ranged = subst HasRangedNumbers same c.requires.ranged in
     let room = subst (λ z. HasNamesLeft c.args.n (extent z)) same c.requires.room in
     (omega (arith, is, measure), (ranged, room))
 
@@ -152,7 +152,7 @@ encoded-bound-requires t c =
     let same = (ap formula c.in-Forall.is ∙ formula-Forall _ _ ∙ ap (λ z. for_all c.in-Forall.sort (formula z)) (sym c.get-in-Forall.ensures)) in
     let measure : weight (formula c.args.f.now) ≡ t = c.decreases in
     let is = ap weight same in
-    let ranged = subst IsRanged same c.requires.ranged in
+    let ranged = subst HasRangedNumbers same c.requires.ranged in
     let room = subst (λ z. HasNamesLeft c.args.n (extent z)) same c.requires.room in
     (omega (arith, is, measure), (ranged.0, (ranged.1, room)))
 
@@ -164,7 +164,7 @@ encoded-bound-requires-in-Exists t c =
     let same = (ap formula c.in-Exists.is ∙ formula-Exists _ _ ∙ ap (λ z. for_some c.in-Exists.sort (formula z)) (sym c.get-in-Exists.ensures)) in
     let measure : weight (formula c.args.f.now) ≡ t = c.decreases in
     let is = ap weight same in
-    let ranged = subst IsRanged same c.requires.ranged in
+    let ranged = subst HasRangedNumbers same c.requires.ranged in
     let room = subst (λ z. HasNamesLeft c.args.n (extent z)) same c.requires.room in
     (omega (arith, is, measure), (ranged.0, (ranged.1, room)))
 

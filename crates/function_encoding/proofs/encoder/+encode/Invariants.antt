@@ -5,7 +5,7 @@ use Rattle.formula.specs.Tree.{form}
 use Rattle.encoding.specs.Encoding.{all_encoded}
 use Rattle.encoding.specs.Extent.{extents}
 use Rattle.function_encoding.specs.Instructions.{actions_of}
-use Rattle.function_encoding.specs.Ranged.{AreRanged}
+use Rattle.function_encoding.specs.Ranged.{HaveRangedNumbers}
 use Rattle.function_encoding.specs.Room.{HasNamesLeft}
 use Rattle.function_encoding.specs.Stops.{test_weight}
 use Rattle.function_encoding.specs.Weight.{weight, weights, weight_left}
@@ -41,5 +41,5 @@ decreases-tested l = test_weight l.test.now + 1
 
 abbrev pub invariant-all_encoded-loop-f : goal.invariant-all_encoded-loop-f
 invariant-all_encoded-loop-f l = Left (rest l.at l.n l.plus (map form l.out) (formulas_of (drop l.f-index l.formulas))) (all_encoded l.at l.n l.plus (formulas_of l.formulas))
-    × AreRanged (formulas_of (drop l.f-index l.formulas)) × HasNamesLeft l.n (extents (formulas_of (drop l.f-index l.formulas)))
+    × HaveRangedNumbers (formulas_of (drop l.f-index l.formulas)) × HasNamesLeft l.n (extents (formulas_of (drop l.f-index l.formulas)))
     × (weights (formulas_of (drop l.f-index l.formulas)) ≤ weights (formulas_of l.formulas))

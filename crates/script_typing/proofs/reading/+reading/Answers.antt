@@ -4,7 +4,7 @@ use Rattle.sexpr.specs.Expressions.{expr, exprs_of}
 use Rattle.script_commands.specs.Commands.{symbol_of}
 use Rattle.script_commands.specs.Views.{items_of, symbol_is}
 use Rattle.script_terms.specs.declared.term.Binding.{roll-Binding}
-use Rattle.script_terms.specs.Term.{annotated, bindings, bound, ill, let_in, phrase, phrases_of, quantified, used, BoundTerm, Phrase}
+use Rattle.script_terms.specs.Term.{annotated, bindings, bound, ill, let_in, phrase, phrases_of, quantified, used, BoundTerm, PlacedTerm}
 use Rattle.script_terms.proofs.Folds.{phrase-Ill, phrase-Let, phrase-Quantified, phrase-Annotated, phrase-Use, bound-term}
 use Rattle.script_typing.specs.declared.forms.Head.TheVariants as head
 use Rattle.script_typing.specs.Reading.{are_proper, bindings_in, name_is, phrase_of}
@@ -59,7 +59,7 @@ read_binding-returns t c =
     c.in-List.is (sym c.as_slice.ensures ∙ c.in-Some.ensures.cases.0) c.in-Some-split_first.ensures.cases.0 c.is_empty.ensures c.if-not-is_empty.false named in
     let made : bound (roll-Binding (record { text = c.in_ok-text.text; term = c.in_ok-term.term })) ≡ record { text = c.in_ok-text.text; term = phrase c.in_ok-term.term } =
     bound-term (roll-Binding (record { text = c.in_ok-text.text; term = c.in_ok-term.term })) in
-    let Q : List ℕ → Phrase → BoundTerm = λ y p. record { text = y; term = p } in
+    let Q : List ℕ → PlacedTerm → BoundTerm = λ y p. record { text = y; term = p } in
     ap (λ z. Some z) (made ∙ ap (λ z. Q z (phrase c.in_ok-term.term)) c.in_ok-text.ensures ∙ ap (Q c.in-Some-symbol.name.text.now) c.in_ok-term.ensures) ∙ sym known
 
 pub read_quantified-returns-then-not-is_empty : goal.read_quantified-returns-then-not-is_empty

@@ -1,13 +1,13 @@
 use Rattle.std.proofs.Common.{map, refl}
 use Rattle.sexpr.specs.Expressions.{expr}
 use Rattle.script_commands.specs.Views.{symbol_is}
-use Rattle.script_commands.specs.Faults.{Terms}
+use Rattle.script_commands.specs.Faults.{TermFaults}
 use Rattle.script_walk.proofs.Forms.{found_of, found_stops, found_new, found_passes}
 use Rattle.script_walk.proofs.commands.define.Goals as goal
 
 pub returns-in-Some-clause-refused : goal.returns-in-Some-clause-refused
 returns-in-Some-clause-refused g c =
-    let terms : Terms = record { faults = g.T.Terms.faults; uses = g.T.Terms.occurs } in
+    let terms : TermFaults = record { faults = g.T.Terms.faults; uses = g.T.Terms.occurs } in
     let x = symbol_is c.args.name in
     found_stops terms c.args.table.entries c.args.at x (map expr c.args.arguments.now) (expr c.args.sort.now) (expr c.args.term.now) c.in-Ok.found c.in-Some.e
     (found_of terms c.args.table.entries c.args.at x (map expr c.args.arguments.now) (expr c.args.sort.now) (expr c.args.term.now) c.read_sort.result
@@ -15,7 +15,7 @@ returns-in-Some-clause-refused g c =
 
 pub define-requires : goal.define-requires
 define-requires g c =
-    let terms : Terms = record { faults = g.T.Terms.faults; uses = g.T.Terms.occurs } in
+    let terms : TermFaults = record { faults = g.T.Terms.faults; uses = g.T.Terms.occurs } in
     let x = symbol_is c.args.name in
     record {
       new = found_new terms c.args.table.entries c.args.at x (map expr c.args.arguments.now) (expr c.args.sort.now) (expr c.args.term.now) c.in-Ok.found
@@ -25,7 +25,7 @@ define-requires g c =
 
 pub returns-clause-fits : goal.returns-clause-fits
 returns-clause-fits g c =
-    let terms : Terms = record { faults = g.T.Terms.faults; uses = g.T.Terms.occurs } in
+    let terms : TermFaults = record { faults = g.T.Terms.faults; uses = g.T.Terms.occurs } in
     let x = symbol_is c.args.name in
     found_passes terms c.args.table.entries c.args.at x c.args.arguments.now (expr c.args.sort.now) (expr c.args.term.now) c.in-Ok.found _ c.sort_or_int.result c.in-Ok-define.table.entries
     (found_of terms c.args.table.entries c.args.at x (map expr c.args.arguments.now) (expr c.args.sort.now) (expr c.args.term.now) c.read_sort.result
