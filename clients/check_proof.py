@@ -319,7 +319,8 @@ def closing_formula(members, count):
     """The members without applications, and what the pairs say."""
     found = [raised(formula, over, count - over) for formula, over in members if formula.is_pure]
     applied = [formula for formula, _ in members if formula.symbol]
-    pairs = [pair_of(one, other) for place, one in enumerate(applied) for other in applied[place + 1:]]
+    pairs = [pair_of(one, other) for one in applied if one.kind == 'fails' for other in applied if other.kind == 'holds']
+    pairs += [pair_of(one, other) for place, one in enumerate(applied) if one.kind == 'differs' for other in applied[place + 1:]]
     return joined('or', found + [pair for pair in pairs if pair])
 
 

@@ -380,6 +380,8 @@ class Elimination:
         charged = len(others) + len(lower) * len(upper) + sum(counts) * (len(clause) + 1)
         self.purse.pay(1 + charged * (1 + len(names)))
         result = clauses_of(others + self.shadow(name, lower, upper, True))
+        for b in (coefficient(one.term, name) for one in lower):
+            in_range(greatest * b, greatest * b - greatest, greatest * b - greatest - b)
         for below, count in zip(lower, counts):
             for i in range(count):
                 result += clauses_of(clause + (Literal(EQUATION, 0, plus(below.term, -i)),))
