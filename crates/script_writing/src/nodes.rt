@@ -1,7 +1,7 @@
 // Formulas and terms over one or two others.
 
 ghost use Rattle.std.specs.Prelude.{◌≡◌, ◌∷◌, [], IfOk};
-ghost use Rattle.typed_formula.specs.Formula.{absolute, choice, every, expression, formula, formulas, iff, implies, minus, negation, product, some};
+ghost use Rattle.typed_formula.specs.Formula.{absolute, choice, expression, formula, iff, implies, minus, negation, product};
 
 use linear_term::Memory;
 use sqlite_items::{Boxed, Items};
@@ -15,20 +15,45 @@ pub(crate) fn not(alloc: Global, of: Typed) -> Result<Typed, Memory>
     Ok(Typed::Not(Boxed::new(alloc, of)?))
 }
 
+/// Each of the two by itself on the heap.
+fn boxed(alloc: Global, left: Typed, right: Typed) -> Result<(Boxed<Typed>, Boxed<Typed>), Memory>
+    ensures { IfOk result (λ both. (both.0 ≡ left) × (both.1 ≡ right)) }
+{
+    let left = Boxed::new(alloc, left)?;
+    Ok((left, Boxed::new(alloc, right)?))
+}
+
+/// A copy of the formula by itself on the heap.
+pub(crate) fn boxed_copy(alloc: Global, of: &Typed) -> Result<Boxed<Typed>, Memory>
+    ensures { IfOk result (λ f. f ≡ of.now) }
+{
+    Ok(Boxed::new(alloc, of.copy(alloc)?)?)
+}
+
+/// A list of the two.
+pub(crate) fn two(alloc: Global, left: Typed, right: Typed) -> Result<Items<Typed>, Memory>
+    ensures { IfOk result (λ all. all ≡ left ∷ right ∷ []) }
+{
+    let mut all = Items::new(alloc);
+    all.push(left)?;
+    all.push(right)?;
+    Ok(all)
+}
+
 /// One implies the other.
 pub(crate) fn implication(alloc: Global, left: Typed, right: Typed) -> Result<Typed, Memory>
     ensures { IfOk result (λ f. formula f ≡ implies (formula left) (formula right)) }
 {
-    let left = Boxed::new(alloc, left)?;
-    Ok(Typed::Implies(left, Boxed::new(alloc, right)?))
+    let (left, right) = boxed(alloc, left, right)?;
+    Ok(Typed::Implies(left, right))
 }
 
 /// Both are true or both are false.
 pub(crate) fn equivalence(alloc: Global, left: Typed, right: Typed) -> Result<Typed, Memory>
     ensures { IfOk result (λ f. formula f ≡ iff (formula left) (formula right)) }
 {
-    let left = Boxed::new(alloc, left)?;
-    Ok(Typed::Iff(left, Boxed::new(alloc, right)?))
+    let (left, right) = boxed(alloc, left, right)?;
+    Ok(Typed::Iff(left, right))
 }
 
 /// One is true and the other is false.
@@ -36,26 +61,6 @@ pub(crate) fn difference(alloc: Global, left: Typed, right: Typed) -> Result<Typ
     ensures { IfOk result (λ f. formula f ≡ negation (iff (formula left) (formula right))) }
 {
     not(alloc, equivalence(alloc, left, right)?)
-}
-
-/// Both are true.
-pub(crate) fn both(alloc: Global, left: Typed, right: Typed) -> Result<Typed, Memory>
-    ensures { IfOk result (λ f. formula f ≡ every (formulas (formula left ∷ formula right ∷ []))) }
-{
-    let mut all = Items::new(alloc);
-    all.push(left)?;
-    all.push(right)?;
-    Ok(Typed::And(all))
-}
-
-/// One of them is true.
-pub(crate) fn one_of(alloc: Global, left: Typed, right: Typed) -> Result<Typed, Memory>
-    ensures { IfOk result (λ f. formula f ≡ some (formulas (formula left ∷ formula right ∷ []))) }
-{
-    let mut all = Items::new(alloc);
-    all.push(left)?;
-    all.push(right)?;
-    Ok(Typed::Or(all))
 }
 
 /// The negative.
@@ -83,13 +88,12 @@ pub(crate) fn times(alloc: Global, left: TypedTerm, right: TypedTerm) -> Result<
 /// One where the formula is true, else the other.
 pub(crate) fn condition(
     alloc: Global,
-    when: Typed,
+    when: Boxed<Typed>,
     left: TypedTerm,
     right: TypedTerm,
 ) -> Result<TypedTerm, Memory>
     ensures { IfOk result (λ t. expression t ≡ choice (formula when) (expression left) (expression right)) }
 {
-    let when = Boxed::new(alloc, when)?;
     let left = Boxed::new(alloc, left)?;
     Ok(TypedTerm::If(when, left, Boxed::new(alloc, right)?))
 }

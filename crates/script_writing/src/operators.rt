@@ -1,20 +1,18 @@
 // An operator at what its arguments became.
 
 ghost use Rattle.std.specs.Prelude.{◌≡◌, ◌∷◌, [], IfOk, false, map};
-ghost use Rattle.typed_formula.specs.Formula.{choice, constant, every, expression, formula, formulas, implies, some};
-ghost use Rattle.script_terms.specs.Translation.{a_formula, a_term, chosen_said, formula_in, operated, term_in};
+ghost use Rattle.typed_formula.specs.Formula.{constant, every, expression, formula, formulas, implies, some};
+ghost use Rattle.script_terms.specs.Translation.{a_formula, a_term, operated};
 ghost use Rattle.script_terms.specs.declared.operator.Operator.{Operator};
 ghost use Rattle.script_writing.specs.Written.{written};
 
 use crate::combine::{exclude, formulas, imply, join, multiply, split, subtract, terms};
-use crate::nodes::{
-    both, condition, difference, implication, magnitude, negative, not, one_of, times,
-};
+use crate::nodes::{boxed_copy, condition, difference, magnitude, negative, not, times, two};
 use crate::pairing::{Pairing, chain, each_pair};
 use crate::written::{Written, into_formula, into_term};
 use linear_term::Memory;
 use script_terms::Operator;
-use sqlite_items::Items;
+use sqlite_items::{Boxed, Items};
 use std::alloc::Global;
 use typed_formula::{Typed, TypedTerm};
 
@@ -134,71 +132,68 @@ fn operate_minus(alloc: Global, arguments: Vec<Written>) -> Result<Written, Memo
     Ok(Written::Term(TypedTerm::Sum(subtract(alloc, into_term(first), rest)?)))
 }
 
-/// One term where the formula is true, else the other argument.
+/// One term where the formula is true, else the first of the other arguments.
 fn choose_term(
     alloc: Global,
-    when: Typed,
+    when: Boxed<Typed>,
     first: TypedTerm,
-    second: Written,
+    others: Vec<Written>,
 ) -> Result<Written, Memory>
-    ensures { IfOk result (λ w. written w ≡ a_term (choice (formula when) (expression first) (term_in (written second)))) }
+    ensures { IfOk result (λ w. written w ≡ operated Operator.Choose (a_formula (formula when) ∷ a_term (expression first) ∷ map written others.items)) }
 {
+    let Some((second, _)) = split(others) else {
+        return Ok(junk())
+    };
     Ok(Written::Term(condition(alloc, when, first, into_term(second))?))
 }
 
-/// The formula implies the other one.
-fn where_true(alloc: Global, when: &Typed, first: Typed) -> Result<Typed, Memory>
-    ensures { IfOk result (λ f. formula f ≡ implies (formula when.now) (formula first)) }
+/// The first formula where the condition is true, else the second one.
+fn either(
+    alloc: Global,
+    when: Boxed<Typed>,
+    first: Boxed<Typed>,
+    second: Boxed<Typed>,
+) -> Result<Typed, Memory>
+    ensures { IfOk result (λ f. formula f ≡ every (formulas (implies (formula when) (formula first)
+        ∷ some (formulas (formula when ∷ formula second ∷ [])) ∷ []))) }
 {
-    implication(alloc, when.copy(alloc)?, first)
+    let again = boxed_copy(alloc, when.get())?;
+    let otherwise = Typed::Or(two(alloc, when.into_inner(), second.into_inner())?);
+    Ok(Typed::And(two(alloc, Typed::Implies(again, first), otherwise)?))
 }
 
-/// The formula is true, or the argument.
-fn where_false(alloc: Global, when: Typed, second: Written) -> Result<Typed, Memory>
-    ensures { IfOk result (λ f. formula f ≡ some (formulas (formula when ∷ formula_in (written second) ∷ []))) }
-{
-    one_of(alloc, when, into_formula(second))
-}
-
-/// One formula where the formula is true, else the other argument.
+/// One formula where the formula is true, else the first of the other arguments.
 fn choose_formula(
     alloc: Global,
-    when: Typed,
+    when: Boxed<Typed>,
     first: Typed,
-    second: Written,
+    others: Vec<Written>,
 ) -> Result<Written, Memory>
-    ensures { IfOk result (λ w. written w ≡ a_formula (every (formulas (implies (formula when) (formula first)
-        ∷ some (formulas (formula when ∷ formula_in (written second) ∷ [])) ∷ [])))) }
+    ensures { IfOk result (λ w. written w ≡ operated Operator.Choose (a_formula (formula when) ∷ a_formula (formula first) ∷ map written others.items)) }
 {
-    let then = where_true(alloc, &when, first)?;
-    let otherwise = where_false(alloc, when, second)?;
-    Ok(Written::Formula(both(alloc, then, otherwise)?))
-}
-
-/// Of two the one where the formula is true, else the other.
-fn choose(alloc: Global, when: Typed, first: Written, second: Written) -> Result<Written, Memory>
-    ensures { IfOk result (λ w. written w ≡ chosen_said (formula when) (written first) (written second)) }
-{
-    match first {
-        Written::Term(s) => choose_term(alloc, when, s, second),
-        Written::Formula(f) => choose_formula(alloc, when, f, second),
-    }
+    let first = Boxed::new(alloc, first)?;
+    let Some((second, _)) = split(others) else {
+        return Ok(junk())
+    };
+    let second = Boxed::new(alloc, into_formula(second))?;
+    Ok(Written::Formula(either(alloc, when, first, second)?))
 }
 
 /// `ite`
 fn operate_choose(alloc: Global, arguments: Vec<Written>) -> Result<Written, Memory>
     ensures { IfOk result (λ w. written w ≡ operated Operator.Choose (map written arguments.items)) }
 {
-    let Some((when, more)) = split(arguments) else {
+    let Some((condition, more)) = split(arguments) else {
         return Ok(junk())
     };
-    let Some((first, rest)) = split(more) else {
+    let when = Boxed::new(alloc, into_formula(condition))?;
+    let Some((first, others)) = split(more) else {
         return Ok(junk())
     };
-    let Some((second, _)) = split(rest) else {
-        return Ok(junk())
-    };
-    choose(alloc, into_formula(when), first, second)
+    match first {
+        Written::Term(s) => choose_term(alloc, when, s, others),
+        Written::Formula(f) => choose_formula(alloc, when, f, others),
+    }
 }
 
 /// An operator at its arguments.

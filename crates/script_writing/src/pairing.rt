@@ -1,18 +1,18 @@
 // What is said of each two of several arguments.
 
 ghost use Rattle.std.specs.Prelude.{◌≡◌, IfOk, map};
-ghost use Rattle.typed_formula.specs.Formula.{formula};
+ghost use Rattle.typed_formula.specs.Formula.{compares, expression, formula, iff};
 ghost use Rattle.script_terms.specs.Operators.{neighbours, pairs};
-ghost use Rattle.script_terms.specs.Translation.{equal_said, unequal_said};
+ghost use Rattle.script_terms.specs.Translation.{compared_said, equal_said, unequal_said};
 ghost use Rattle.script_writing.specs.Pairing.{pair_said};
 ghost use Rattle.script_writing.specs.Written.{written};
 
-use crate::nodes::{difference, equivalence};
-use crate::written::{Written, copy_written, into_term};
+use crate::nodes::{boxed_copy, not};
+use crate::written::{Written, copy_term};
 use linear_term::Memory;
 use sqlite_items::Items;
 use std::alloc::Global;
-use typed_formula::{Relation, Typed};
+use typed_formula::{Relation, Typed, TypedTerm};
 
 /// What is said of two arguments.
 #[derive(Clone, Copy)]
@@ -22,18 +22,73 @@ pub enum Pairing {
     Unequal,
 }
 
-/// It, said of these two.
-fn pair(alloc: Global, pairing: Pairing, left: Written, right: Written) -> Result<Typed, Memory>
-    ensures { IfOk result (λ f. formula f ≡ pair_said pairing (written left) (written right)) }
+/// The one term stands in this relation to the other.
+fn compared(
+    alloc: Global,
+    relation: Relation,
+    left: &TypedTerm,
+    right: &TypedTerm,
+) -> Result<Typed, Memory>
+    ensures { IfOk result (λ f. formula f ≡ compares relation (expression left.now) (expression right.now)) }
 {
-    match pairing {
-        Pairing::Compared(r) => Ok(Typed::Rel(r, into_term(left), into_term(right))),
-        Pairing::Equal => equate(alloc, left, right),
-        Pairing::Unequal => distinguish(alloc, left, right),
+    let left = left.copy(alloc)?;
+    Ok(Typed::Rel(relation, left, right.copy(alloc)?))
+}
+
+/// The one argument stands in this relation to the other.
+fn compare(
+    alloc: Global,
+    relation: Relation,
+    left: &Written,
+    right: &Written,
+) -> Result<Typed, Memory>
+    ensures { IfOk result (λ f. formula f ≡ compared_said relation (written left.now) (written right.now)) }
+{
+    let left = copy_term(alloc, left)?;
+    Ok(Typed::Rel(relation, left, copy_term(alloc, right)?))
+}
+
+/// The one formula is true where the other is.
+fn equivalent(alloc: Global, left: &Typed, right: &Typed) -> Result<Typed, Memory>
+    ensures { IfOk result (λ f. formula f ≡ iff (formula left.now) (formula right.now)) }
+{
+    let left = boxed_copy(alloc, left)?;
+    Ok(Typed::Iff(left, boxed_copy(alloc, right)?))
+}
+
+/// Two are equal.
+fn equate(alloc: Global, left: &Written, right: &Written) -> Result<Typed, Memory>
+    ensures { IfOk result (λ f. formula f ≡ equal_said (written left.now) (written right.now)) }
+{
+    match left {
+        Written::Term(s) => match right {
+            Written::Term(t) => compared(alloc, Relation::Eq, s, t),
+            Written::Formula(_) => Ok(Typed::Truth(false)),
+        },
+        Written::Formula(f) => match right {
+            Written::Formula(g) => equivalent(alloc, f, g),
+            Written::Term(_) => Ok(Typed::Truth(false)),
+        },
     }
 }
 
-/// It, said of copies of these two.
+/// Two are different.
+fn distinguish(alloc: Global, left: &Written, right: &Written) -> Result<Typed, Memory>
+    ensures { IfOk result (λ f. formula f ≡ unequal_said (written left.now) (written right.now)) }
+{
+    match left {
+        Written::Term(s) => match right {
+            Written::Term(t) => compared(alloc, Relation::Neq, s, t),
+            Written::Formula(_) => Ok(Typed::Truth(true)),
+        },
+        Written::Formula(f) => match right {
+            Written::Formula(g) => not(alloc, equivalent(alloc, f, g)?),
+            Written::Term(_) => Ok(Typed::Truth(true)),
+        },
+    }
+}
+
+/// It, said of these two.
 fn pair_of(
     alloc: Global,
     pairing: Pairing,
@@ -42,40 +97,10 @@ fn pair_of(
 ) -> Result<Typed, Memory>
     ensures { IfOk result (λ f. formula f ≡ pair_said pairing (written left.now) (written right.now)) }
 {
-    let left = copy_written(alloc, left)?;
-    let right = copy_written(alloc, right)?;
-    pair(alloc, pairing, left, right)
-}
-
-/// Two are equal.
-fn equate(alloc: Global, left: Written, right: Written) -> Result<Typed, Memory>
-    ensures { IfOk result (λ f. formula f ≡ equal_said (written left) (written right)) }
-{
-    match left {
-        Written::Term(s) => match right {
-            Written::Term(t) => Ok(Typed::Rel(Relation::Eq, s, t)),
-            Written::Formula(_) => Ok(Typed::Truth(false)),
-        },
-        Written::Formula(f) => match right {
-            Written::Formula(g) => equivalence(alloc, f, g),
-            Written::Term(_) => Ok(Typed::Truth(false)),
-        },
-    }
-}
-
-/// Two are different.
-fn distinguish(alloc: Global, left: Written, right: Written) -> Result<Typed, Memory>
-    ensures { IfOk result (λ f. formula f ≡ unequal_said (written left) (written right)) }
-{
-    match left {
-        Written::Term(s) => match right {
-            Written::Term(t) => Ok(Typed::Rel(Relation::Neq, s, t)),
-            Written::Formula(_) => Ok(Typed::Truth(true)),
-        },
-        Written::Formula(f) => match right {
-            Written::Formula(g) => difference(alloc, f, g),
-            Written::Term(_) => Ok(Typed::Truth(true)),
-        },
+    match pairing {
+        Pairing::Compared(r) => compare(alloc, r, left, right),
+        Pairing::Equal => equate(alloc, left, right),
+        Pairing::Unequal => distinguish(alloc, left, right),
     }
 }
 
