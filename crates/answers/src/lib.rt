@@ -11,6 +11,3 @@ pub use form::ProofForm;
 pub use lines::{refused, refused_at, refused_proof, say, unknown};
 pub use output::Output;
 pub use puts::{put_all, put_answer};
-
-#[cfg(test)]
-mod tests;

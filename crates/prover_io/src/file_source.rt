@@ -98,8 +98,8 @@ fn open<R: Files>(rt: &R, name: &str) -> io::Result<R::File> {
     Err(io::Error::from(ErrorKind::Interrupted))
 }
 
-// Reads some bytes of a file, again where the call is interrupted.
-pub(crate) fn read_some<F: Read>(file: &mut F, buffer: &mut [u8]) -> io::Result<usize>
+/// Reads some bytes of a file. A call that is interrupted is made again; each other error of the file is the answer.
+pub fn read_some<F: Read>(file: &mut F, buffer: &mut [u8]) -> io::Result<usize>
     ensures bound { IfOk result (λ n. n ≤ length buffer.new) }
     ensures bytes { ReadConsumes (F.remaining file.old) (F.remaining file.new) result buffer.new }
 {

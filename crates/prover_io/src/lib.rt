@@ -11,13 +11,10 @@ mod sink;
 mod source;
 mod whole;
 
-pub use file_source::FileSource;
+pub use file_source::{FileSource, read_some};
 pub use memory_sink::MemorySink;
 pub use memory_source::MemorySource;
 pub use out_sink::OutSink;
 pub use sink::Sink;
 pub use source::{BeginFault, Failed, Source};
 pub use whole::{ReadFault, read_all};
-
-#[cfg(test)]
-mod tests;

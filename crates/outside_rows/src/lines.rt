@@ -1,6 +1,6 @@
 // The lines of answers, and that they are put.
 
-use super::*;
+use answers::{put_all, refused, refused_at, refused_proof, say, unknown};
 use prover_io::MemorySink;
 use std::test::Fail;
 
