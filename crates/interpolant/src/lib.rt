@@ -1,5 +1,5 @@
-// Craig interpolants of parts of a problem, of which those of the first side have no predicates and functions: what the first side
-// assumes, without its quantifiers and without the constants that do not occur in what the second side assumes.
+// Craig interpolants of parts of a problem, where the parts of the first side have no predicates and functions. An interpolant is what
+// the first side assumes, without its quantifiers and without the constants that do not occur in what the second side assumes.
 #![tactic(auto)]
 
 mod fault;

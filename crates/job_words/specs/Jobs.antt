@@ -8,9 +8,9 @@ use Rattle.job_words.specs.declared.jobs.Job.{Job}
 use Rattle.job_words.specs.declared.jobs.Job.TheVariants as job
 use Rattle.job_words.specs.Uses.{Text, Use, Options, Spells, operands, tally, times, values_of}
 
--- a job by the bytes of its words: to solve the problem in a file, with its proof in a form or without, to give
--- its constraint, or the least value of a term where it holds, each within a budget, to answer the checks of the script in a file,
--- each within a budget, to check the proof in a file, or to solve the problem of a size that the program makes, within a budget
+-- A job by the bytes of its words. It solves the problem in a file, with its proof in a form or without; gives its constraint; answers
+-- the checks of the script in a file; gives the least value of a term where a problem holds; checks the proof in a file; or solves the
+-- problem of a size that the program makes. All but checking a proof have a budget, a script's checks one each.
 pub data Task : Type 0 where
   solve : (file : Text) → (budget : ℕ) → (asked : Option ProofForm) → Task
   eliminate : (file : Text) → (budget : ℕ) → Task

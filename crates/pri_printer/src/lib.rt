@@ -1,6 +1,5 @@
-// The texts in which the program prints what it found about a problem: a constraint as a formula of the problem's own
-// language, which is read back as one that is true where the constraint is, the values of its constants, and the rows of a
-// counterexample.
+// The texts in which the program prints what it found about a problem: a constraint, the values of its constants, and the rows of
+// a counterexample. The constraint is a formula of the problem's own language, and is read back as one that is true where it is.
 #![tactic(auto)]
 
 mod constraint;

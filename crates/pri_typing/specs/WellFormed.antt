@@ -146,9 +146,9 @@ pub record IsDivisible (p : Problem) : Type 0 where
   pub parts_are_components : All (λ c. IsPartOrTruth c.what) (components_of p)
   pub each_part : (k : ℕ) → k < length p.parts → Contains (part_numbers (components_of p)) k
 
--- The problem declares at most 1,000 symbols; its numbers are in the range; its names are constants and bound variables; its
--- predicates and functions are declared, with so many arguments; its sums have members, and its products are linear; its
--- constants and bound variables have types with bounds in the range; its parts have names; and where it has cuts, they divide
+-- The problem declares at most 1,000 symbols. Its numbers are in the range. Its names are constants and bound variables. Its
+-- predicates and functions are declared, with so many arguments. Its sums have members, and its products are linear. Its
+-- constants and bound variables have types with bounds in the range. Its parts have names. Where it has cuts, they divide
 -- the parts of which its formula is put together.
 pub record IsWellFormed (p : Problem) : Type 0 where
   pub few : length p.existentials + length p.universals + length p.functions + length p.predicates ≤ most_symbols

@@ -15,9 +15,9 @@ use Rattle.encoding.specs.Problems.{problem_root}
 use Rattle.open_trees.specs.Rows.{table_at, truth_cmp, value_cmp}
 use Rattle.open_trees.specs.Walk.{Stop, walk}
 
--- a finite table and values of the universal constants, each of its constant's type, at which the problem's formula is false, with the
--- values e of the existential ones; each row of the table is of a declared symbol, with as many arguments; the rows are sorted by symbol
--- and arguments, and no two have both in common
+-- A finite table and values of the universal constants, each of its constant's type. With the values e of the existential constants the
+-- problem's formula is false there. Each row of the table is of a declared symbol, with as many arguments. The rows are sorted by symbol
+-- and arguments, and no two have both in common.
 pub record IsCounterexample (p : Problem) (e : List ℤ) (c : Table × List ℤ) : Type 0 where
   pub fit : length c.1 ≡ length p.universals
   pub typed : AreValuesOf p.universal_types c.1
