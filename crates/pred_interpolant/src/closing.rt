@@ -160,7 +160,7 @@ pub fn closed(
 {
     let n = p.existentials.len() as u32 + p.universals.len() as u32;
     let table = table_of(alloc, n, own)?;
-    let body = renamed(alloc, &table, own.len() as u32, f)?;
     let sorts = sorts_of(alloc, p, own)?;
+    let body = renamed(alloc, &table, own.len() as u32, f)?;
     quantified(alloc, all, &sorts, body)
 }

@@ -69,8 +69,9 @@ fn weakest(
     ensures { IfOk result (λ h. formula h ≡ weakest_formula p.now (assumed_by p.now before.now) (assumed_by p.now behind.now)) }
 {
     let own = own_constants(alloc, p, behind, before)?;
-    let denied = Typed::Not(Boxed::new(alloc, g.copy(alloc)?)?);
-    closed(alloc, p, true, &own, &denied)
+    let copy = Boxed::new(alloc, g.copy(alloc)?)?;
+    let denied = Boxed::new(alloc, Typed::Not(copy))?;
+    closed(alloc, p, true, &own, denied.get())
 }
 
 /// The encoding of what says that the formula follows from the first side.
@@ -81,9 +82,9 @@ fn below(alloc: Global, p: &Problem, f: Typed, m: &MiddleFormula) -> Result<Enco
     ensures work { Encodes (obligation_root p.now (middle.follows (formula f) (middle.said p.now m.now))) (root_of result) }
     ensures encoded { IfOk result (IsObligation p.now (middle.follows (formula f) (middle.said p.now m.now))) }
 {
-    let between = said(alloc, p, m)?;
-    let whole = Typed::Implies(Boxed::new(alloc, f)?, Boxed::new(alloc, between)?);
-    encode_formula(alloc, p, whole)
+    let first = Boxed::new(alloc, f)?;
+    let between = Boxed::new(alloc, said(alloc, p, m)?)?;
+    encode_formula(alloc, p, Boxed::new(alloc, Typed::Implies(first, between))?)
 }
 
 /// The encoding of what says that the formula contradicts the second side.
@@ -94,12 +95,17 @@ fn above(alloc: Global, p: &Problem, g: Typed, m: &MiddleFormula) -> Result<Enco
     ensures work { Encodes (obligation_root p.now (middle.contradicts (middle.said p.now m.now) (formula g))) (root_of result) }
     ensures encoded { IfOk result (IsObligation p.now (middle.contradicts (middle.said p.now m.now) (formula g))) }
 {
+    let second = Boxed::new(alloc, g)?;
     let mut both = Items::new(alloc);
     both.push(said(alloc, p, m)?)?;
-    both.push(g)?;
+    both.push(second.into_inner())?;
     let together = Boxed::new(alloc, Typed::And(both))?;
-    let whole = Typed::Implies(together, Boxed::new(alloc, Typed::Truth(false))?);
-    encode_formula(alloc, p, whole)
+    let nothing = Boxed::new(alloc, Typed::Truth(false))?;
+    encode_formula(
+        alloc,
+        p,
+        Boxed::new(alloc, Typed::Implies(together, nothing))?,
+    )
 }
 
 /// The two sides of a cut, with the numbers of their parts.
@@ -122,12 +128,12 @@ fn sides_at(alloc: Global, p: &Problem, cut: u32, at: u32) -> Result<Sides, Memo
     let sets = cuts[cut as usize].sets.as_slice();
     let before = together(alloc, &sets[..at as usize])?;
     let behind = together(alloc, &sets[at as usize..])?;
-    let first = side(alloc, p, &before)?;
+    let first = Boxed::new(alloc, side(alloc, p, &before)?)?;
     let second = side(alloc, p, &behind)?;
     Ok(Sides {
         before,
         behind,
-        first,
+        first: first.into_inner(),
         second,
     })
 }

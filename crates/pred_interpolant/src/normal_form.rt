@@ -81,11 +81,10 @@ fn later_term(alloc: Global, pair: &(u32, i128)) -> Result<TypedTerm, Memory>
     requires { InRange pair.now.1 }
     ensures { IfOk result (λ t. expression t ≡ later (later_part (monomial pair.now))) }
 {
-    let term = product(alloc, pair)?;
     if pair.1 < 0 {
-        Ok(TypedTerm::Minus(Boxed::new(alloc, term)?))
+        Ok(TypedTerm::Minus(Boxed::new(alloc, product(alloc, pair)?)?))
     } else {
-        Ok(term)
+        product(alloc, pair)
     }
 }
 
@@ -94,11 +93,11 @@ fn alone(alloc: Global, k: i128) -> Result<TypedTerm, Memory>
     requires { InRange k }
     ensures { IfOk result (λ t. expression t ≡ first_value (summands.constant k)) }
 {
-    let number = TypedTerm::Number(absolute(k));
+    let size = absolute(k);
     if k < 0 {
-        Ok(TypedTerm::Minus(Boxed::new(alloc, number)?))
+        Ok(TypedTerm::Minus(Boxed::new(alloc, TypedTerm::Number(size))?))
     } else {
-        Ok(number)
+        Ok(TypedTerm::Number(size))
     }
 }
 
@@ -136,10 +135,10 @@ fn sum_of(
     requires constant { InRange k }
     ensures { IfOk result (λ u. expression u ≡ sum_value (summands.summands (first.now ∷ more.now) k)) }
 {
-    let head = first_term(alloc, first)?;
     let mut rest = Items::new(alloc);
     put_later(alloc, more, &mut rest)?;
     put_constant(alloc, k, &mut rest)?;
+    let head = first_term(alloc, first)?;
     if rest.is_empty() {
         return Ok(head);
     }
@@ -176,8 +175,8 @@ fn divided(alloc: Global, n: u32, d: i128, t: &Term) -> Result<Typed, Memory>
 {
     let divisor = Boxed::new(alloc, TypedTerm::Number(absolute(d)))?;
     let quotient = Boxed::new(alloc, TypedTerm::Name(n))?;
-    let multiple = TypedTerm::Product(divisor, quotient);
-    let equal = Typed::Rel(Relation::Eq, sum(alloc, t)?, multiple);
+    let total = sum(alloc, t)?;
+    let equal = Typed::Rel(Relation::Eq, total, TypedTerm::Product(divisor, quotient));
     Ok(Typed::Exists(Sort::Int, Boxed::new(alloc, equal)?))
 }
 

@@ -12,7 +12,7 @@ ghost use Rattle.pred_interpolant.specs.Middle.{IsObligation, obligation_root};
 use function_encoding::{EncodeRefusal, Encoded, encode};
 use linear_term::Memory;
 use pri_typing::{Problem, Symbol, copy_symbols, copy_texts};
-use sqlite_items::Items;
+use sqlite_items::{Boxed, Items};
 use std::alloc::Global;
 use typed_formula::{Sort, Typed};
 
@@ -55,7 +55,7 @@ fn others_of(alloc: Global, p: &Problem) -> Result<Others, Memory>
 }
 
 /// The problem with this formula and without cuts.
-fn replaced(alloc: Global, p: &Problem, f: Typed) -> Result<Problem, Memory>
+fn replaced(alloc: Global, p: &Problem, f: Boxed<Typed>) -> Result<Problem, Memory>
     ensures { IfOk result (λ q. q ≡ with_formula p.now f) }
 {
     let constants = constants_of(alloc, p)?;
@@ -68,14 +68,14 @@ fn replaced(alloc: Global, p: &Problem, f: Typed) -> Result<Problem, Memory>
         functions: others.functions,
         predicates: others.predicates,
         parts: others.parts,
-        formula: f,
+        formula: f.into_inner(),
         cuts: Items::new(alloc),
         first_application: None,
     })
 }
 
 /// The encoding of the problem with this formula.
-pub fn encode_formula(alloc: Global, p: &Problem, f: Typed) -> Result<Encoded, EncodeRefusal>
+pub fn encode_formula(alloc: Global, p: &Problem, f: Boxed<Typed>) -> Result<Encoded, EncodeRefusal>
     requires formed { IsWellFormed p.now }
     requires fit { IsFitFormula p.now (formula f) }
     ensures work { Encodes (obligation_root p.now (formula f)) (root_of result) }

@@ -40,11 +40,10 @@ fn contains(set: &[u32], k: u32) -> bool
 fn assumed_of(alloc: Global, plus: bool, f: &Typed) -> Result<Typed, Memory>
     ensures { IfOk result (λ g. formula g ≡ assumed (record { plus = plus; what = formula f.now })) }
 {
-    let copy = f.copy(alloc)?;
     if plus {
-        Ok(Typed::Not(Boxed::new(alloc, copy)?))
+        Ok(Typed::Not(Boxed::new(alloc, f.copy(alloc)?)?))
     } else {
-        Ok(copy)
+        f.copy(alloc)
     }
 }
 
