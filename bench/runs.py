@@ -19,11 +19,11 @@ def program_of(words):
     return os.path.abspath(words[0]) if words else SHIPPED
 
 
-def run(program, words, out=None, folder=None):
-    """One run of the program. Its output goes to the file `out`, where one is named, and is else the text."""
+def run(program, words, out=None, folder=None, said=os.devnull):
+    """One run of the program. Its output goes to the file `out`, where one is named, and is else the text; its errors go to `said`."""
     start = time.monotonic()
-    with open(out, 'wb') if out else tempfile.TemporaryFile() as file:
-        child = subprocess.Popen([program, *words], stdout=file, stderr=subprocess.DEVNULL, cwd=folder)
+    with open(out, 'wb') if out else tempfile.TemporaryFile() as file, open(said, 'wb') as errors:
+        child = subprocess.Popen([program, *words], stdout=file, stderr=errors, cwd=folder)
         _, status, usage = os.wait4(child.pid, 0)
         seconds = time.monotonic() - start
         child.returncode = os.waitstatus_to_exitcode(status)

@@ -1,35 +1,9 @@
 // Reads and writes that fail, and those that move few bytes: the status, and the bytes taken before that.
 
-use crate::runs::{Outside, ends_outside};
-use row_texts::PROOF;
-use std::alloc::Global;
-use std::process::Abort;
+use crate::runs::{ANSWER, Outside, UNIFIED, asks};
 use std::test::Fail;
 
-const UNIFIED: &[u8] =
-    b"\\existentialConstants { int a; } \\predicates { p(int); } \\problem { p(3) -> p(a) }";
-
-const ANSWER: &str = "VALID\nconstraint: a - 3 = 0\nsolution: a = 3\n";
-
-// Runs these words over the files `f` and `g`, and asks for the status and the bytes taken.
-fn asks(
-    rt: &impl Abort,
-    alloc: Global,
-    words: &[&str],
-    f: &[u8],
-    outside: &Outside<'_>,
-    answer: (u8, &str),
-) -> Result<(), Fail> {
-    let (status, text) = answer;
-    let (ended, taken) = ends_outside(alloc, words, &[("f", f), ("g", PROOF.as_bytes())], outside)?;
-    assert_eq!(rt; ended, status, "at {words:?} for {text}");
-    assert_eq!(rt;
-        taken.as_slice(),
-        text.as_bytes(),
-        "at {words:?} for {text}"
-    );
-    Ok(())
-}
+const TRUE: &[u8] = b"\\problem { true }";
 
 // The outside with a source that fails at these calls and gives so many bytes a read.
 fn reading(source_fails: &[u64], source_most: u64) -> Outside<'_> {
@@ -95,6 +69,28 @@ fn writes_that_fail_end_a_run(rt: HostRuntime) -> Result<(), Fail> {
             sink_most,
         };
         asks(&rt, rt.alloc(), &["solve", "f"], UNIFIED, &outside, answer)?;
+    }
+    Ok(())
+}
+
+#[test]
+fn faults_end_a_run(rt: HostRuntime) -> Result<(), Fail> {
+    let rows: [(&[u64], &[u64], (u8, &str)); 6] = [
+        (&[0], &[], (6, "")),
+        (&[1], &[], (6, "")),
+        (&[2], &[], (6, "")),
+        (&[3], &[2], (0, "VALID\n")),
+        (&[], &[1], (7, "VAL")),
+        (&[], &[0], (7, "")),
+    ];
+    for (source_fails, sink_fails, answer) in rows {
+        let outside = Outside {
+            source_fails,
+            source_most: u64::MAX,
+            sink_fails,
+            sink_most: 3,
+        };
+        asks(&rt, rt.alloc(), &["solve", "f"], TRUE, &outside, answer)?;
     }
     Ok(())
 }

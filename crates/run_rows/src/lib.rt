@@ -1,33 +1,9 @@
-// Rows of whole runs over memory: the status and the bytes taken, for words, faults, limits and problem files.
+// Rows of whole runs over memory: each job once, and sources and sinks that fail. `bench/rows` has the others, over the program itself.
 #![tactic(auto)]
 
 #[cfg(test)]
-mod at_limits;
-#[cfg(test)]
-mod changes;
-#[cfg(test)]
-mod decided;
-#[cfg(test)]
 mod faults;
 #[cfg(test)]
-mod interpolants;
-#[cfg(test)]
-mod least;
-#[cfg(test)]
-mod proofs;
-#[cfg(test)]
-mod refused;
+mod jobs;
 #[cfg(test)]
 mod runs;
-#[cfg(test)]
-mod scripts;
-#[cfg(test)]
-mod short;
-#[cfg(test)]
-mod solved;
-#[cfg(test)]
-mod strangers;
-#[cfg(test)]
-mod typed;
-#[cfg(test)]
-mod words;

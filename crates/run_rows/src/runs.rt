@@ -2,44 +2,17 @@
 
 use prover_io::{MemorySink, MemorySource};
 use prover_job::run;
+use row_texts::PROOF;
 use std::alloc::Global;
 use std::process::Abort;
 use std::test::Fail;
 use typed_formula::Table;
 
-// Runs these words over two files `f` and `-` of these bytes, and a sink that takes three bytes a call.
-pub fn ends(
-    alloc: Global,
-    words: &[&str],
-    bytes: &[u8],
-    source_fails: &[u64],
-    sink_fails: &[u64],
-) -> Result<(u8, Vec<u8>), Fail> {
-    ends_over(
-        alloc,
-        words,
-        &[("f", bytes), ("-", bytes)],
-        source_fails,
-        sink_fails,
-    )
-}
+// A problem, and what is told of it; PROOF is the proof behind that.
+pub const UNIFIED: &[u8] =
+    b"\\existentialConstants { int a; } \\predicates { p(int); } \\problem { p(3) -> p(a) }";
 
-// Runs these words over these files, and a sink that takes three bytes a call.
-pub fn ends_over(
-    alloc: Global,
-    words: &[&str],
-    named: &[(&str, &[u8])],
-    source_fails: &[u64],
-    sink_fails: &[u64],
-) -> Result<(u8, Vec<u8>), Fail> {
-    let outside = Outside {
-        source_fails,
-        source_most: u64::MAX,
-        sink_fails,
-        sink_most: 3,
-    };
-    ends_outside(alloc, words, named, &outside)
-}
+pub const ANSWER: &str = "VALID\nconstraint: a - 3 = 0\nsolution: a = 3\n";
 
 // What is outside of a run: the calls at which source and sink fail, and how many bytes they give and take in one call.
 #[derive(Clone, Copy)]
@@ -50,8 +23,27 @@ pub struct Outside<'a> {
     pub sink_most: u64,
 }
 
+// Runs these words over the files `f` and `g`, of which `g` has a proof, and asks for the status and the bytes taken.
+pub fn asks(
+    rt: &impl Abort,
+    alloc: Global,
+    words: &[&str],
+    f: &[u8],
+    outside: &Outside<'_>,
+    answer: (u8, &str),
+) -> Result<(), Fail> {
+    let (status, text) = answer;
+    let (ended, taken) = ends(alloc, words, &[("f", f), ("g", PROOF.as_bytes())], outside)?;
+    let came = taken.as_slice();
+    assert!(rt;
+        ended == status && came == text.as_bytes(),
+        "at {words:?} for {text}: {ended} {came:?}"
+    );
+    Ok(())
+}
+
 // Runs these words over these files.
-pub fn ends_outside(
+fn ends(
     alloc: Global,
     words: &[&str],
     named: &[(&str, &[u8])],
@@ -87,27 +79,4 @@ fn files(alloc: Global, named: &[(&str, &[u8])]) -> Result<Vec<(String, Vec<u8>)
         ))?;
     }
     Ok(files)
-}
-
-// Runs each of these files, and asks for its answer.
-pub fn answers(rt: &impl Abort, alloc: Global, rows: &[(&str, (u8, &str))]) -> Result<(), Fail> {
-    for (file, answer) in rows {
-        answers_to(rt, alloc, &["solve", "f"], file, *answer)?;
-    }
-    Ok(())
-}
-
-// Runs these words over this file, and asks for its answer.
-pub fn answers_to(
-    rt: &impl Abort,
-    alloc: Global,
-    words: &[&str],
-    file: &str,
-    answer: (u8, &str),
-) -> Result<(), Fail> {
-    let (status, text) = answer;
-    let (ended, taken) = ends(alloc, words, file.as_bytes(), &[], &[])?;
-    assert_eq!(rt; ended, status, "at {words:?} {file}");
-    assert_eq!(rt; taken.as_slice(), text.as_bytes(), "at {words:?} {file}");
-    Ok(())
 }
