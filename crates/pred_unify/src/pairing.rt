@@ -271,14 +271,6 @@ fn pairs_at(alloc: Global, leaf: &Leaf) -> Result<Items<Core>, TermFault>
     later_values(alloc, leaf.differing.as_slice(), ps)
 }
 
-/// The pairs of the sequent: where one of them is true, so is the sequent.
-pub fn pairs(alloc: Global, s: &Sequent) -> Result<Items<Core>, TermFault>
-    ensures { Made (map form) (pair.pairs_of (members_of s.now.members)) result }
-{
-    let leaf = Leaf::of_sequent(alloc, s)?;
-    pairs_at(alloc, &leaf)
-}
-
 /// The pure members among all constants.
 fn pures(alloc: Global, members: &[&Member], count: u32) -> Result<Items<Core>, Memory>
     requires { AllByRecursion (λ m. (m.over ≤ count) × (m.used + 1 < 2 ^ 32) × IsBelow (2 ^ 32 - (count - m.over)) (form m.formula)) (behind members.now) }

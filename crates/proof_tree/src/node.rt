@@ -35,32 +35,6 @@ pub struct Tree {
     pub conclusion: Conclusion,
 }
 
-impl Node {
-    /// The same tree once more.
-    #[cycle(again)]
-    pub fn copy(&self, alloc: Global) -> Result<Node, Memory>
-        ensures { IfOk result (λ n. n ≡ self.now) }
-    {
-        Ok(Node {
-            rule: self.rule,
-            children: copy_nodes(alloc, self.children.as_slice())?,
-            log: self.log.copy(alloc)?,
-            gives: copy_clauses(alloc, self.gives.as_slice())?,
-        })
-    }
-}
-
-#[cycle(again)]
-fn copy_nodes(alloc: Global, nodes: &[Node]) -> Result<Items<Node>, Memory>
-    ensures { IfOk result (λ ns. ns ≡ nodes.now) }
-{
-    let mut out = Items::new(alloc);
-    for n in nodes {
-        out.push(n.copy(alloc)?)?;
-    }
-    Ok(out)
-}
-
 /// The same clauses once more.
 pub fn copy_clauses(
     alloc: Global,
@@ -86,18 +60,5 @@ impl Conclusion {
             }
             Conclusion::Nothing(log) => Ok(Conclusion::Nothing(log.copy(alloc)?)),
         }
-    }
-}
-
-impl Tree {
-    /// The same proof once more.
-    pub fn copy(&self, alloc: Global) -> Result<Tree, Memory>
-        ensures { IfOk result (λ t. t ≡ self.now) }
-    {
-        Ok(Tree {
-            charges: self.charges,
-            root: self.root.copy(alloc)?,
-            conclusion: self.conclusion.copy(alloc)?,
-        })
     }
 }

@@ -1,11 +1,8 @@
 // What a proof says, and where a search that found none stood.
 
-ghost use Rattle.std.specs.Prelude.{◌≡◌, IfOk};
-
-use linear_term::{Memory, Place};
+use linear_term::Place;
 use purse::ElimLog;
 use sqlite_items::Items;
-use std::alloc::Global;
 
 /// What a proof says: these values of the existential constants satisfy its constraint, or nothing does.
 #[derive(Drop)]
@@ -33,33 +30,4 @@ pub struct Run {
     pub nodes: u64,
     pub log: ElimLog,
     pub spent: u64,
-}
-
-impl Verdict {
-    /// The same verdict once more.
-    pub fn copy(&self, alloc: Global) -> Result<Verdict, Memory>
-        ensures { IfOk result (λ v. v ≡ self.now) }
-    {
-        match self {
-            Verdict::Valid(values) => Ok(Verdict::Valid(Items::from_slice(
-                alloc,
-                values.as_slice(),
-            )?)),
-            Verdict::Invalid => Ok(Verdict::Invalid),
-        }
-    }
-}
-
-impl Run {
-    /// The same run once more.
-    pub fn copy(&self, alloc: Global) -> Result<Run, Memory>
-        ensures { IfOk result (λ r. r ≡ self.now) }
-    {
-        Ok(Run {
-            round: self.round,
-            nodes: self.nodes,
-            log: self.log.copy(alloc)?,
-            spent: self.spent,
-        })
-    }
 }

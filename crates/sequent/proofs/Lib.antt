@@ -1,7 +1,6 @@
 pub mod Members
 pub mod Shaping
 pub mod Stepping
-pub mod Fitting
 pub mod Premising
 pub mod Forming
 pub mod Firsts

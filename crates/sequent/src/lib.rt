@@ -17,6 +17,6 @@ mod starting;
 pub use branches::{branch, count_after, width_of};
 pub use laws::{covers_law, first_law, formed_law, last_law, pick_law, room_law, tight_law};
 pub use member::{Member, Pick, Sequent, Shape};
-pub use picking::{applies, fits, pick, takes};
+pub use picking::{fits, takes};
 pub use premises::{premise, width};
 pub use starting::start;
