@@ -108,4 +108,10 @@ least_of_two a b {r} {k} {l} e f g = e ∙ ap (λ z. earlier z l) f ∙ ap (earl
 pub least-three : (a b c : List TypeRefusal) → least (a ++ b ++ c) ≡ earlier (earlier (least a) (least b)) (least c)
 least-three a b c = least-append (a ++ b) c ∙ ap (λ z. earlier z (least c)) (least-append a b)
 
+-- the least of some faults and those of two more operands
+pub with_operands : (s : Scope) (category : Category) (own : List TypeRefusal) (x y z w : Expr) {r k : Option TypeRefusal}
+    → r ≡ earlier (earlier k (least (operand_faults s category x))) (least (operand_faults s category z)) → x ≡ y → z ≡ w → k ≡ least own
+    → r ≡ least (own ++ operand_faults s category y ++ operand_faults s category w)
+with_operands s category own x y z w e f g h = with_operand s category (own ++ operand_faults s category y) z w e g (with_operand s category own x y refl f h)
+
 pub ruleset faulting = (least-append, first_token_is, count_is, all_faults-take, addend_faults-take)

@@ -1,6 +1,6 @@
 // The first application of a formula.
 
-ghost use Rattle.std.specs.Prelude.{◌≡◌, Option};
+ghost use Rattle.std.specs.Prelude.{◌≡◌, ◌++◌, Option};
 ghost use Rattle.std.specs.Option.{option_or};
 ghost use Rattle.pri_typing.specs.Sites.{scope_at};
 ghost use Rattle.pri_typing.specs.Phrase.{addends_of, phrase, phrases_of};
@@ -37,8 +37,7 @@ pub fn first_application(here: &Site, expr: &Expr) -> Option<u64>
         }
         Form::Group(inner) => first_application(here, inner.get()),
         Form::If(condition, yes, no) => {
-            let test = first_application(here, condition.get());
-            let first = first_some(test, first_application(here, yes.get()));
+            let first = first_of_two(here, condition.get(), yes.get());
             first_some(first, first_application(here, no.get()))
         }
         Form::Abs(inner) => first_application(here, inner.get()),
@@ -60,31 +59,23 @@ pub fn first_application(here: &Site, expr: &Expr) -> Option<u64>
         Form::Part(_, body) => first_application(here, body.get()),
         Form::And(members) => first_of_all(here, members.as_slice()),
         Form::Or(members) => first_of_all(here, members.as_slice()),
-        Form::Min(left, right) => {
-            let first = first_application(here, left.get());
-            first_some(first, first_application(here, right.get()))
-        }
-        Form::Max(left, right) => {
-            let first = first_application(here, left.get());
-            first_some(first, first_application(here, right.get()))
-        }
-        Form::Product(left, _, right) => {
-            let first = first_application(here, left.get());
-            first_some(first, first_application(here, right.get()))
-        }
-        Form::Compare(_, left, right) => {
-            let first = first_application(here, left.get());
-            first_some(first, first_application(here, right.get()))
-        }
-        Form::Implies(left, right) => {
-            let first = first_application(here, left.get());
-            first_some(first, first_application(here, right.get()))
-        }
-        Form::Iff(left, right) => {
-            let first = first_application(here, left.get());
-            first_some(first, first_application(here, right.get()))
-        }
+        Form::Min(left, right) => first_of_two(here, left.get(), right.get()),
+        Form::Max(left, right) => first_of_two(here, left.get(), right.get()),
+        Form::Product(left, _, right) => first_of_two(here, left.get(), right.get()),
+        Form::Compare(_, left, right) => first_of_two(here, left.get(), right.get()),
+        Form::Implies(left, right) => first_of_two(here, left.get(), right.get()),
+        Form::Iff(left, right) => first_of_two(here, left.get(), right.get()),
     }
+}
+
+/// The offset of the first such identifier of one expression, or else of the other.
+#[cycle(applications)]
+#[tactic(auto, using(crate::proofs::Collecting::applying))]
+fn first_of_two(here: &Site, left: &Expr, right: &Expr) -> Option<u64>
+    ensures { result ≡ first_of (applications (scope_at here.now) (phrase left.now) ++ applications (scope_at here.now) (phrase right.now)) }
+{
+    let first = first_application(here, left);
+    first_some(first, first_application(here, right))
 }
 
 #[cycle(applications)]

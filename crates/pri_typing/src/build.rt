@@ -1,7 +1,7 @@
 // The formula or the term that an expression says, with every name resolved to its number.
 
 ghost use Rattle.std.specs.Prelude.{◌≡◌, List, ℕ, IfOk, ◌∷◌, []};
-ghost use Rattle.typed_formula.specs.Formula.{and_expression, expression, expressions_of, formula, formulas_of};
+ghost use Rattle.typed_formula.specs.Formula.{and_expression, compares, expression, expressions_of, formula, formulas_of};
 ghost use Rattle.pri_typing.specs.Sites.{IsFit, scope_at};
 ghost use Rattle.pri_typing.specs.Limits.{AddendsAreReady, AreReady, IsReady, IsReadyUnder};
 ghost use Rattle.pri_typing.specs.Phrase.{addends_of, phrase, phrases_of};
@@ -100,11 +100,7 @@ pub fn build_formula(alloc: Global, here: &Site, expr: &Expr) -> Result<Typed, M
         }
         Form::Group(inner) => build_formula(alloc, here, inner.get()),
         Form::Compare(sign, left, right) => {
-            Ok(Typed::Rel(
-                relation(*sign),
-                build_term(alloc, here, left.get())?,
-                build_term(alloc, here, right.get())?,
-            ))
+            build_comparison(alloc, here, *sign, left.get(), right.get())
         }
         Form::Not(inner) => Ok(Typed::Not(boxed_formula(alloc, here, inner.get())?)),
         Form::Quantified(all, names, body) => {
@@ -119,25 +115,21 @@ pub fn build_formula(alloc: Global, here: &Site, expr: &Expr) -> Result<Typed, M
         Form::And(members) => Ok(Typed::And(build_members(alloc, here, members.as_slice())?)),
         Form::Or(members) => Ok(Typed::Or(build_members(alloc, here, members.as_slice())?)),
         Form::Implies(left, right) => {
-            Ok(Typed::Implies(
-                boxed_formula(alloc, here, left.get())?,
-                boxed_formula(alloc, here, right.get())?,
-            ))
+            let (left, right) = boxed_formulas(alloc, here, left.get(), right.get())?;
+            Ok(Typed::Implies(left, right))
         }
         Form::Iff(left, right) => {
-            Ok(Typed::Iff(
-                boxed_formula(alloc, here, left.get())?,
-                boxed_formula(alloc, here, right.get())?,
-            ))
+            let (left, right) = boxed_formulas(alloc, here, left.get(), right.get())?;
+            Ok(Typed::Iff(left, right))
         }
-        Form::Number(_) => Ok(Typed::Truth(false)),
-        Form::If(_, _, _) => Ok(Typed::Truth(false)),
-        Form::Abs(_) => Ok(Typed::Truth(false)),
-        Form::Min(_, _) => Ok(Typed::Truth(false)),
-        Form::Max(_, _) => Ok(Typed::Truth(false)),
-        Form::Minus(_) => Ok(Typed::Truth(false)),
-        Form::Product(_, _, _) => Ok(Typed::Truth(false)),
-        Form::Sum(_, _) => Ok(Typed::Truth(false)),
+        Form::Number(_)
+        | Form::If(_, _, _)
+        | Form::Abs(_)
+        | Form::Min(_, _)
+        | Form::Max(_, _)
+        | Form::Minus(_)
+        | Form::Product(_, _, _)
+        | Form::Sum(_, _) => Ok(Typed::Truth(false)),
     }
 }
 
@@ -155,45 +147,37 @@ pub fn build_term(alloc: Global, here: &Site, expr: &Expr) -> Result<TypedTerm, 
         }
         Form::Group(inner) => build_term(alloc, here, inner.get()),
         Form::If(condition, yes, no) => {
-            Ok(TypedTerm::If(
-                boxed_formula(alloc, here, condition.get())?,
-                boxed_term(alloc, here, yes.get())?,
-                boxed_term(alloc, here, no.get())?,
-            ))
+            let condition = boxed_formula(alloc, here, condition.get())?;
+            let (yes, no) = boxed_terms(alloc, here, yes.get(), no.get())?;
+            Ok(TypedTerm::If(condition, yes, no))
         }
         Form::Abs(inner) => Ok(TypedTerm::Abs(boxed_term(alloc, here, inner.get())?)),
         Form::Min(left, right) => {
-            Ok(TypedTerm::Min(
-                boxed_term(alloc, here, left.get())?,
-                boxed_term(alloc, here, right.get())?,
-            ))
+            let (left, right) = boxed_terms(alloc, here, left.get(), right.get())?;
+            Ok(TypedTerm::Min(left, right))
         }
         Form::Max(left, right) => {
-            Ok(TypedTerm::Max(
-                boxed_term(alloc, here, left.get())?,
-                boxed_term(alloc, here, right.get())?,
-            ))
+            let (left, right) = boxed_terms(alloc, here, left.get(), right.get())?;
+            Ok(TypedTerm::Max(left, right))
         }
         Form::Minus(inner) => Ok(TypedTerm::Minus(boxed_term(alloc, here, inner.get())?)),
         Form::Product(left, _, right) => {
-            Ok(TypedTerm::Product(
-                boxed_term(alloc, here, left.get())?,
-                boxed_term(alloc, here, right.get())?,
-            ))
+            let (left, right) = boxed_terms(alloc, here, left.get(), right.get())?;
+            Ok(TypedTerm::Product(left, right))
         }
         Form::Sum(first, more) => {
-            let first = build_term(alloc, here, first.get())?;
+            let first = boxed_term(alloc, here, first.get())?;
             Ok(TypedTerm::Sum(build_sum(alloc, here, more.as_slice(), first)?))
         }
-        Form::Truth(_) => Ok(TypedTerm::Number(0)),
-        Form::Compare(_, _, _) => Ok(TypedTerm::Number(0)),
-        Form::Not(_) => Ok(TypedTerm::Number(0)),
-        Form::Quantified(_, _, _) => Ok(TypedTerm::Number(0)),
-        Form::Part(_, _) => Ok(TypedTerm::Number(0)),
-        Form::And(_) => Ok(TypedTerm::Number(0)),
-        Form::Or(_) => Ok(TypedTerm::Number(0)),
-        Form::Implies(_, _) => Ok(TypedTerm::Number(0)),
-        Form::Iff(_, _) => Ok(TypedTerm::Number(0)),
+        Form::Truth(_)
+        | Form::Compare(_, _, _)
+        | Form::Not(_)
+        | Form::Quantified(_, _, _)
+        | Form::Part(_, _)
+        | Form::And(_)
+        | Form::Or(_)
+        | Form::Implies(_, _)
+        | Form::Iff(_, _) => Ok(TypedTerm::Number(0)),
     }
 }
 
@@ -205,12 +189,62 @@ fn boxed_formula(alloc: Global, here: &Site, expr: &Expr) -> Result<Boxed<Typed>
     Ok(Boxed::new(alloc, build_formula(alloc, here, expr)?)?)
 }
 
+/// The formulas that two expressions say, each by itself on the heap.
+#[cycle(build)]
+fn boxed_formulas(
+    alloc: Global,
+    here: &Site,
+    left: &Expr,
+    right: &Expr,
+) -> Result<(Boxed<Typed>, Boxed<Typed>), Memory>
+    requires left { IsReady here.now (phrase left.now) }
+    requires right { IsReady here.now (phrase right.now) }
+    ensures { IfOk result (λ fs. (formula fs.0 ≡ says (scope_at here.now) (phrase left.now)) × (formula fs.1 ≡ says (scope_at here.now) (phrase right.now))) }
+{
+    let left = boxed_formula(alloc, here, left)?;
+    Ok((left, boxed_formula(alloc, here, right)?))
+}
+
 #[cycle(build)]
 fn boxed_term(alloc: Global, here: &Site, expr: &Expr) -> Result<Boxed<TypedTerm>, Memory>
     requires { IsReady here.now (phrase expr.now) }
     ensures { IfOk result (λ t. expression t ≡ value (scope_at here.now) (phrase expr.now)) }
 {
     Ok(Boxed::new(alloc, build_term(alloc, here, expr)?)?)
+}
+
+/// The terms that two expressions say, each by itself on the heap.
+#[cycle(build)]
+fn boxed_terms(
+    alloc: Global,
+    here: &Site,
+    left: &Expr,
+    right: &Expr,
+) -> Result<(Boxed<TypedTerm>, Boxed<TypedTerm>), Memory>
+    requires left { IsReady here.now (phrase left.now) }
+    requires right { IsReady here.now (phrase right.now) }
+    ensures { IfOk result (λ ts. (expression ts.0 ≡ value (scope_at here.now) (phrase left.now)) × (expression ts.1 ≡ value (scope_at here.now) (phrase right.now))) }
+{
+    let left = boxed_term(alloc, here, left)?;
+    Ok((left, boxed_term(alloc, here, right)?))
+}
+
+/// The comparison of two terms.
+#[cycle(build)]
+fn build_comparison(
+    alloc: Global,
+    here: &Site,
+    sign: Comparison,
+    left: &Expr,
+    right: &Expr,
+) -> Result<Typed, Memory>
+    requires left { IsReady here.now (phrase left.now) }
+    requires right { IsReady here.now (phrase right.now) }
+    ensures { IfOk result (λ f. formula f ≡ compares (relation_of sign) (value (scope_at here.now) (phrase left.now)) (value (scope_at here.now) (phrase right.now))) }
+{
+    let left = boxed_term(alloc, here, left)?;
+    let right = build_term(alloc, here, right)?;
+    Ok(Typed::Rel(relation(sign), left.into_inner(), right))
 }
 
 /// The formula of a quantifier that binds these names.
@@ -265,27 +299,28 @@ fn build_sum(
     alloc: Global,
     here: &Site,
     more: &[Added],
-    first: TypedTerm,
+    first: Boxed<TypedTerm>,
 ) -> Result<Items<TypedTerm>, Memory>
     requires { AddendsAreReady here.now (addends_of more.now) }
     ensures { IfOk result (λ ts. expressions_of ts ≡ and_expression (expression first) (signed_terms (scope_at here.now) (addends_of more.now))) }
 {
     let mut out = Items::new(alloc);
-    out.push(first)?;
+    out.push(first.into_inner())?;
     for added in more {
-        let term = build_term(alloc, here, &added.term)?;
-        out.push(with_sign(alloc, added.minus, term)?)?;
+        out.push(build_signed(alloc, here, added.minus, &added.term)?)?;
     }
     Ok(out)
 }
 
 /// A later term of a sum with its sign.
-fn with_sign(alloc: Global, minus: bool, term: TypedTerm) -> Result<TypedTerm, Memory>
-    ensures { IfOk result (λ t. expression t ≡ signed minus (expression term)) }
+#[cycle(build)]
+fn build_signed(alloc: Global, here: &Site, minus: bool, expr: &Expr) -> Result<TypedTerm, Memory>
+    requires { IsReady here.now (phrase expr.now) }
+    ensures { IfOk result (λ t. expression t ≡ signed minus (value (scope_at here.now) (phrase expr.now))) }
 {
     if minus {
-        Ok(TypedTerm::Minus(Boxed::new(alloc, term)?))
+        Ok(TypedTerm::Minus(boxed_term(alloc, here, expr)?))
     } else {
-        Ok(term)
+        build_term(alloc, here, expr)
     }
 }

@@ -31,8 +31,7 @@ pub fn collect(alloc: Global, out: &mut Items<Name>, expr: &Expr) -> Result<(), 
         Form::Use(_, arguments) => collect_all(alloc, out, arguments.as_slice()),
         Form::Group(inner) => collect(alloc, out, inner.get()),
         Form::If(condition, yes, no) => {
-            collect(alloc, out, condition.get())?;
-            collect(alloc, out, yes.get())?;
+            collect_two(alloc, out, condition.get(), yes.get())?;
             collect(alloc, out, no.get())
         }
         Form::Abs(inner) => collect(alloc, out, inner.get()),
@@ -49,31 +48,28 @@ pub fn collect(alloc: Global, out: &mut Items<Name>, expr: &Expr) -> Result<(), 
         }
         Form::And(members) => collect_all(alloc, out, members.as_slice()),
         Form::Or(members) => collect_all(alloc, out, members.as_slice()),
-        Form::Min(left, right) => {
-            collect(alloc, out, left.get())?;
-            collect(alloc, out, right.get())
-        }
-        Form::Max(left, right) => {
-            collect(alloc, out, left.get())?;
-            collect(alloc, out, right.get())
-        }
-        Form::Product(left, _, right) => {
-            collect(alloc, out, left.get())?;
-            collect(alloc, out, right.get())
-        }
-        Form::Compare(_, left, right) => {
-            collect(alloc, out, left.get())?;
-            collect(alloc, out, right.get())
-        }
-        Form::Implies(left, right) => {
-            collect(alloc, out, left.get())?;
-            collect(alloc, out, right.get())
-        }
-        Form::Iff(left, right) => {
-            collect(alloc, out, left.get())?;
-            collect(alloc, out, right.get())
-        }
+        Form::Min(left, right) => collect_two(alloc, out, left.get(), right.get()),
+        Form::Max(left, right) => collect_two(alloc, out, left.get(), right.get()),
+        Form::Product(left, _, right) => collect_two(alloc, out, left.get(), right.get()),
+        Form::Compare(_, left, right) => collect_two(alloc, out, left.get(), right.get()),
+        Form::Implies(left, right) => collect_two(alloc, out, left.get(), right.get()),
+        Form::Iff(left, right) => collect_two(alloc, out, left.get(), right.get()),
     }
+}
+
+/// Puts the parts of one expression and of the next behind others.
+#[cycle(collect)]
+#[tactic(auto, using(crate::proofs::Collecting::collecting))]
+fn collect_two(
+    alloc: Global,
+    out: &mut Items<Name>,
+    left: &Expr,
+    right: &Expr,
+) -> Result<(), Memory>
+    ensures { OnOk result (out.new ≡ out.old ++ parts_in (phrase left.now) ++ parts_in (phrase right.now)) }
+{
+    collect(alloc, out, left)?;
+    collect(alloc, out, right)
 }
 
 #[cycle(collect)]

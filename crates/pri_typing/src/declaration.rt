@@ -3,7 +3,7 @@
 use sqlite_items::Items;
 
 /// What a symbol is declared as. The numbers are those of the arguments, of a function at least one.
-#[derive(Clone, Copy, Debug, PartialEq, Eq)]
+#[derive(Clone, Copy)]
 pub enum Kind {
     Existential,
     Universal,
@@ -12,7 +12,7 @@ pub enum Kind {
 }
 
 /// A declaration of a symbol, with the offset of its name.
-#[derive(Debug, Drop)]
+#[derive(Drop)]
 pub struct Declaration {
     pub at: u64,
     pub text: Items<u8>,

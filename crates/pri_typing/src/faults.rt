@@ -62,20 +62,20 @@ fn is_built_of_numbers(expr: &Expr) -> bool
         Form::Sum(first, more) => {
             is_built_of_numbers(first.get()) && are_built_of_numbers(more.as_slice())
         }
-        Form::Truth(_) => false,
-        Form::Use(_, _) => false,
-        Form::If(_, _, _) => false,
-        Form::Abs(_) => false,
-        Form::Min(_, _) => false,
-        Form::Max(_, _) => false,
-        Form::Compare(_, _, _) => false,
-        Form::Not(_) => false,
-        Form::Quantified(_, _, _) => false,
-        Form::Part(_, _) => false,
-        Form::And(_) => false,
-        Form::Or(_) => false,
-        Form::Implies(_, _) => false,
-        Form::Iff(_, _) => false,
+        Form::Truth(_)
+        | Form::Use(_, _)
+        | Form::If(_, _, _)
+        | Form::Abs(_)
+        | Form::Min(_, _)
+        | Form::Max(_, _)
+        | Form::Compare(_, _, _)
+        | Form::Not(_)
+        | Form::Quantified(_, _, _)
+        | Form::Part(_, _)
+        | Form::And(_)
+        | Form::Or(_)
+        | Form::Implies(_, _)
+        | Form::Iff(_, _) => false,
     }
 }
 
@@ -123,27 +123,15 @@ fn fault_at(site: &Site, want: Category, at: u64, expr: &Expr) -> Option<TypeRef
         Form::Group(inner) => fault_at(site, want, at, inner.get()),
         Form::If(condition, yes, no) => {
             let test = with_one(site, term, Category::Formula, condition.get());
-            let first = with_one(site, test, Category::Term, yes.get());
-            with_one(site, first, Category::Term, no.get())
+            with_two(site, test, Category::Term, yes.get(), no.get())
         }
         Form::Abs(inner) => with_one(site, term, Category::Term, inner.get()),
-        Form::Min(left, right) => with_one(
-            site,
-            with_one(site, term, Category::Term, left.get()),
-            Category::Term,
-            right.get(),
-        ),
-        Form::Max(left, right) => with_one(
-            site,
-            with_one(site, term, Category::Term, left.get()),
-            Category::Term,
-            right.get(),
-        ),
+        Form::Min(left, right) => { with_two(site, term, Category::Term, left.get(), right.get()) }
+        Form::Max(left, right) => { with_two(site, term, Category::Term, left.get(), right.get()) }
         Form::Minus(inner) => with_one(site, term, Category::Term, inner.get()),
         Form::Product(left, star, right) => {
             let own = earlier_of(term, product_fault(left.get(), *star, right.get()));
-            let first = with_one(site, own, Category::Term, left.get());
-            with_one(site, first, Category::Term, right.get())
+            with_two(site, own, Category::Term, left.get(), right.get())
         }
         Form::Sum(first, more) => {
             earlier_of(
@@ -152,12 +140,7 @@ fn fault_at(site: &Site, want: Category, at: u64, expr: &Expr) -> Option<TypeRef
             )
         }
         Form::Compare(_, left, right) => {
-            with_one(
-                site,
-                with_one(site, formula, Category::Term, left.get()),
-                Category::Term,
-                right.get(),
-            )
+            with_two(site, formula, Category::Term, left.get(), right.get())
         }
         Form::Not(inner) => with_one(site, formula, Category::Formula, inner.get()),
         Form::Quantified(_, names, body) => {
@@ -183,19 +166,11 @@ fn fault_at(site: &Site, want: Category, at: u64, expr: &Expr) -> Option<TypeRef
             )
         }
         Form::Implies(left, right) => {
-            with_one(
-                site,
-                with_one(site, formula, Category::Formula, left.get()),
-                Category::Formula,
-                right.get(),
-            )
+            with_two(site, formula, Category::Formula, left.get(), right.get())
         }
-        Form::Iff(left, right) => with_one(
-            site,
-            with_one(site, formula, Category::Formula, left.get()),
-            Category::Formula,
-            right.get(),
-        ),
+        Form::Iff(left, right) => {
+            with_two(site, formula, Category::Formula, left.get(), right.get())
+        }
     }
 }
 
@@ -219,6 +194,23 @@ fn with_one(
     ensures { result ≡ earlier own (least (faults (scope_at site.now) category (first_token (phrase operand.now)) (phrase operand.now))) }
 {
     earlier_of(own, fault(site, category, operand))
+}
+
+/// The least of a fault and those of two operands of this category.
+#[cycle(faults)]
+#[tactic(auto, using(crate::proofs::Faulting::faulting))]
+fn with_two(
+    site: &Site,
+    own: Option<TypeRefusal>,
+    category: Category,
+    left: &Expr,
+    right: &Expr,
+) -> Option<TypeRefusal>
+    ensures { result ≡ earlier (earlier own (least (faults (scope_at site.now) category (first_token (phrase left.now)) (phrase left.now))))
+        (least (faults (scope_at site.now) category (first_token (phrase right.now)) (phrase right.now))) }
+{
+    let first = with_one(site, own, category, left);
+    with_one(site, first, category, right)
 }
 
 #[cycle(faults)]

@@ -81,18 +81,18 @@ pub fn formula_fault(alloc: Global, plus: bool, expr: &Expr) -> Result<Option<Ty
         }
         Form::Part(_, body) => inner_fault(alloc, body.get()),
         Form::Truth(_) => Ok(None),
-        Form::Number(_) => other_fault(alloc, expr),
-        Form::Use(_, _) => other_fault(alloc, expr),
-        Form::If(_, _, _) => other_fault(alloc, expr),
-        Form::Abs(_) => other_fault(alloc, expr),
-        Form::Min(_, _) => other_fault(alloc, expr),
-        Form::Max(_, _) => other_fault(alloc, expr),
-        Form::Minus(_) => other_fault(alloc, expr),
-        Form::Product(_, _, _) => other_fault(alloc, expr),
-        Form::Sum(_, _) => other_fault(alloc, expr),
-        Form::Compare(_, _, _) => other_fault(alloc, expr),
-        Form::Quantified(_, _, _) => other_fault(alloc, expr),
-        Form::Iff(_, _) => other_fault(alloc, expr),
+        Form::Number(_)
+        | Form::Use(_, _)
+        | Form::If(_, _, _)
+        | Form::Abs(_)
+        | Form::Min(_, _)
+        | Form::Max(_, _)
+        | Form::Minus(_)
+        | Form::Product(_, _, _)
+        | Form::Sum(_, _)
+        | Form::Compare(_, _, _)
+        | Form::Quantified(_, _, _)
+        | Form::Iff(_, _) => other_fault(alloc, expr),
     }
 }
 

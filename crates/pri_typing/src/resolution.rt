@@ -110,13 +110,15 @@ fn pose(alloc: Global, blocks: &[Block], here: &Site, expr: &Expr) -> Result<Pro
 {
     let cuts = cuts(alloc, here.parts, blocks)?;
     let parts = here.parts.to_items(alloc)?;
+    let of_existentials = existential_types(alloc, blocks)?;
+    let of_universals = universal_types(alloc, blocks)?;
     let lists = here.symbols.to_lists(alloc)?;
     let formula = build_formula(alloc, here, expr)?;
     Ok(Problem {
         existentials: lists.existentials,
         universals: lists.universals,
-        existential_types: existential_types(alloc, blocks)?,
-        universal_types: universal_types(alloc, blocks)?,
+        existential_types: of_existentials,
+        universal_types: of_universals,
         functions: lists.functions,
         predicates: lists.predicates,
         parts,

@@ -14,14 +14,14 @@ use pri_reader::Declared;
 use texts::Texts;
 
 /// What an expression is: a formula, or a term.
-#[derive(Clone, Copy, Debug, PartialEq, Eq)]
+#[derive(Clone, Copy)]
 pub enum Category {
     Formula,
     Term,
 }
 
 /// What a use of a name has to look like: what it is, and the number of its arguments.
-#[derive(Clone, Copy, Debug, PartialEq, Eq)]
+#[derive(Clone, Copy)]
 pub struct Use {
     pub category: Category,
     pub arity: u32,
@@ -29,7 +29,7 @@ pub struct Use {
 
 /// What a name stands for: a constant or a bound variable by its number as a name of the problem's formula, and a function
 /// or a predicate by its number and its arity.
-#[derive(Clone, Copy, Debug, PartialEq, Eq)]
+#[derive(Clone, Copy)]
 pub enum Referent {
     Name(u32),
     Function(u32, u32),

@@ -21,8 +21,8 @@ build_members-build_formula-requires t c = (search (rules, the_lemmas), subst (�
 pub build_terms-build_term-requires : goal.build_terms-build_term-requires
 build_terms-build_term-requires t c = (search (rules, the_lemmas), subst (λ e. IsReady c.args.here.now (phrase e)) (sym c.expr-item.is) (ready_member c.args.here.now c.args.exprs.now c.loop-expr.expr-index c.expr-item.result c.requires c.loop-expr-test.true))
 
-pub build_sum-build_term-requires : goal.build_sum-build_term-requires
-build_sum-build_term-requires t c = (search (rules, the_lemmas), subst (λ a. IsReady c.args.here.now (phrase a.term)) (sym c.added-item.is) (ready_addend c.args.here.now c.args.more.now c.loop-added.added-index c.added-item.result c.requires c.loop-added-test.true))
+pub build_sum-build_signed-requires : goal.build_sum-build_signed-requires
+build_sum-build_signed-requires t c = (search (rules, the_lemmas), subst (λ a. IsReady c.args.here.now (phrase a.term)) (sym c.added-item.is) (ready_addend c.args.here.now c.args.more.now c.loop-added.added-index c.added-item.result c.requires c.loop-added-test.true))
 
 pub build_quantified-build_formula-requires : goal.build_quantified-build_formula-requires
 build_quantified-build_formula-requires t c = (search (rules, the_lemmas), ready_body c.args.here.now _ c.args.names.now (phrase c.args.body.now) c.requires refl refl refl)
