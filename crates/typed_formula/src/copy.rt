@@ -15,19 +15,23 @@ impl Typed {
     {
         match self {
             Typed::Truth(b) => Ok(Typed::Truth(*b)),
-            Typed::Rel(relation, s, t) => Ok(Typed::Rel(*relation, s.copy(alloc)?, t.copy(alloc)?)),
+            Typed::Rel(relation, s, t) => {
+                let left = copy_term(alloc, s)?;
+                let right = t.copy(alloc)?;
+                Ok(Typed::Rel(*relation, left.into_inner(), right))
+            }
             Typed::Pred(p, ts) => Ok(Typed::Pred(*p, copy_terms(alloc, ts.as_slice())?)),
             Typed::Not(f) => Ok(Typed::Not(copy_formula(alloc, f.get())?)),
             Typed::And(fs) => Ok(Typed::And(copy_formulas(alloc, fs.as_slice())?)),
             Typed::Or(fs) => Ok(Typed::Or(copy_formulas(alloc, fs.as_slice())?)),
-            Typed::Implies(f, g) => Ok(Typed::Implies(
-                copy_formula(alloc, f.get())?,
-                copy_formula(alloc, g.get())?,
-            )),
-            Typed::Iff(f, g) => Ok(Typed::Iff(
-                copy_formula(alloc, f.get())?,
-                copy_formula(alloc, g.get())?,
-            )),
+            Typed::Implies(f, g) => {
+                let (left, right) = copy_two_formulas(alloc, f.get(), g.get())?;
+                Ok(Typed::Implies(left, right))
+            }
+            Typed::Iff(f, g) => {
+                let (left, right) = copy_two_formulas(alloc, f.get(), g.get())?;
+                Ok(Typed::Iff(left, right))
+            }
             Typed::Forall(sort, f) => Ok(Typed::Forall(*sort, copy_formula(alloc, f.get())?)),
             Typed::Exists(sort, f) => Ok(Typed::Exists(*sort, copy_formula(alloc, f.get())?)),
             Typed::Part(k, f) => Ok(Typed::Part(*k, copy_formula(alloc, f.get())?)),
@@ -47,26 +51,24 @@ impl TypedTerm {
             TypedTerm::Apply(f, ts) => Ok(TypedTerm::Apply(*f, copy_terms(alloc, ts.as_slice())?)),
             TypedTerm::Minus(t) => Ok(TypedTerm::Minus(copy_term(alloc, t.get())?)),
             TypedTerm::Sum(ts) => Ok(TypedTerm::Sum(copy_terms(alloc, ts.as_slice())?)),
-            TypedTerm::Product(s, t) => Ok(TypedTerm::Product(
-                copy_term(alloc, s.get())?,
-                copy_term(alloc, t.get())?,
-            )),
+            TypedTerm::Product(s, t) => {
+                let (left, right) = copy_two_terms(alloc, s.get(), t.get())?;
+                Ok(TypedTerm::Product(left, right))
+            }
             TypedTerm::If(f, s, t) => {
-                Ok(TypedTerm::If(
-                    copy_formula(alloc, f.get())?,
-                    copy_term(alloc, s.get())?,
-                    copy_term(alloc, t.get())?,
-                ))
+                let condition = copy_formula(alloc, f.get())?;
+                let (left, right) = copy_two_terms(alloc, s.get(), t.get())?;
+                Ok(TypedTerm::If(condition, left, right))
             }
             TypedTerm::Abs(t) => Ok(TypedTerm::Abs(copy_term(alloc, t.get())?)),
-            TypedTerm::Min(s, t) => Ok(TypedTerm::Min(
-                copy_term(alloc, s.get())?,
-                copy_term(alloc, t.get())?,
-            )),
-            TypedTerm::Max(s, t) => Ok(TypedTerm::Max(
-                copy_term(alloc, s.get())?,
-                copy_term(alloc, t.get())?,
-            )),
+            TypedTerm::Min(s, t) => {
+                let (left, right) = copy_two_terms(alloc, s.get(), t.get())?;
+                Ok(TypedTerm::Min(left, right))
+            }
+            TypedTerm::Max(s, t) => {
+                let (left, right) = copy_two_terms(alloc, s.get(), t.get())?;
+                Ok(TypedTerm::Max(left, right))
+            }
         }
     }
 }
@@ -83,6 +85,32 @@ fn copy_term(alloc: Global, term: &TypedTerm) -> Result<Boxed<TypedTerm>, Memory
     ensures { IfOk result (λ t. t ≡ term.now) }
 {
     Ok(Boxed::new(alloc, term.copy(alloc)?)?)
+}
+
+/// Two formulas once more, each by itself on the heap.
+#[cycle(copy)]
+fn copy_two_formulas(
+    alloc: Global,
+    left: &Typed,
+    right: &Typed,
+) -> Result<(Boxed<Typed>, Boxed<Typed>), Memory>
+    ensures { IfOk result (λ fs. (fs.0 ≡ left.now) × (fs.1 ≡ right.now)) }
+{
+    let left = copy_formula(alloc, left)?;
+    Ok((left, copy_formula(alloc, right)?))
+}
+
+/// Two terms once more, each by itself on the heap.
+#[cycle(copy)]
+fn copy_two_terms(
+    alloc: Global,
+    left: &TypedTerm,
+    right: &TypedTerm,
+) -> Result<(Boxed<TypedTerm>, Boxed<TypedTerm>), Memory>
+    ensures { IfOk result (λ ts. (ts.0 ≡ left.now) × (ts.1 ≡ right.now)) }
+{
+    let left = copy_term(alloc, left)?;
+    Ok((left, copy_term(alloc, right)?))
 }
 
 #[cycle(copy)]
