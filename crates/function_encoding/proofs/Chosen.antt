@@ -3,12 +3,13 @@ use Rattle.std.proofs.Common.{◌≡◌, ℕ, suc, cond, ◌+◌, ◌<◌, ◌�
 use Rattle.std.specs.List.{filter}
 use Rattle.linear_term.specs.declared.range.TermFault.{TermFault}
 use Rattle.typed_formula.specs.Formula.{Formula, Formulas, formula, formulas, every, no_formula, and_formula}
+use Rattle.typed_formula.specs.declared.typed.Typed.{Typed}
 use Rattle.typed_formula.specs.Truth.{Meaning, Truth}
 use Rattle.purse.specs.Trace.{Traced, just, next}
 use Rattle.purse.proofs.Charging.{Left, drop-item, drop_all}
 use Rattle.pri_typing.specs.declared.problem.Problem.{Problem}
 use Rattle.pri_typing.specs.Problems.{assumed, assumed_by, is_part_in}
-use Rattle.pri_typing.specs.WellFormed.{IsWellFormed, IsNumberRanged, IsBinderRanged, SignedFormula, components_of, of_terms, of_formulas}
+use Rattle.pri_typing.specs.WellFormed.{IsWellFormed, IsNumberRanged, IsBinderRanged, SignedFormula, components_of, formula_components, of_terms, of_formulas}
 use Rattle.formula.specs.declared.calculus.Core.{Core}
 use Rattle.formula.specs.Form.{Form, Forms, FormTruth, IsFormOver, conjunction, forms}
 use Rattle.formula.specs.Tree.{form, forms_of}
@@ -27,7 +28,7 @@ use Rattle.encoding.proofs.PartsFlat.{append-forms, extended_flat}
 use Rattle.purse.proofs.Tracing.{next-assoc}
 use Rattle.formula.proofs.Making.{made_ok, made_err}
 use Rattle.function_encoding.specs.Bounds.{extents_before, kept_bounds}
-use Rattle.function_encoding.specs.Encoded.{all_assumed, all_signed}
+use Rattle.function_encoding.specs.Encoded.{all_assumed, all_signed, is_in}
 use Rattle.function_encoding.specs.Marks.{AreMarks, is_marked}
 use Rattle.function_encoding.proofs.Kept.{left_over, over-two_first, behind-sum, kept-two_first, conditions-same, conditions_measured}
 use Rattle.function_encoding.specs.Ranged.{HasRangedNumbers, HaveRangedNumbers}
@@ -253,3 +254,8 @@ two_lists_ok p marks out es us n some r e u first m k =
     (made_ok (λ hs. map form hs) (λ hs. map form hs) (left_over kept 0 p.existential_types out) (left_over kept (length p.existential_types) p.universal_types)
     (subst (λ z. Made (λ hs. map form hs) (left_over kept 0 z out) (Ok some)) e m)
     (subst (λ z. Made (λ hs. map form hs) (left_over kept (length p.existential_types) z (map form some)) r) u (subst (λ z. Made (λ hs. map form hs) (left_over kept z us (map form some)) r) first k)))
+
+-- a formula that is no part adds nothing to the components
+pub none_collected : (out : List Component) (plus : Bool) (set : List ℕ) (g : Typed) (e : Formula) → formula g ≡ e → filter (is_in set) (formula_components plus e) ≡ []
+    → all_signed out ≡ all_signed out ++ filter (is_in set) (formula_components plus (formula g))
+none_collected out plus set g e is none = sym (append-nil (all_signed out)) ∙ ap (λ l. all_signed out ++ l) (sym (ap (λ x. filter (is_in set) (formula_components plus x)) is ∙ none))

@@ -23,6 +23,10 @@ follows_last (Err e) a b c f g h k = tt
 pub follows_none : (old : List Instruction) (new : List Action) (f : List Action → List Action) → old ≡ [] → FollowsActions (actions_of old) new f → new ≡ f []
 follows_none old new f e h = sym (append-nil new) ∙ h.is [] ∙ ap (λ l. actions_of l ++ f []) e
 
+-- the instructions of a term, by its tree
+pub compiled_as : {E : Type 0} (r : Result (Unit {0}) E) (old new : List Action) (t : TypedTerm) (e : Expression) → expression t ≡ e → OnOk r (FollowsActions old new (compiled e)) → OnOk r (FollowsActions old new (compiled (expression t)))
+compiled_as r old new t e is h = subst (λ x. OnOk r (FollowsActions old new (compiled x))) (sym is) h
+
 pub terms_many : (ts : List TypedTerm) → size (expressions_of ts) ≡ length ts
 terms_many [] = refl
 terms_many (t ∷ ts) = ap suc (terms_many ts)
@@ -54,13 +58,12 @@ more_item {old} {now} {whole} ts i t lt is h =
     subst (λ f. Goes old now f whole) (λ k m. more_is (expression t) (expressions_of (drop (i + 1) ts)) m k)
     (subst (λ l. Goes old now (compiled_more (expressions_of l)) whole) (drop-item ts i t lt is) h)
 
-pub more_pushed : {old now mid new : List Action} {whole : List Action → List Action} (ts : List TypedTerm) (i : ℕ) (t : TypedTerm) (u : Expression) (b : Bool) → i < length ts → t ≡ get_or ts i t
-    → u ≡ without_minus (expression t) → b ≡ is_subtracted (expression t) → Goes old now (compiled_more (expressions_of (drop i ts))) whole → FollowsActions now mid (compiled u) → FollowsActions mid new (λ m. add b ∷ m)
+pub more_pushed : {old now new : List Action} {whole : List Action → List Action} (ts : List TypedTerm) (i : ℕ) (t : TypedTerm) (u : Expression) (b : Bool) → i < length ts → t ≡ get_or ts i t
+    → u ≡ without_minus (expression t) → b ≡ is_subtracted (expression t) → Goes old now (compiled_more (expressions_of (drop i ts))) whole → FollowsActions now new (λ m. compiled u (add b ∷ m))
     → Goes old new (compiled_more (expressions_of (drop (i + 1) ts))) whole
-more_pushed {old} {now} {mid} {new} {whole} ts i t u b lt is part sign h k l =
-    goes_next {f = λ m. add (is_subtracted (expression t)) ∷ m} {g = compiled_more (expressions_of (drop (i + 1) ts))}
-    (goes_next {f = compiled (without_minus (expression t))} {g = λ m. add (is_subtracted (expression t)) ∷ compiled_more (expressions_of (drop (i + 1) ts)) m} (more_item ts i t lt is h)
-    (subst (λ z. FollowsActions now mid (compiled z)) part k)) (subst (λ z. FollowsActions mid new (λ m. add z ∷ m)) sign l)
+more_pushed {old} {now} {new} {whole} ts i t u b lt is part sign h k =
+    goes_next {f = λ m. compiled (without_minus (expression t)) (add (is_subtracted (expression t)) ∷ m)} {g = compiled_more (expressions_of (drop (i + 1) ts))} (more_item ts i t lt is h)
+    (subst (λ z. FollowsActions now new (λ m. compiled z (add (is_subtracted (expression t)) ∷ m))) part (subst (λ z. FollowsActions now new (λ m. compiled u (add z ∷ m))) sign k))
 
 pub more_end : {old now : List Action} {whole : List Action → List Action} (ts : List TypedTerm) (i : ℕ) → length ts ≤ i → Goes old now (compiled_more (expressions_of (drop i ts))) whole → FollowsActions old now whole
 more_end {old} {now} {whole} ts i le h = goes_end (subst (λ l. Goes old now (compiled_more (expressions_of l)) whole) (drop_all ts i le) h)

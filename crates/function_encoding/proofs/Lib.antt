@@ -11,7 +11,7 @@ pub mod Marking
 pub mod Members
 pub mod Multiples
 pub mod OwnNames
-pub mod Pairs
+pub mod Parting
 pub mod Rooms
 pub mod Roots
 pub mod Runs

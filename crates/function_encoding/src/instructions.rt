@@ -3,7 +3,7 @@
 ghost use Rattle.std.specs.Prelude.{◌≡◌, ◌∷◌, [], IfOk, OnOk};
 ghost use Rattle.typed_formula.specs.Formula.{expression, expressions_of};
 ghost use Rattle.pri_typing.specs.WellFormed.{size};
-ghost use Rattle.function_encoding.specs.Actions.{compiled, compiled_all, compiled_sum, predicate, relate};
+ghost use Rattle.function_encoding.specs.Actions.{compiled, compiled_all, compiled_more, compiled_sum, predicate, relate};
 ghost use Rattle.function_encoding.specs.Instructions.{FollowsActions, action_of, actions_of};
 
 use crate::instruction::Instruction;
@@ -28,40 +28,66 @@ fn compile<'a>(term: &'a TypedTerm, code: &mut Items<Instruction<'a>>) -> Result
     match term {
         TypedTerm::Number(v) => put(code, Instruction::Number(*v)),
         TypedTerm::Name(x) => put(code, Instruction::Name(*x)),
-        TypedTerm::Apply(f, ts) => {
-            compile_all(ts.as_slice(), code)?;
-            put(code, Instruction::Call(*f, ts.len()))
-        }
-        TypedTerm::Minus(t) => {
-            compile(t.get(), code)?;
-            put(code, Instruction::Negate)
-        }
+        TypedTerm::Apply(f, ts) => compile_call(
+            ts.as_slice(),
+            Instruction::Call(*f, ts.len()),
+            code,
+        ),
+        TypedTerm::Minus(t) => compile_one(t.get(), Instruction::Negate, code),
         TypedTerm::Sum(ts) => compile_sum(ts.as_slice(), code),
         TypedTerm::Product(s, t) => {
-            compile(s.get(), code)?;
-            compile(t.get(), code)?;
-            put(code, Instruction::Multiply(is_numeric(s.get())))
+            let product = Instruction::Multiply(is_numeric(s.get()));
+            compile_two(s.get(), t.get(), product, code)
         }
-        TypedTerm::If(g, s, t) => {
-            compile(s.get(), code)?;
-            compile(t.get(), code)?;
-            put(code, Instruction::Choose(g.get()))
-        }
-        TypedTerm::Abs(t) => {
-            compile(t.get(), code)?;
-            put(code, Instruction::Absolute)
-        }
+        TypedTerm::If(g, s, t) => compile_two(s.get(), t.get(), Instruction::Choose(g.get()), code),
+        TypedTerm::Abs(t) => compile_one(t.get(), Instruction::Absolute, code),
         TypedTerm::Min(s, t) => {
-            compile(s.get(), code)?;
-            compile(t.get(), code)?;
-            put(code, Instruction::Extreme(Relation::Leq))
+            compile_two(s.get(), t.get(), Instruction::Extreme(Relation::Leq), code)
         }
         TypedTerm::Max(s, t) => {
-            compile(s.get(), code)?;
-            compile(t.get(), code)?;
-            put(code, Instruction::Extreme(Relation::Geq))
+            compile_two(s.get(), t.get(), Instruction::Extreme(Relation::Geq), code)
         }
     }
+}
+
+/// The instructions that finish the term, and one more instruction, behind others.
+#[cycle(compile)]
+fn compile_one<'a>(
+    term: &'a TypedTerm,
+    last: Instruction<'a>,
+    code: &mut Items<Instruction<'a>>,
+) -> Result<(), Memory>
+    ensures { OnOk result (FollowsActions (actions_of code.old) (actions_of code.new) (λ more. compiled (expression term.now) (action_of last.entry ∷ more))) }
+{
+    compile(term, code)?;
+    put(code, last)
+}
+
+/// The instructions that finish two terms, and one more instruction, behind others.
+#[cycle(compile)]
+fn compile_two<'a>(
+    s: &'a TypedTerm,
+    t: &'a TypedTerm,
+    last: Instruction<'a>,
+    code: &mut Items<Instruction<'a>>,
+) -> Result<(), Memory>
+    ensures { OnOk result (FollowsActions (actions_of code.old) (actions_of code.new) (λ more. compiled (expression s.now) (compiled (expression t.now) (action_of last.entry ∷ more)))) }
+{
+    compile(s, code)?;
+    compile_one(t, last, code)
+}
+
+/// The instructions that finish the terms, and one more instruction, behind others.
+#[cycle(compile)]
+fn compile_call<'a>(
+    terms: &'a [TypedTerm],
+    last: Instruction<'a>,
+    code: &mut Items<Instruction<'a>>,
+) -> Result<(), Memory>
+    ensures { OnOk result (FollowsActions (actions_of code.old) (actions_of code.new) (λ more. compiled_all (expressions_of terms.now) (action_of last.entry ∷ more))) }
+{
+    compile_all(terms, code)?;
+    put(code, last)
 }
 
 #[cycle(compile)]
@@ -82,9 +108,16 @@ fn compile_sum<'a>(terms: &'a [TypedTerm], code: &mut Items<Instruction<'a>>) ->
         return put(code, Instruction::Number(0));
     };
     compile(first, code)?;
-    for t in others {
-        compile(without_minus(t), code)?;
-        put(code, Instruction::Add(is_subtracted(t)))?;
+    compile_more(others, code)
+}
+
+/// The instructions of the further members of a sum, behind others.
+#[cycle(compile)]
+fn compile_more<'a>(terms: &'a [TypedTerm], code: &mut Items<Instruction<'a>>) -> Result<(), Memory>
+    ensures { OnOk result (FollowsActions (actions_of code.old) (actions_of code.new) (compiled_more (expressions_of terms.now))) }
+{
+    for t in terms {
+        compile_one(without_minus(t), Instruction::Add(is_subtracted(t)), code)?;
     }
     Ok(())
 }
@@ -99,9 +132,7 @@ pub fn relation_code<'a>(
     ensures { IfOk result (λ code. actions_of code ≡ compiled (expression s.now) (compiled (expression t.now) (relate relation ∷ []))) }
 {
     let mut code = Items::new(alloc);
-    compile(s, &mut code)?;
-    compile(t, &mut code)?;
-    put(&mut code, Instruction::Relate(relation))?;
+    compile_two(s, t, Instruction::Relate(relation), &mut code)?;
     Ok(code)
 }
 
@@ -115,7 +146,10 @@ pub fn predicate_code<'a>(
     ensures { IfOk result (λ code. actions_of code ≡ compiled_all (expressions_of terms.now) (predicate plus p (size (expressions_of terms.now)) ∷ [])) }
 {
     let mut code = Items::new(alloc);
-    compile_all(terms, &mut code)?;
-    put(&mut code, Instruction::Predicate(plus, p, terms.len()))?;
+    compile_call(
+        terms,
+        Instruction::Predicate(plus, p, terms.len()),
+        &mut code,
+    )?;
     Ok(code)
 }

@@ -100,14 +100,15 @@ pub fn halt<'a>(
 {
     let mut stack = stack;
     for (i, instruction) in code.iter().enumerate() {
-        if !is_simple(instruction) {
+        if is_simple(instruction) {
+            stack = acted(alloc, at, instruction, stack)?;
+        } else {
             let stop = stop(alloc, instruction, stack)?;
             return Ok(Halt {
                 stop,
                 rest: after(code, i),
             });
         }
-        stack = acted(alloc, at, instruction, stack)?;
     }
     Ok(Halt {
         stop: Stop::Nothing,

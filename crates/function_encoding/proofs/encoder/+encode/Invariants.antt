@@ -1,5 +1,5 @@
-use Rattle.std.proofs.Common.{◌+◌, ◌≤◌, drop, map}
-use Rattle.typed_formula.specs.Formula.{formula, formulas_of}
+use Rattle.std.proofs.Common.{◌+◌, ◌*◌, ◌≤◌, drop, map}
+use Rattle.typed_formula.specs.Formula.{applies, compares, expression, expressions_of, formula, formulas_of}
 use Rattle.purse.proofs.Charging.{Left}
 use Rattle.formula.specs.Tree.{form}
 use Rattle.encoding.specs.Encoding.{all_encoded}
@@ -13,31 +13,43 @@ use Rattle.function_encoding.proofs.Encodings.{rest}
 use Rattle.function_encoding.proofs.encoder.+encode.Given as goal
 
 abbrev pub decreases-encoded : goal.decreases-encoded
-decreases-encoded l = weight (formula l.f.now)
+decreases-encoded l = 2 * weight (formula l.f.now) + 1
+
+abbrev pub decreases-relation : goal.decreases-relation
+decreases-relation l = 2 * weight (compares l.r (expression l.s.now) (expression l.t.now))
+
+abbrev pub decreases-predicate : goal.decreases-predicate
+decreases-predicate l = 2 * weight (applies l.p (expressions_of l.terms.now))
+
+abbrev pub decreases-connected : goal.decreases-connected
+decreases-connected l = 2 * weights (formulas_of l.formulas.now) + 3
 
 abbrev pub decreases-all_encoded : goal.decreases-all_encoded
-decreases-all_encoded l = weights (formulas_of l.formulas.now) + 1
+decreases-all_encoded l = 2 * weights (formulas_of l.formulas.now) + 2
 
-abbrev pub decreases-implied : goal.decreases-implied
-decreases-implied l = weight (formula l.g.now) + weight (formula l.h.now) + 1
+abbrev pub decreases-joined : goal.decreases-joined
+decreases-joined l = 2 * weight (formula l.g.now) + 2 * weight (formula l.h.now) + 2
 
 abbrev pub decreases-equivalent : goal.decreases-equivalent
-decreases-equivalent l = weight (formula l.g.now) + weight (formula l.h.now) + 1
+decreases-equivalent l = 2 * weight (formula l.g.now) + 2 * weight (formula l.h.now) + 3
 
 abbrev pub decreases-bound : goal.decreases-bound
-decreases-bound l = weight (formula l.g.now) + 1
+decreases-bound l = 2 * weight (formula l.g.now) + 2
 
 abbrev pub decreases-run : goal.decreases-run
-decreases-run l = weight_left (actions_of l.code.now) + 2
+decreases-run l = 2 * weight_left (actions_of l.code.now) + 4
 
 abbrev pub decreases-graph : goal.decreases-graph
-decreases-graph l = weight_left (actions_of l.code.now) + 3
+decreases-graph l = 2 * weight_left (actions_of l.code.now) + 5
 
 abbrev pub decreases-cases : goal.decreases-cases
-decreases-cases l = test_weight l.test.now + weight_left (actions_of l.code.now) + 3
+decreases-cases l = 2 * test_weight l.test.now + 2 * weight_left (actions_of l.code.now) + 6
+
+abbrev pub decreases-case : goal.decreases-case
+decreases-case l = 2 * test_weight l.test.now + 2 * weight_left (actions_of l.code.now) + 5
 
 abbrev pub decreases-tested : goal.decreases-tested
-decreases-tested l = test_weight l.test.now + 1
+decreases-tested l = 2 * test_weight l.test.now + 2
 
 abbrev pub invariant-all_encoded-loop-f : goal.invariant-all_encoded-loop-f
 invariant-all_encoded-loop-f l = Left (rest l.at l.n l.plus (map form l.out) (formulas_of (drop l.f-index l.formulas))) (all_encoded l.at l.n l.plus (formulas_of l.formulas))
