@@ -42,11 +42,13 @@ pub fn renamed(alloc: Global, table: &[u32], more: u32, f: &Typed) -> Result<Typ
         Typed::And(fs) => Ok(Typed::And(all(alloc, table, more, fs.as_slice())?)),
         Typed::Or(fs) => Ok(Typed::Or(all(alloc, table, more, fs.as_slice())?)),
         Typed::Implies(g, h) => {
-            let (left, right) = boxed_two(alloc, table, more, g.get(), h.get())?;
+            let left = boxed(alloc, table, more, g.get())?;
+            let right = boxed(alloc, table, more, h.get())?;
             Ok(Typed::Implies(left, right))
         }
         Typed::Iff(g, h) => {
-            let (left, right) = boxed_two(alloc, table, more, g.get(), h.get())?;
+            let left = boxed(alloc, table, more, g.get())?;
+            let right = boxed(alloc, table, more, h.get())?;
             Ok(Typed::Iff(left, right))
         }
         Typed::Forall(sort, g) => Ok(Typed::Forall(*sort, boxed(alloc, table, more, g.get())?)),
@@ -69,21 +71,25 @@ fn renamed_one(alloc: Global, table: &[u32], more: u32, t: &TypedTerm) -> Result
         TypedTerm::Minus(s) => Ok(TypedTerm::Minus(boxed_term(alloc, table, more, s.get())?)),
         TypedTerm::Sum(ts) => Ok(TypedTerm::Sum(all_terms(alloc, table, more, ts.as_slice())?)),
         TypedTerm::Product(s, u) => {
-            let (left, right) = boxed_two_terms(alloc, table, more, s.get(), u.get())?;
+            let left = boxed_term(alloc, table, more, s.get())?;
+            let right = boxed_term(alloc, table, more, u.get())?;
             Ok(TypedTerm::Product(left, right))
         }
         TypedTerm::If(f, s, u) => {
             let condition = boxed(alloc, table, more, f.get())?;
-            let (left, right) = boxed_two_terms(alloc, table, more, s.get(), u.get())?;
+            let left = boxed_term(alloc, table, more, s.get())?;
+            let right = boxed_term(alloc, table, more, u.get())?;
             Ok(TypedTerm::If(condition, left, right))
         }
         TypedTerm::Abs(s) => Ok(TypedTerm::Abs(boxed_term(alloc, table, more, s.get())?)),
         TypedTerm::Min(s, u) => {
-            let (left, right) = boxed_two_terms(alloc, table, more, s.get(), u.get())?;
+            let left = boxed_term(alloc, table, more, s.get())?;
+            let right = boxed_term(alloc, table, more, u.get())?;
             Ok(TypedTerm::Min(left, right))
         }
         TypedTerm::Max(s, u) => {
-            let (left, right) = boxed_two_terms(alloc, table, more, s.get(), u.get())?;
+            let left = boxed_term(alloc, table, more, s.get())?;
+            let right = boxed_term(alloc, table, more, u.get())?;
             Ok(TypedTerm::Max(left, right))
         }
     }
@@ -106,36 +112,6 @@ fn boxed_term(
     ensures { IfOk result (λ u. expression u ≡ renamed_term (sent table.now more) (expression t.now)) }
 {
     Ok(Boxed::new(alloc, renamed_one(alloc, table, more, t)?)?)
-}
-
-/// The same of two formulas.
-#[cycle(copy)]
-fn boxed_two(
-    alloc: Global,
-    table: &[u32],
-    more: u32,
-    left: &Typed,
-    right: &Typed,
-) -> Result<(Boxed<Typed>, Boxed<Typed>), Memory>
-    ensures { IfOk result (λ gs. (formula gs.0 ≡ closing.renamed (sent table.now more) (formula left.now)) × (formula gs.1 ≡ closing.renamed (sent table.now more) (formula right.now))) }
-{
-    let left = boxed(alloc, table, more, left)?;
-    Ok((left, boxed(alloc, table, more, right)?))
-}
-
-/// The same of two terms.
-#[cycle(copy)]
-fn boxed_two_terms(
-    alloc: Global,
-    table: &[u32],
-    more: u32,
-    left: &TypedTerm,
-    right: &TypedTerm,
-) -> Result<(Boxed<TypedTerm>, Boxed<TypedTerm>), Memory>
-    ensures { IfOk result (λ us. (expression us.0 ≡ renamed_term (sent table.now more) (expression left.now)) × (expression us.1 ≡ renamed_term (sent table.now more) (expression right.now))) }
-{
-    let left = boxed_term(alloc, table, more, left)?;
-    Ok((left, boxed_term(alloc, table, more, right)?))
 }
 
 #[cycle(copy)]

@@ -25,11 +25,13 @@ impl Typed {
             Typed::And(fs) => Ok(Typed::And(copy_formulas(alloc, fs.as_slice())?)),
             Typed::Or(fs) => Ok(Typed::Or(copy_formulas(alloc, fs.as_slice())?)),
             Typed::Implies(f, g) => {
-                let (left, right) = copy_two_formulas(alloc, f.get(), g.get())?;
+                let left = copy_formula(alloc, f.get())?;
+                let right = copy_formula(alloc, g.get())?;
                 Ok(Typed::Implies(left, right))
             }
             Typed::Iff(f, g) => {
-                let (left, right) = copy_two_formulas(alloc, f.get(), g.get())?;
+                let left = copy_formula(alloc, f.get())?;
+                let right = copy_formula(alloc, g.get())?;
                 Ok(Typed::Iff(left, right))
             }
             Typed::Forall(sort, f) => Ok(Typed::Forall(*sort, copy_formula(alloc, f.get())?)),
@@ -52,21 +54,25 @@ impl TypedTerm {
             TypedTerm::Minus(t) => Ok(TypedTerm::Minus(copy_term(alloc, t.get())?)),
             TypedTerm::Sum(ts) => Ok(TypedTerm::Sum(copy_terms(alloc, ts.as_slice())?)),
             TypedTerm::Product(s, t) => {
-                let (left, right) = copy_two_terms(alloc, s.get(), t.get())?;
+                let left = copy_term(alloc, s.get())?;
+                let right = copy_term(alloc, t.get())?;
                 Ok(TypedTerm::Product(left, right))
             }
             TypedTerm::If(f, s, t) => {
                 let condition = copy_formula(alloc, f.get())?;
-                let (left, right) = copy_two_terms(alloc, s.get(), t.get())?;
+                let left = copy_term(alloc, s.get())?;
+                let right = copy_term(alloc, t.get())?;
                 Ok(TypedTerm::If(condition, left, right))
             }
             TypedTerm::Abs(t) => Ok(TypedTerm::Abs(copy_term(alloc, t.get())?)),
             TypedTerm::Min(s, t) => {
-                let (left, right) = copy_two_terms(alloc, s.get(), t.get())?;
+                let left = copy_term(alloc, s.get())?;
+                let right = copy_term(alloc, t.get())?;
                 Ok(TypedTerm::Min(left, right))
             }
             TypedTerm::Max(s, t) => {
-                let (left, right) = copy_two_terms(alloc, s.get(), t.get())?;
+                let left = copy_term(alloc, s.get())?;
+                let right = copy_term(alloc, t.get())?;
                 Ok(TypedTerm::Max(left, right))
             }
         }
@@ -85,32 +91,6 @@ fn copy_term(alloc: Global, term: &TypedTerm) -> Result<Boxed<TypedTerm>, Memory
     ensures { IfOk result (λ t. t ≡ term.now) }
 {
     Ok(Boxed::new(alloc, term.copy(alloc)?)?)
-}
-
-/// Two formulas once more, each by itself on the heap.
-#[cycle(copy)]
-fn copy_two_formulas(
-    alloc: Global,
-    left: &Typed,
-    right: &Typed,
-) -> Result<(Boxed<Typed>, Boxed<Typed>), Memory>
-    ensures { IfOk result (λ fs. (fs.0 ≡ left.now) × (fs.1 ≡ right.now)) }
-{
-    let left = copy_formula(alloc, left)?;
-    Ok((left, copy_formula(alloc, right)?))
-}
-
-/// Two terms once more, each by itself on the heap.
-#[cycle(copy)]
-fn copy_two_terms(
-    alloc: Global,
-    left: &TypedTerm,
-    right: &TypedTerm,
-) -> Result<(Boxed<TypedTerm>, Boxed<TypedTerm>), Memory>
-    ensures { IfOk result (λ ts. (ts.0 ≡ left.now) × (ts.1 ≡ right.now)) }
-{
-    let left = copy_term(alloc, left)?;
-    Ok((left, copy_term(alloc, right)?))
 }
 
 #[cycle(copy)]

@@ -29,7 +29,7 @@ pub enum Sort {
 /// A formula over the integers. `And` of nothing is true and `Or` of nothing is false. Under a quantifier the bound
 /// variable is the name after those of the formula around it.
 #[cycle(typed)]
-#[derive(Debug, Drop)]
+#[derive(Drop)]
 pub enum Typed {
     Truth(bool),
     Rel(Relation, TypedTerm, TypedTerm),
@@ -48,7 +48,7 @@ pub enum Typed {
 
 /// A term over the integers. `a - b` is a `Sum` of a and `Minus` of b.
 #[cycle(typed)]
-#[derive(Debug, Drop)]
+#[derive(Drop)]
 pub enum TypedTerm {
     Number(i128),
     Name(u32),
