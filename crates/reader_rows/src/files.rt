@@ -5,6 +5,7 @@ use pri_reader::{
     machine_law, one_file_law, read,
 };
 use std::alloc::{AllocError, Global};
+use std::process::Abort;
 use std::test::Fail;
 
 // What is wrong with a file; none where it is read.
@@ -15,6 +16,20 @@ fn refusal(alloc: Global, text: &str) -> Option<ReadRefusal> {
     read(alloc, text.as_bytes()).err()
 }
 
+// Asks that this is what is wrong with the text.
+fn ends(rt: &impl Abort, alloc: Global, text: &str, wanted: Option<ReadRefusal>, at: &str) {
+    assert_eq!(rt; refusal(alloc, text), wanted, "at {at}");
+}
+
+// The beginning of a `\problem`, with this text so many times.
+fn opened(alloc: Global, before: &str, times: u32) -> Result<String, AllocError> {
+    let mut text = String::from_str(alloc, "\\problem { ")?;
+    for _ in 0..times {
+        text.push_str(before)?;
+    }
+    Ok(text)
+}
+
 // A `\problem` of this text in its middle, so many times with the one before it and the other behind it.
 fn nested(
     alloc: Global,
@@ -23,16 +38,27 @@ fn nested(
     behind: &str,
     times: u32,
 ) -> Result<String, AllocError> {
-    let mut text = String::from_str(alloc, "\\problem { ")?;
-    for _ in 0..times {
-        text.push_str(before)?;
-    }
+    let mut text = opened(alloc, before, times)?;
     text.push_str(middle)?;
     for _ in 0..times {
         text.push_str(behind)?;
     }
     text.push_str(" }")?;
     Ok(text)
+}
+
+// Asks that this is what is wrong with a `\problem` so nested.
+fn nested_ends(
+    rt: &impl Abort,
+    alloc: Global,
+    (before, middle, behind): (&str, &str, &str),
+    times: u32,
+    wanted: Option<ReadRefusal>,
+) -> Result<(), Fail> {
+    let text = nested(alloc, before, middle, behind, times)?;
+    let at = if middle == "1" { before } else { middle };
+    ends(rt, alloc, text.as_str(), wanted, at);
+    Ok(())
 }
 
 #[test]
@@ -57,7 +83,7 @@ fn files_of_the_grammar_are_read(rt: HostRuntime) {
         "\\problem { \\if (a) \\then (1) \\else (-x) >= \\abs(y) + \\min(1, 2) * \\max(3, 4) }",
         "\\problem { 170141183460469231731687303715884105727 != 0 /* } */ }",
     ] {
-        assert_eq!(rt; refusal(rt.alloc(), text), None, "at {text}");
+        ends(&rt, rt.alloc(), text, None, text);
     }
 }
 
@@ -89,7 +115,7 @@ fn files_are_refused_at_the_first_token(rt: HostRuntime) {
             ReadRefusal::Literal(16),
         ),
     ] {
-        assert_eq!(rt; refusal(rt.alloc(), text), Some(wanted), "at {text}");
+        ends(&rt, rt.alloc(), text, Some(wanted), text);
     }
 }
 
@@ -118,7 +144,7 @@ fn types_are_refused_at_the_first_token(rt: HostRuntime) {
             ReadRefusal::Syntax(28),
         ),
     ] {
-        assert_eq!(rt; refusal(rt.alloc(), text), Some(wanted), "at {text}");
+        ends(&rt, rt.alloc(), text, Some(wanted), text);
     }
 }
 
@@ -138,14 +164,23 @@ fn words_before_a_level_are_read(rt: HostRuntime) -> Result<(), Fail> {
         ("f(1)", ReadRefusal::Deep(212)),
         ("f 1", ReadRefusal::Syntax(213)),
     ] {
-        let text = nested(rt.alloc(), "(", middle, ")", 200)?;
-        assert_eq!(rt;
-            refusal(rt.alloc(), text.as_str()),
-            Some(wanted),
-            "at {middle}"
-        );
+        nested_ends(&rt, rt.alloc(), ("(", middle, ")"), 200, Some(wanted))?;
     }
     Ok(())
+}
+
+// Asks that 200 such levels are read, and the 201st is refused at this place inside it.
+fn levels_end(
+    rt: &impl Abort,
+    alloc: Global,
+    before: &str,
+    behind: &str,
+    place: u8,
+) -> Result<(), Fail> {
+    nested_ends(rt, alloc, (before, "1", behind), 200, None)?;
+    let wanted = opened(alloc, before, 200)?.len() as u64 + u64::from(place);
+    let refused = Some(ReadRefusal::Deep(wanted));
+    nested_ends(rt, alloc, (before, "1", behind), 201, refused)
 }
 
 #[test]
@@ -166,15 +201,7 @@ fn two_hundred_levels_are_read(rt: HostRuntime) -> Result<(), Fail> {
         ("\\min(", ", 1)", 4),
         ("\\if (", ") \\then (1) \\else (2)", 4),
     ] {
-        let most = nested(rt.alloc(), before, "1", behind, 200)?;
-        assert_eq!(rt; refusal(rt.alloc(), most.as_str()), None, "at {before}");
-        let more = nested(rt.alloc(), before, "1", behind, 201)?;
-        let wanted = 11 + 200 * before.len() as u64 + place;
-        assert_eq!(rt;
-            refusal(rt.alloc(), more.as_str()),
-            Some(ReadRefusal::Deep(wanted)),
-            "at {before}"
-        );
+        levels_end(&rt, rt.alloc(), before, behind, place)?;
     }
     Ok(())
 }
@@ -182,8 +209,7 @@ fn two_hundred_levels_are_read(rt: HostRuntime) -> Result<(), Fail> {
 #[test]
 fn chains_open_no_levels(rt: HostRuntime) -> Result<(), Fail> {
     for before in ["a & ", "a | ", "a + ", "a - ", "a | b & "] {
-        let text = nested(rt.alloc(), before, "1", "", 100_000)?;
-        assert_eq!(rt; refusal(rt.alloc(), text.as_str()), None, "at {before}");
+        nested_ends(&rt, rt.alloc(), (before, "1", ""), 100_000, None)?;
     }
     Ok(())
 }

@@ -6,6 +6,7 @@ use pri_typing::{
     names_law, place_order_law, purity_law, resolve, says_law, well_formed_law,
 };
 use std::alloc::{AllocError, Global};
+use std::process::Abort;
 use std::test::Fail;
 
 /// Declarations of a constant c, a function f of one argument and one without, g, and a predicate p of one argument and
@@ -23,6 +24,11 @@ fn fault(alloc: Global, text: &str) -> Option<TypeRefusal> {
         Ok(file) => resolve(alloc, &file).err(),
         Err(_) => Some(TypeRefusal::Memory),
     }
+}
+
+/// Asks that this is the least fault of a file.
+fn has_fault(rt: &impl Abort, alloc: Global, text: &str, wanted: Option<TypeRefusal>, at: &str) {
+    assert_eq!(rt; fault(alloc, text), wanted, "at {at}");
 }
 
 /// A problem behind the declarations.
@@ -56,7 +62,7 @@ fn formulas_are_typed(rt: HostRuntime) -> Result<(), Fail> {
         ("\\forall int q; q", Some(TypeRefusal::Kind(115))),
     ] {
         let text = behind_declarations(rt.alloc(), formula)?;
-        assert_eq!(rt; fault(rt.alloc(), text.as_str()), wanted, "at {formula}");
+        has_fault(&rt, rt.alloc(), text.as_str(), wanted, formula);
     }
     Ok(())
 }
@@ -87,7 +93,8 @@ fn declarations_differ_and_are_few(rt: HostRuntime) -> Result<(), Fail> {
         (7, true, Some(TypeRefusal::Redeclared(103))),
     ] {
         let text = declared(rt.alloc(), count, again)?;
-        assert_eq!(rt; fault(rt.alloc(), text.as_str()), wanted, "at {count}");
+        let at = count.to_string(rt.alloc())?;
+        has_fault(&rt, rt.alloc(), text.as_str(), wanted, at.as_str());
     }
     Ok(())
 }
@@ -140,7 +147,7 @@ fn cuts_divide_the_parts(rt: HostRuntime) {
             None,
         ),
     ] {
-        assert_eq!(rt; fault(rt.alloc(), text), wanted, "at {text}");
+        has_fault(&rt, rt.alloc(), text, wanted, text);
     }
 }
 

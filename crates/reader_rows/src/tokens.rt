@@ -2,9 +2,29 @@
 
 use numerals::numeral;
 use pri_tokens::{
-    Lexeme, Terminal, TokenKind, lexemes, spelling, spelling_law, tokens, tokens_law,
+    Lexeme, Terminal, Token, TokenKind, lexemes, spelling, spelling_law, tokens, tokens_law,
 };
+use std::alloc::Global;
+use std::process::Abort;
 use std::test::Fail;
+
+// Asks that a text is one token of this terminal, with the text as its spelling.
+fn is_one_token(
+    rt: &impl Abort,
+    alloc: Global,
+    text: &str,
+    terminal: Terminal,
+) -> Result<(), Fail> {
+    let found = lexemes(alloc, text.as_bytes())?;
+    let wanted = Lexeme {
+        at: 0,
+        len: text.len() as u64,
+        terminal,
+    };
+    assert!(rt; found.as_slice() == [wanted].as_slice(), "at {text}");
+    assert!(rt; spelling(text.as_bytes(), &wanted) == text.as_bytes());
+    Ok(())
+}
 
 #[test]
 fn a_text_is_one_token(rt: HostRuntime) -> Result<(), Fail> {
@@ -25,15 +45,28 @@ fn a_text_is_one_token(rt: HostRuntime) -> Result<(), Fail> {
         ("/*/ int", Terminal::Bad),
         ("/* int *", Terminal::Bad),
     ] {
-        let found = lexemes(rt.alloc(), text.as_bytes())?;
-        let wanted = Lexeme {
-            at: 0,
-            len: text.len() as u64,
-            terminal,
-        };
-        assert_eq!(rt; found.as_slice(), [wanted].as_slice(), "at {text}");
-        assert_eq!(rt; spelling(text.as_bytes(), &wanted), text.as_bytes());
+        is_one_token(&rt, rt.alloc(), text, terminal)?;
     }
+    Ok(())
+}
+
+// The token at this offset, so long and of this kind.
+fn token((at, len, kind): (u64, u64, TokenKind)) -> Token {
+    Token { at, len, kind }
+}
+
+// Asks that the tokens of a text are these two.
+fn are_two_tokens(
+    rt: &impl Abort,
+    alloc: Global,
+    text: &str,
+    [first, second]: [(u64, u64, TokenKind); 2],
+) -> Result<(), Fail> {
+    let found = tokens(alloc, text.as_bytes())?;
+    assert!(rt;
+        found.as_slice() == [token(first), token(second)].as_slice(),
+        "in {text}"
+    );
     Ok(())
 }
 
@@ -60,11 +93,7 @@ fn blanks_part_tokens(rt: HostRuntime) -> Result<(), Fail> {
             (5, 1, TokenKind::Bad),
         ),
     ] {
-        let found = tokens(rt.alloc(), text.as_bytes())?;
-        assert_eq!(rt; found.len(), 2, "in {text}");
-        for (token, wanted) in found.as_slice().iter().zip([first, second]) {
-            assert_eq!(rt; (token.at, token.len, token.kind), wanted, "in {text}");
-        }
+        are_two_tokens(&rt, rt.alloc(), text, [first, second])?;
     }
     Ok(())
 }
