@@ -1,6 +1,6 @@
 // The limits on nodes, levels and numbers.
 
-use crate::shown::{assumed, encoded, measured};
+use crate::shown::{is_assumed, is_encoded, joined, measured};
 use std::alloc::{AllocError, Global};
 use std::test::Fail;
 
@@ -36,8 +36,7 @@ fn doubling_is_large_at_once(rt: HostRuntime) -> Result<(), Fail> {
         ),
     ] {
         let text = chain(rt.alloc(), before, link, times, behind)?;
-        let root = encoded(rt.alloc(), text.as_str())?;
-        assert_eq!(rt; root.as_str(), "Large", "at {link}");
+        is_encoded(&rt, rt.alloc(), text.as_str(), "Large")?;
     }
     let parts = chain(
         rt.alloc(),
@@ -46,9 +45,7 @@ fn doubling_is_large_at_once(rt: HostRuntime) -> Result<(), Fail> {
         30,
         "p) }",
     )?;
-    let root = assumed(rt.alloc(), parts.as_str(), &[0])?;
-    assert_eq!(rt; root.as_str(), "Large");
-    Ok(())
+    is_assumed(&rt, rt.alloc(), parts.as_str(), &[0], "Large")
 }
 
 /// A disjunction of chains of k equivalences, each of 6 · 2^k - 5 nodes, and of so many atoms: with two of them, of
@@ -69,10 +66,10 @@ fn many_nodes(alloc: Global, atoms: u32) -> Result<String, AllocError> {
 #[test]
 fn a_million_nodes_are_encoded(rt: HostRuntime) -> Result<(), Fail> {
     // `false` is one of the two atoms
-    let exact = many_nodes(rt.alloc(), 1)?;
-    assert_eq!(rt; measured(rt.alloc(), exact.as_str()), Some((1_000_000, 36)));
-    let large = many_nodes(rt.alloc(), 2)?;
-    assert_eq!(rt; measured(rt.alloc(), large.as_str()), None);
+    for (atoms, wanted) in [(1, Some((1_000_000, 36))), (2, None)] {
+        let text = many_nodes(rt.alloc(), atoms)?;
+        assert_eq!(rt; measured(rt.alloc(), text.as_str()), wanted);
+    }
     Ok(())
 }
 
@@ -93,15 +90,13 @@ fn two_thousand_levels_are_encoded(rt: HostRuntime) -> Result<(), Fail> {
         ("", 999, Some((2_998, 1_999))),
         ("", 1_000, None),
     ] {
-        let mut before = String::from_str(rt.alloc(), "\\universalConstants { ")?;
-        before.push_str(universals)?;
-        before.push_str(" } \\functions { int f(int); } \\problem { ")?;
+        let declared = " } \\functions { int f(int); } \\problem { ";
+        let before = joined(
+            rt.alloc(),
+            &["\\universalConstants { ", universals, declared],
+        )?;
         let text = chain(rt.alloc(), before.as_str(), "f(0) + ", functions, "0 = 0 }")?;
-        assert_eq!(rt;
-            measured(rt.alloc(), text.as_str()),
-            wanted,
-            "at {functions}"
-        );
+        assert_eq!(rt; measured(rt.alloc(), text.as_str()), wanted);
     }
     Ok(())
 }
@@ -157,15 +152,9 @@ fn numbers_stay_in_the_range(rt: HostRuntime) -> Result<(), Fail> {
             "Overflow +1 +170141183460469231731687303715884105727 +1 +1",
         ),
     ] {
-        let mut text = String::from_str(
-            rt.alloc(),
-            "\\existentialConstants { int x; } \\problem { ",
-        )?;
-        for piece in [before, MAX, behind, " }"] {
-            text.push_str(piece)?;
-        }
-        let root = encoded(rt.alloc(), text.as_str())?;
-        assert_eq!(rt; root.as_str(), wanted, "at {before}MAX{behind}");
+        let declared = "\\existentialConstants { int x; } \\problem { ";
+        let text = joined(rt.alloc(), &[declared, before, MAX, behind, " }"])?;
+        is_encoded(&rt, rt.alloc(), text.as_str(), wanted)?;
     }
     Ok(())
 }

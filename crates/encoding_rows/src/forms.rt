@@ -1,7 +1,8 @@
 // Each form of a formula and a term once, with both signs; conditions and functions inside each other; parts.
 
-use crate::shown::{assumed, counted, encoded};
+use crate::shown::{counted, is_assumed, is_encoded, joined};
 use std::alloc::{AllocError, Global};
+use std::process::Abort;
 use std::test::Fail;
 
 /// The constants x and y are the names 0 and 1, f is the function 0, p and q are the predicates 0 and 1.
@@ -9,24 +10,31 @@ const DECLARED: &str =
     "\\existentialConstants { int x, y; } \\functions { int f(int); } \\predicates { p; q(int); }";
 
 fn file(alloc: Global, before: &str, formula: &str, behind: &str) -> Result<String, AllocError> {
-    let mut text = String::from_str(alloc, DECLARED)?;
-    text.push_str(" \\problem { ")?;
-    text.push_str(before)?;
-    text.push_str(formula)?;
-    text.push_str(behind)?;
-    text.push_str(" }")?;
-    Ok(text)
+    joined(
+        alloc,
+        &[DECLARED, " \\problem { ", before, formula, behind, " }"],
+    )
+}
+
+fn is(
+    rt: &impl Abort,
+    alloc: Global,
+    before: &str,
+    formula: &str,
+    behind: &str,
+    wanted: &str,
+) -> Result<(), Fail> {
+    let text = file(alloc, before, formula, behind)?;
+    is_encoded(rt, alloc, text.as_str(), wanted)
 }
 
 /// A row: a formula, and what it is with plus and with minus.
 type Row = (&'static str, &'static str, &'static str);
 
-fn are(rt: &impl std::process::Abort, alloc: Global, rows: &[Row]) -> Result<(), Fail> {
+fn are(rt: &impl Abort, alloc: Global, rows: &[Row]) -> Result<(), Fail> {
     for (formula, plus, minus) in rows {
-        let positive = encoded(alloc, file(alloc, "", formula, "")?.as_str())?;
-        assert_eq!(rt; positive.as_str(), *plus, "at {formula}");
-        let negative = encoded(alloc, file(alloc, "!(", formula, ")")?.as_str())?;
-        assert_eq!(rt; negative.as_str(), *minus, "at the negation of {formula}");
+        is(rt, alloc, "", formula, "", plus)?;
+        is(rt, alloc, "!(", formula, ")", minus)?;
     }
     Ok(())
 }
@@ -177,11 +185,11 @@ fn conditions_are_cases(rt: HostRuntime) -> Result<(), Fail> {
 fn universal_constants_are_bound_in_their_order(rt: HostRuntime) -> Result<(), Fail> {
     let text =
         "\\universalConstants { int a, b; } \\existentialConstants { int x; } \\problem { a < b + x }";
-    let root = encoded(rt.alloc(), text)?;
-    assert_eq!(rt; root.as_str(), "All[All[Geq(+1x0-1x1+1x2-1)]]");
-    assert_eq!(rt; counted(rt.alloc(), text), Some((1, true)));
-    let applied = counted(rt.alloc(), file(rt.alloc(), "", "f(x) = y", "")?.as_str());
-    assert_eq!(rt; applied, Some((2, false)));
+    is_encoded(&rt, rt.alloc(), text, "All[All[Geq(+1x0-1x1+1x2-1)]]")?;
+    let applied = file(rt.alloc(), "", "f(x) = y", "")?;
+    for (text, wanted) in [(text, (1, true)), (applied.as_str(), (2, false))] {
+        assert_eq!(rt; counted(rt.alloc(), text), Some(wanted));
+    }
     Ok(())
 }
 
@@ -208,8 +216,7 @@ fn parts_assume_one_flat_conjunction(rt: HostRuntime) -> Result<(), Fail> {
                 set.push(part)?;
             }
         }
-        let root = assumed(rt.alloc(), text, set.as_slice())?;
-        assert_eq!(rt; root.as_str(), wanted);
+        is_assumed(&rt, rt.alloc(), text, set.as_slice(), wanted)?;
     }
     Ok(())
 }
