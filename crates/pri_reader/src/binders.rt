@@ -22,7 +22,6 @@ pub enum NextBound {
 
 /// binder = type identifier { `,` identifier } `;`, or in parentheses several such lists, parted by `;`. Gives the names,
 /// the levels that are then open, and the tokens of the body.
-#[tactic(auto, using(crate::proofs::BoundNames::binder_lines))]
 pub fn binder<'a>(
     alloc: Global,
     bytes: &[u8],
@@ -43,7 +42,7 @@ pub fn binder<'a>(
 }
 
 /// A binder from its first type on, with several lists or one.
-#[tactic(auto, using(crate::proofs::BoundNames::bound_lines))]
+#[tactic(auto, using(crate::proofs::BoundNames::binding_memory))]
 fn bound_names<'a>(
     alloc: Global,
     bytes: &[u8],
@@ -78,7 +77,6 @@ fn bound_names<'a>(
 }
 
 /// What follows a bound name of this type, and the tokens behind its sign, or behind the new type.
-#[tactic(auto, using(crate::proofs::BoundNames::next_lines))]
 fn next_bound<'a>(
     bytes: &[u8],
     tokens: &'a [Lexeme],

@@ -90,7 +90,6 @@ fn block<'a>(
 }
 
 /// A `\problem` block, from its `{` on, and the tokens behind its `}`: `{` iff `}`
-#[tactic(auto, using(crate::proofs::BlockExits::memory, crate::proofs::Exits::shorter))]
 fn problem<'a>(
     alloc: Global,
     bytes: &[u8],

@@ -16,7 +16,6 @@ use sqlite_items::Items;
 use std::alloc::Global;
 
 /// A block of constants, from its `{` on, and the tokens behind its `}`.
-#[tactic(auto, using(crate::proofs::BlockExits::memory, crate::proofs::Exits::shorter))]
 pub fn constants<'a>(
     alloc: Global,
     bytes: &[u8],
@@ -43,7 +42,6 @@ pub fn constants<'a>(
 }
 
 /// The names of a line of this type, up to the first token that is no `,`, and the tokens from there on.
-#[tactic(auto, using(crate::proofs::BlockExits::memory, crate::proofs::Exits::shorter))]
 fn names_of_type<'a>(
     alloc: Global,
     bytes: &[u8],

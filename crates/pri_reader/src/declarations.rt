@@ -15,7 +15,6 @@ use sqlite_items::Items;
 use std::alloc::Global;
 
 /// A block of functions, or of predicates, from its `{` on, and the tokens behind its `}`.
-#[tactic(auto, using(crate::proofs::BlockExits::memory, crate::proofs::Exits::shorter))]
 pub fn declarations<'a>(
     alloc: Global,
     bytes: &[u8],

@@ -9,7 +9,7 @@ ghost use Rattle.std.specs.Prelude.{◌≤◌, ◌<◌, [], IfErr, IfOk, length}
 use crate::binders::binder;
 use crate::classes::Prefix;
 use crate::cursor::{after, compared, deeper, name, prefix, sign};
-use crate::terms::sum;
+use crate::terms::{made, sum};
 use crate::tree::{Expr, Form, ReadRefusal};
 use pri_tokens::{Lexeme, Terminal};
 use sqlite_items::{Boxed, Items};
@@ -17,7 +17,6 @@ use std::alloc::Global;
 
 /// iff = imp [ `<->` iff ]
 #[cycle(reader)]
-#[tactic(auto, using(crate::proofs::Exits::memory, crate::proofs::Exits::shorter))]
 pub fn whole<'a>(
     alloc: Global,
     bytes: &[u8],
@@ -37,12 +36,11 @@ pub fn whole<'a>(
     let (second, behind) = whole(alloc, bytes, inner, depth)?;
     let at = first.get().at;
     let form = Form::Iff(first, second);
-    Ok((Boxed::new(alloc, Expr { at, form })?, behind))
+    made(alloc, at, form, behind)
 }
 
 /// imp = or [ `->` imp ]
 #[cycle(reader)]
-#[tactic(auto, using(crate::proofs::Exits::memory, crate::proofs::Exits::shorter))]
 fn imp<'a>(
     alloc: Global,
     bytes: &[u8],
@@ -62,12 +60,11 @@ fn imp<'a>(
     let (second, behind) = imp(alloc, bytes, inner, depth)?;
     let at = first.get().at;
     let form = Form::Implies(first, second);
-    Ok((Boxed::new(alloc, Expr { at, form })?, behind))
+    made(alloc, at, form, behind)
 }
 
 /// or = and { `|` and }
 #[cycle(reader)]
-#[tactic(auto, using(crate::proofs::Exits::memory, crate::proofs::Exits::shorter))]
 fn or<'a>(
     alloc: Global,
     bytes: &[u8],
@@ -91,7 +88,7 @@ fn or<'a>(
         members.push(member.into_inner())?;
         let Some((_, more)) = after(behind, Terminal::Or) else {
             let form = Form::Or(members);
-            return Ok((Boxed::new(alloc, Expr { at, form })?, behind));
+            return made(alloc, at, form, behind);
         };
         inner = more;
     }
@@ -99,7 +96,6 @@ fn or<'a>(
 
 /// and = unary { `&` unary }
 #[cycle(reader)]
-#[tactic(auto, using(crate::proofs::Exits::memory, crate::proofs::Exits::shorter))]
 fn and<'a>(
     alloc: Global,
     bytes: &[u8],
@@ -123,7 +119,7 @@ fn and<'a>(
         members.push(member.into_inner())?;
         let Some((_, more)) = after(behind, Terminal::And) else {
             let form = Form::And(members);
-            return Ok((Boxed::new(alloc, Expr { at, form })?, behind));
+            return made(alloc, at, form, behind);
         };
         inner = more;
     }
@@ -131,7 +127,6 @@ fn and<'a>(
 
 /// unary = `!` unary, or quantifier unary, or `\part` [ identifier ] unary, or rel
 #[cycle(reader)]
-#[tactic(auto, using(crate::proofs::Exits::memory, crate::proofs::Exits::shorter))]
 fn unary<'a>(
     alloc: Global,
     bytes: &[u8],
@@ -152,7 +147,7 @@ fn unary<'a>(
             let depth = deeper(depth, at)?;
             let (operand, rest) = unary(alloc, bytes, inner, depth)?;
             let form = Form::Not(operand);
-            Ok((Boxed::new(alloc, Expr { at, form })?, rest))
+            made(alloc, at, form, rest)
         }
         Prefix::Quantifier(all) => quantified(alloc, bytes, inner, depth, at, all),
         Prefix::Part => {
@@ -164,7 +159,6 @@ fn unary<'a>(
 
 /// Behind a quantifier: its binder, and the unary formula that is its body.
 #[cycle(reader)]
-#[tactic(auto, using(crate::proofs::Exits::memory, crate::proofs::Exits::shorter))]
 fn quantified<'a>(
     alloc: Global,
     bytes: &[u8],
@@ -181,12 +175,11 @@ fn quantified<'a>(
     let (names, depth, body) = binder(alloc, bytes, tokens, depth)?;
     let (scope, rest) = unary(alloc, bytes, body, depth)?;
     let form = Form::Quantified(all, names, scope);
-    Ok((Boxed::new(alloc, Expr { at, form })?, rest))
+    made(alloc, at, form, rest)
 }
 
 /// Behind `\part`: `[` identifier `]` unary.
 #[cycle(reader)]
-#[tactic(auto, using(crate::proofs::Exits::memory, crate::proofs::Exits::shorter))]
 fn part<'a>(
     alloc: Global,
     bytes: &[u8],
@@ -205,12 +198,11 @@ fn part<'a>(
     let name = name(alloc, bytes, &identifier)?;
     let (scope, rest) = unary(alloc, bytes, body, depth)?;
     let form = Form::Part(name, scope);
-    Ok((Boxed::new(alloc, Expr { at, form })?, rest))
+    made(alloc, at, form, rest)
 }
 
 /// rel = sum [ (`=`, `!=`, `<`, `<=`, `>` or `>=`) sum ]
 #[cycle(reader)]
-#[tactic(auto, using(crate::proofs::Exits::memory, crate::proofs::Exits::shorter))]
 fn rel<'a>(
     alloc: Global,
     bytes: &[u8],
@@ -229,5 +221,5 @@ fn rel<'a>(
     let (second, behind) = sum(alloc, bytes, inner, depth)?;
     let at = first.get().at;
     let form = Form::Compare(comparison, first, second);
-    Ok((Boxed::new(alloc, Expr { at, form })?, behind))
+    made(alloc, at, form, behind)
 }

@@ -13,7 +13,6 @@ use sqlite_items::Items;
 use std::alloc::Global;
 
 /// The block, from its `{` on, and the tokens behind its `}`.
-#[tactic(auto, using(crate::proofs::BlockExits::memory, crate::proofs::Exits::shorter))]
 pub fn interpolant<'a>(
     alloc: Global,
     bytes: &[u8],

@@ -15,7 +15,6 @@ use sqlite_items::Items;
 use std::alloc::Global;
 
 /// Items up to the `;` behind them, and the tokens behind it.
-#[tactic(auto, using(crate::proofs::BlockExits::memory, crate::proofs::Exits::shorter))]
 pub fn items<'a>(
     alloc: Global,
     bytes: &[u8],
@@ -40,7 +39,6 @@ pub fn items<'a>(
 }
 
 /// One item, and the tokens behind it.
-#[tactic(auto, using(crate::proofs::BlockExits::memory, crate::proofs::Exits::shorter))]
 fn item<'a>(
     alloc: Global,
     bytes: &[u8],

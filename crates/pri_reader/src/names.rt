@@ -13,7 +13,6 @@ use sqlite_items::Items;
 use std::alloc::Global;
 
 /// The names, up to the first token that is no `,`, and the tokens from there on.
-#[tactic(auto, using(crate::proofs::BlockExits::memory, crate::proofs::Exits::shorter))]
 pub fn names<'a>(
     alloc: Global,
     bytes: &[u8],

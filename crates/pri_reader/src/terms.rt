@@ -16,7 +16,6 @@ use std::alloc::Global;
 
 /// sum = product { (`+` or `-`) product }
 #[cycle(reader)]
-#[tactic(auto, using(crate::proofs::Exits::memory, crate::proofs::Exits::shorter))]
 pub fn sum<'a>(
     alloc: Global,
     bytes: &[u8],
@@ -40,7 +39,7 @@ pub fn sum<'a>(
         let Some((sign, more)) = added(behind) else {
             let at = first.get().at;
             let form = Form::Sum(first, later);
-            return Ok((Boxed::new(alloc, Expr { at, form })?, behind));
+            return made(alloc, at, form, behind);
         };
         minus = sign;
         inner = more;
@@ -49,7 +48,6 @@ pub fn sum<'a>(
 
 /// product = minus { `*` minus }, grouped to the right
 #[cycle(reader)]
-#[tactic(auto, using(crate::proofs::Exits::memory, crate::proofs::Exits::shorter))]
 fn product<'a>(
     alloc: Global,
     bytes: &[u8],
@@ -69,12 +67,11 @@ fn product<'a>(
     let (second, behind) = product(alloc, bytes, inner, depth)?;
     let at = first.get().at;
     let form = Form::Product(first, sign.at, second);
-    Ok((Boxed::new(alloc, Expr { at, form })?, behind))
+    made(alloc, at, form, behind)
 }
 
 /// minus = `-` minus, or primary
 #[cycle(reader)]
-#[tactic(auto, using(crate::proofs::Exits::memory, crate::proofs::Exits::shorter))]
 fn factor<'a>(
     alloc: Global,
     bytes: &[u8],
@@ -95,18 +92,18 @@ fn factor<'a>(
             let depth = deeper(depth, at)?;
             let (operand, rest) = factor(alloc, bytes, inner, depth)?;
             let form = Form::Minus(operand);
-            Ok((Boxed::new(alloc, Expr { at, form })?, rest))
+            made(alloc, at, form, rest)
         }
         Opening::Number => {
             let Some(value) = numeral(spelling(bytes, &first)) else {
                 return Err(ReadRefusal::Literal(at));
             };
             let form = Form::Number(value);
-            Ok((Boxed::new(alloc, Expr { at, form })?, inner))
+            made(alloc, at, form, inner)
         }
         Opening::Truth(truth) => {
             let form = Form::Truth(truth);
-            Ok((Boxed::new(alloc, Expr { at, form })?, inner))
+            made(alloc, at, form, inner)
         }
         Opening::Identifier => {
             let name = name(alloc, bytes, &first)?;
@@ -115,13 +112,13 @@ fn factor<'a>(
         Opening::Parenthesis => {
             let (operand, rest) = parenthesis(alloc, bytes, tokens, depth)?;
             let form = Form::Group(operand);
-            Ok((Boxed::new(alloc, Expr { at, form })?, rest))
+            made(alloc, at, form, rest)
         }
         Opening::If => conditional(alloc, bytes, inner, depth, at),
         Opening::Abs => {
             let (operand, rest) = parenthesis(alloc, bytes, inner, depth)?;
             let form = Form::Abs(operand);
-            Ok((Boxed::new(alloc, Expr { at, form })?, rest))
+            made(alloc, at, form, rest)
         }
         Opening::Pair(max) => pair(alloc, bytes, inner, depth, at, max),
     }
@@ -129,7 +126,6 @@ fn factor<'a>(
 
 /// Behind an identifier: [ `(` [ iff { `,` iff } ] `)` ].
 #[cycle(reader)]
-#[tactic(auto, using(crate::proofs::Exits::memory, crate::proofs::Exits::shorter))]
 fn application<'a>(
     alloc: Global,
     bytes: &[u8],
@@ -145,19 +141,18 @@ fn application<'a>(
     let at = name.at;
     let Some((open, inner)) = after(tokens, Terminal::OpenParenthesis) else {
         let form = Form::Use(name, Items::new(alloc));
-        return Ok((Boxed::new(alloc, Expr { at, form })?, tokens));
+        return made(alloc, at, form, tokens);
     };
     let depth = deeper(depth, open.at)?;
     let Some((_, rest)) = after(inner, Terminal::CloseParenthesis) else {
         return arguments(alloc, bytes, inner, depth, name);
     };
     let form = Form::Use(name, Items::new(alloc));
-    Ok((Boxed::new(alloc, Expr { at, form })?, rest))
+    made(alloc, at, form, rest)
 }
 
 /// Behind the `(` of an application: iff { `,` iff } `)`.
 #[cycle(reader)]
-#[tactic(auto, using(crate::proofs::Exits::memory, crate::proofs::Exits::shorter))]
 fn arguments<'a>(
     alloc: Global,
     bytes: &[u8],
@@ -179,7 +174,7 @@ fn arguments<'a>(
             let (_, behind) = sign(bytes, rest, Terminal::CloseParenthesis)?;
             let at = name.at;
             let form = Form::Use(name, list);
-            return Ok((Boxed::new(alloc, Expr { at, form })?, behind));
+            return made(alloc, at, form, behind);
         };
         inner = more;
     }
@@ -187,7 +182,6 @@ fn arguments<'a>(
 
 /// Behind `\if`: ( iff ) `\then` ( iff ) `\else` ( iff ).
 #[cycle(reader)]
-#[tactic(auto, using(crate::proofs::Exits::memory, crate::proofs::Exits::shorter))]
 fn conditional<'a>(
     alloc: Global,
     bytes: &[u8],
@@ -206,12 +200,11 @@ fn conditional<'a>(
     let (_, inner) = sign(bytes, rest, Terminal::Else)?;
     let (no, rest) = parenthesis(alloc, bytes, inner, depth)?;
     let form = Form::If(test, yes, no);
-    Ok((Boxed::new(alloc, Expr { at, form })?, rest))
+    made(alloc, at, form, rest)
 }
 
 /// Behind `\min` or `\max`: `(` iff `,` iff `)`.
 #[cycle(reader)]
-#[tactic(auto, using(crate::proofs::Exits::memory, crate::proofs::Exits::shorter))]
 fn pair<'a>(
     alloc: Global,
     bytes: &[u8],
@@ -232,12 +225,11 @@ fn pair<'a>(
     let (second, rest) = whole(alloc, bytes, inner, depth)?;
     let (_, behind) = sign(bytes, rest, Terminal::CloseParenthesis)?;
     let form = pair_form(max, first, second);
-    Ok((Boxed::new(alloc, Expr { at, form })?, behind))
+    made(alloc, at, form, behind)
 }
 
 /// ( iff )
 #[cycle(reader)]
-#[tactic(auto, using(crate::proofs::Exits::memory, crate::proofs::Exits::shorter))]
 fn parenthesis<'a>(
     alloc: Global,
     bytes: &[u8],
@@ -265,4 +257,18 @@ fn pair_form(max: bool, first: Boxed<Expr>, second: Boxed<Expr>) -> Form
     } else {
         Form::Min(first, second)
     }
+}
+
+/// An expression of this form, in a box, with the tokens behind it.
+pub fn made<'a>(
+    alloc: Global,
+    at: u64,
+    form: Form,
+    rest: &'a [Lexeme],
+) -> Result<(Boxed<Expr>, &'a [Lexeme]), ReadRefusal>
+    ensures exact { IfOk result (λ x. x.0 ≡ expr at form) }
+    ensures behind { IfOk result (λ x. x.1.now ≡ rest.now) }
+    ensures failed { IfErr result (λ e. e ≡ ReadRefusal.Memory) }
+{
+    Ok((Boxed::new(alloc, Expr { at, form })?, rest))
 }

@@ -8,7 +8,6 @@ use crate::tree::{ReadRefusal, TypeName};
 use pri_tokens::{Lexeme, Terminal};
 
 /// A type, and the tokens behind it.
-#[tactic(auto, using(crate::proofs::TypeLines::type_lines, crate::proofs::Exits::shorter))]
 pub fn type_name<'a>(
     bytes: &[u8],
     tokens: &'a [Lexeme],

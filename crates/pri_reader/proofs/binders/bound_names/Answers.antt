@@ -1,8 +1,19 @@
 use Rattle.std.proofs.Common.{arith}
 use Rattle.pri_reader.proofs.Exits.{fails}
 use Rattle.pri_reader.proofs.Exits.{takes_shorter}
-use Rattle.pri_reader.proofs.BoundNames.{binding_more, binding_ends, binding_no_name, binding_deep, binding_no_more}
+use Rattle.pri_reader.proofs.BoundNames.{binding_begins, binding_no_type, binding_more, binding_ends, binding_no_name, binding_deep, binding_no_more}
 use Rattle.pri_reader.proofs.binders.bound_names.Goals as goal
+
+pub returns-in_err-sort-clause-refused : goal.returns-in_err-sort-clause-refused
+returns-in_err-sort-clause-refused c = fails _ _ c.from_residual.ensures.1 (binding_no_type c.in_err-sort.ensures.refused)
+
+pub names-init : goal.names-init
+names-init c = record {
+  leads = rw c.new-names.ensures (binding_begins c.in_ok-sort.ensures.read);
+  above = omega arith;
+  below = c.requires;
+  shorter = c.in_ok-sort.ensures.shorter;
+}
 
 pub returns-in_err-identifier-clause-refused : goal.returns-in_err-identifier-clause-refused
 returns-in_err-identifier-clause-refused c = fails _ _ c.from_residual-in_err-identifier.ensures.1 (binding_no_name c.names.invariant.leads c.in_err-identifier.ensures.failed)

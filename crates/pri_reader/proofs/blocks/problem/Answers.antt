@@ -1,4 +1,5 @@
-use Rattle.pri_reader.proofs.Exits.{fails}
+use Rattle.std.proofs.Common.{arith}
+use Rattle.pri_reader.proofs.Exits.{fails, takes_shorter}
 use Rattle.pri_reader.proofs.ProblemBlock.{problem_no_brace, problem_no_end, problem_none, problem_read}
 use Rattle.pri_reader.proofs.blocks.problem.Goals as goal
 
@@ -13,3 +14,6 @@ returns-in_err-behind-clause-refused c = fails _ _ c.from_residual-in_err-behind
 
 pub returns-clause-read : goal.returns-clause-read
 returns-clause-read c = rw c.into_inner.ensures (problem_read c.in_ok-inner.ensures.found c.in_ok-formula.ensures.read c.in_ok-behind.ensures.found)
+
+pub returns-clause-shorter : goal.returns-clause-shorter
+returns-clause-shorter c = omega (arith, takes_shorter c.in_ok-inner.ensures.found, c.in_ok-formula.ensures.shorter, takes_shorter c.in_ok-behind.ensures.found)

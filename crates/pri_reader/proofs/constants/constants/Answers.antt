@@ -1,5 +1,6 @@
-use Rattle.std.proofs.Common.{arith}
+use Rattle.std.proofs.Common.{arith, refl}
 use Rattle.pri_reader.proofs.ConstantLines.{lines_begin, lines_end, lines_next, lines_no_brace, lines_no_end, lines_no_name, lines_no_type}
+use Rattle.pri_reader.proofs.BlockExits.{block_memory}
 use Rattle.pri_reader.proofs.Exits.{fails, takes_shorter}
 use Rattle.pri_reader.proofs.constants.constants.Goals as goal
 
@@ -32,3 +33,9 @@ lines-preserved c = record {
   leads = rw c.in_ok-append.ensures (lines_next c.lines.invariant.leads c.in_default.ensures c.in_ok-sort.ensures.read c.in_ok-more.ensures.read c.in_ok-behind.ensures.found);
   shorter = omega (arith, c.lines.invariant.shorter, c.in_ok-sort.ensures.shorter, c.in_ok-more.ensures.shorter, takes_shorter c.in_ok-behind.ensures.found);
 }
+
+pub returns-in-Some-clause-shorter : goal.returns-in-Some-clause-shorter
+returns-in-Some-clause-shorter c = omega (arith, c.lines.invariant.shorter, takes_shorter c.in-Some.ensures)
+
+pub returns-in_err-append-clause-refused : goal.returns-in_err-append-clause-refused
+returns-in_err-append-clause-refused c = fails _ _ c.from_residual-in_err-append.ensures.1 (block_memory refl)

@@ -1,4 +1,5 @@
-use Rattle.std.proofs.Common.{arith}
+use Rattle.std.proofs.Common.{arith, refl}
+use Rattle.pri_reader.proofs.BlockExits.{stops_memory}
 use Rattle.pri_reader.proofs.Exits.{fails, takes_shorter}
 use Rattle.pri_reader.proofs.ConstantLines.{typed_begin, typed_end, typed_next, typed_none}
 use Rattle.pri_reader.proofs.constants.names_of_type.Goals as goal
@@ -17,3 +18,15 @@ names-preserved c = record {
   leads = rw (c.in_ok-push.ensures.ok, c.in_ok-name.ensures.exact) (typed_next c.names.invariant.leads c.in_ok-identifier.ensures.found c.in-Some.ensures);
   shorter = omega (arith, c.names.invariant.shorter, takes_shorter c.in_ok-identifier.ensures.found, takes_shorter c.in-Some.ensures);
 }
+
+pub returns-in_err-name-clause-refused : goal.returns-in_err-name-clause-refused
+returns-in_err-name-clause-refused c = fails _ _ c.from_residual-in_err-name.ensures.1 (stops_memory c.in_err-name.ensures.failed)
+
+pub returns-in_err-push-clause-refused : goal.returns-in_err-push-clause-refused
+returns-in_err-push-clause-refused c = fails _ _ c.from_residual-in_err-push.ensures.1 (stops_memory refl)
+
+pub returns-in_default-clause-ended : goal.returns-in_default-clause-ended
+returns-in_default-clause-ended c = c.in_default.ensures
+
+pub returns-in_default-clause-shorter : goal.returns-in_default-clause-shorter
+returns-in_default-clause-shorter c = omega (arith, c.names.invariant.shorter, takes_shorter c.in_ok-identifier.ensures.found)

@@ -1,4 +1,5 @@
-use Rattle.std.proofs.Common.{arith}
+use Rattle.std.proofs.Common.{arith, refl}
+use Rattle.pri_reader.proofs.BlockExits.{block_memory}
 use Rattle.pri_reader.proofs.Exits.{fails, takes_shorter}
 use Rattle.pri_reader.proofs.ItemLines.{items_lines_begin, items_lines_end, items_lines_next, items_lines_no_brace, items_lines_no_items, items_lines_no_line}
 use Rattle.pri_reader.proofs.declarations.declarations.Goals as goal
@@ -26,3 +27,9 @@ lines-preserved c = record {
   leads = rw c.in_ok-append.ensures (items_lines_next c.lines.invariant.leads c.in_ok-line.ensures.read c.in_ok-more.ensures.read);
   shorter = omega (arith, c.lines.invariant.shorter, c.in_ok-line.ensures.shorter, c.in_ok-more.ensures.shorter);
 }
+
+pub returns-in-Some-clause-shorter : goal.returns-in-Some-clause-shorter
+returns-in-Some-clause-shorter c = omega (arith, c.lines.invariant.shorter, takes_shorter c.in-Some.ensures)
+
+pub returns-in_err-append-clause-refused : goal.returns-in_err-append-clause-refused
+returns-in_err-append-clause-refused c = fails _ _ c.from_residual-in_err-append.ensures.1 (block_memory refl)

@@ -1,5 +1,5 @@
-use Rattle.std.proofs.Common.{arith}
-use Rattle.std.proofs.Common.{◌≡◌, true}
+use Rattle.std.proofs.Common.{arith, refl, ◌≡◌, true}
+use Rattle.pri_reader.proofs.BlockExits.{block_memory}
 use Rattle.pri_reader.proofs.Exits.{fails, takes_shorter}
 use Rattle.pri_reader.proofs.Sets.{sets_begin, sets_end, sets_next, sets_no_brace, sets_no_end, sets_none, sets_single}
 use Rattle.pri_reader.proofs.interpolant.interpolant.Goals as goal
@@ -30,3 +30,9 @@ sets-preserved c = record {
   leads = rw (c.in_ok-push.ensures.ok, c.place-at_set.ensures) (sets_next c.sets.invariant.leads c.in_ok-names.ensures.read c.in-Some.ensures);
   shorter = omega (arith, c.sets.invariant.shorter, c.in_ok-names.ensures.shorter, takes_shorter c.in-Some.ensures);
 }
+
+pub returns-in_err-push-clause-refused : goal.returns-in_err-push-clause-refused
+returns-in_err-push-clause-refused c = fails _ _ c.from_residual-in_err-push.ensures.1 (block_memory refl)
+
+pub returns-in_default-clause-shorter : goal.returns-in_default-clause-shorter
+returns-in_default-clause-shorter c = omega (arith, c.sets.invariant.shorter, c.in_ok-names.ensures.shorter, takes_shorter c.in_ok-close.ensures.found)
