@@ -6,8 +6,3 @@ pub use rule_code::{
     by_equation, free_ndiv, has_divisibilities_at, has_equation_at, has_indivisibility_at,
     has_only_divisibility_at, merge_divs, shift_div,
 };
-
-#[cfg(test)]
-mod ends;
-#[cfg(test)]
-mod tests;

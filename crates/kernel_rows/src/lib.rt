@@ -1,9 +1,8 @@
-// Tests of the public calls of the number kernel, in a crate of their own, so that each crate below is proved once.
+// Tests of the number kernel: divisors and quotients at worked values and at both ends of the range, and charges at the edges of a
+// budget.
 #![tactic(auto)]
 
 #[cfg(test)]
-mod clauses;
+mod numbers;
 #[cfg(test)]
 mod purses;
-#[cfg(test)]
-mod terms;

@@ -5,6 +5,3 @@
 mod bounded;
 
 pub use bounded::{first_bounds_law, is_bounded, project};
-
-#[cfg(test)]
-mod tests;
