@@ -8,7 +8,7 @@ use typed_formula::{Sort, Typed};
 
 /// A problem. In `formula` the name of a constant is its place among the existential constants and, behind them, the
 /// universal ones; a bound variable is the name after those of the formula around it.
-#[derive(Debug, Drop)]
+#[derive(Drop)]
 pub struct Problem {
     /// In the order of their declarations, as all four lists of names are.
     pub existentials: Items<Items<u8>>,
@@ -31,14 +31,14 @@ pub struct Problem {
 }
 
 /// A function or a predicate with the number of its arguments.
-#[derive(Debug, Drop)]
+#[derive(Drop)]
 pub struct Symbol {
     pub name: Items<u8>,
     pub arity: u32,
 }
 
 /// What an `\interpolant` block asks for: sets of parts, by their numbers.
-#[derive(Debug, Drop)]
+#[derive(Drop)]
 pub struct Cut {
     pub sets: Items<Items<u32>>,
 }

@@ -20,7 +20,7 @@ use typed_formula::{Sort, Typed};
 
 /// A script, by the problem of each `check-sat` in order: nothing satisfies the assertions before it exactly where the problem
 /// holds.
-#[derive(Debug, Drop)]
+#[derive(Drop)]
 pub struct Script {
     pub checks: Items<Problem>,
 }
