@@ -15,8 +15,8 @@ ghost use Rattle.std.specs.Prelude.{◌≡◌, ◌<◌, ◌+◌, [], All, IfOk, 
 use super::numbers::nearest;
 use super::single::{at_root, bounded};
 use clause_set::{Clause, Literal, found};
-use equation_solver::{free_ndiv, merge_divs};
 use purse::{Purse, StepFault};
+use rule_code::{free_ndiv, merge_divs};
 use sqlite_items::Items;
 use std::alloc::Global;
 use step_code::{is_divisibility, is_equation, is_indivisibility, whole_charge};

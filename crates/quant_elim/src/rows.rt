@@ -9,9 +9,9 @@ ghost use Rattle.std.specs.Prelude.{◌≡◌, ◌<◌, ◌^◌, Some, true};
 
 use super::choice::{Choice, first_choice};
 use clause_set::{Clause, found};
-use equation_solver::{by_equation, free_ndiv, merge_divs, shift_div};
 use omega_elim::project;
 use purse::{Entry, Purse, StepFault};
+use rule_code::{by_equation, free_ndiv, merge_divs, shift_div};
 use sqlite_items::Items;
 use std::alloc::Global;
 
