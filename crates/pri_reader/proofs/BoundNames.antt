@@ -39,8 +39,6 @@ no_grouped c h n u = rw h (record { run = λ n0 names. record { run = λ at all 
 pub no_line : {b : List ℕ} {several : Bool} {sort : TypeName} {x : Lexeme} {t0 t1 : List Lexeme} {e : ReadRefusal} → several ≡ true → Takes t.Semicolon x t0 t1 → ReadsNoType b t1 e → BindsNoMore b several sort t0 e
 no_line {e = e} h s r = rw h (record { run = λ n names. record { run = λ at all frames. through e (bound_line_step _ _ _ _ _ _ _ _ _ _ s) (r.run (for_binder at all true n names) frames) } })
 
-pub ruleset next_lines = (more_comma, more_line, plain_end, grouped_end, no_plain, no_grouped, no_line)
-
 -- The names, from the first type on: the tokens so far lead to the next name, of this type.
 
 pub binding_begins : {b : List ℕ} {several : Bool} {sort : TypeName} {d : ℕ} {t0 t1 : List Lexeme} → ReadsType b sort t0 t1
@@ -82,8 +80,6 @@ binding_no_more {b} {several} {sort} {d} {n} {m} {names} {e} {x} i s l g =
 pub binding_memory : {b : List ℕ} {want : ℕ → Bool → Want} {tokens : List Lexeme} {e : ReadRefusal} → e ≡ refusal.Memory → BindsNone b want tokens e
 binding_memory h = rw h (record { run = λ at all frames. tt })
 
-pub ruleset bound_lines = (binding_begins, binding_no_type, binding_more, binding_ends, binding_no_name, binding_deep, binding_no_more, binding_memory)
-
 -- Both forms of a binder.
 
 pub binder_plain : {b : List ℕ} {d e : ℕ} {names : List Declared} {t0 t1 : List Lexeme}
@@ -101,8 +97,6 @@ binder_grouped s r = record { run = λ at all frames. grouped_step _ _ _ _ _ _ _
 pub binder_grouped_none : {b : List ℕ} {d : ℕ} {x : Lexeme} {t0 t1 : List Lexeme} {e : ReadRefusal}
     → Takes t.OpenParenthesis x t0 t1 → BindsNone b (λ at all. a_type (for_binder at all true d [])) t1 e → BindsNone b (λ at all. a_binder at all d) t0 e
 binder_grouped_none {e = e} s r = record { run = λ at all frames. through e (grouped_step _ _ _ _ _ _ _ _ s) (r.run at all frames) }
-
-pub ruleset binder_lines = (binder_plain, binder_plain_none, binder_grouped, binder_grouped_none)
 
 -- A quantifier with its body.
 

@@ -68,5 +68,3 @@ range_read {a = a} s o r c q l =
       run = λ for frames. int_step _ _ _ _ _ _ s ∙ bracket_step _ _ _ _ _ _ o ∙ r.run (for, lower) frames ∙ comma_step _ _ _ _ _ _ _ c ∙ q.run (for, upper a) frames
           ∙ close_step _ _ _ _ _ _ _ _ l;
     }
-
-pub ruleset type_lines = (nat_read, int_read, no_type, no_lower, no_comma, no_upper, no_close, range_read)

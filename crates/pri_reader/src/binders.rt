@@ -12,7 +12,7 @@ use sqlite_items::Items;
 use std::alloc::Global;
 
 /// What follows a bound name.
-#[derive(Clone, Copy, Debug, PartialEq, Eq)]
+#[derive(Clone, Copy)]
 pub enum NextBound {
     /// One more name, of this type.
     Name(TypeName),

@@ -7,7 +7,7 @@ use crate::tree::Comparison;
 use pri_tokens::Terminal;
 
 /// What begins a formula that is no relation.
-#[derive(Clone, Copy, Debug, PartialEq, Eq)]
+#[derive(Clone, Copy)]
 pub enum Prefix {
     Not,
     /// true for `\forall`
@@ -16,7 +16,7 @@ pub enum Prefix {
 }
 
 /// What begins a term, or a formula in parentheses.
-#[derive(Clone, Copy, Debug, PartialEq, Eq)]
+#[derive(Clone, Copy)]
 pub enum Opening {
     Minus,
     Number,
@@ -30,7 +30,7 @@ pub enum Opening {
 }
 
 /// What begins a block.
-#[derive(Clone, Copy, Debug, PartialEq, Eq)]
+#[derive(Clone, Copy)]
 pub enum Heading {
     /// true for `\universalConstants`
     Constants(bool),
