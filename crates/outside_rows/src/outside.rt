@@ -1,7 +1,8 @@
 // What no clause says of sources and sinks: that the calls succeed, and what the system gives and takes.
 
 use prover_io::{
-    Failed, FileSource, MemorySink, MemorySource, OutSink, ReadFault, Sink, Source, read_all, read_some,
+    Failed, FileSource, MemorySink, MemorySource, OutSink, ReadFault, Sink, Source, read_all,
+    read_some,
 };
 use std::alloc::Global;
 use std::io::{self, ErrorKind, Read};
