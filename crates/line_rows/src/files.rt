@@ -1,71 +1,42 @@
-// Files that hold a proof, and where others are refused.
+// Files whose proof is read as a tree, and where others are refused.
 
-use proof_file::{Lines, ProofRefusal, body};
+use proof_file::ProofRefusal;
 use proof_reader::read_tree;
-use proof_tree::Conclusion;
+use proof_tree::{Conclusion, Tree};
 use row_texts::PROOF;
 use sequent::Pick;
 use std::alloc::{AllocError, Global};
 
+// Two logs and the conclusion use the second part; the first one goes unused.
+pub(crate) const USED: &str =
+    "princess-proof 2\nparts 2\npart o\npart e0 s1\ncharges 18\ngamma 0\nclose\nlog u1\ngives true\nlog u1\ngives c0 - 3 = 0\nnone u1\n";
+
 /// What a file is: a proof for so many charges, or refused at a place.
-#[derive(Clone, Copy, Debug, PartialEq, Eq)]
-pub enum Answer {
+#[derive(Clone, Copy, PartialEq, Eq)]
+enum Answer {
     Charges(u64),
     Syntax(u64),
     Deep(u64),
     Memory,
 }
 
-fn refused(refusal: ProofRefusal) -> Answer {
-    match refusal {
-        ProofRefusal::Syntax(at) => Answer::Syntax(at),
-        ProofRefusal::Deep(at) => Answer::Deep(at),
-        ProofRefusal::Memory => Answer::Memory,
-    }
-}
-
-pub fn by_lines(alloc: Global, file: &str) -> Answer {
-    match Lines::new(alloc, file.as_bytes()) {
-        Ok(lines) => Answer::Charges(lines.charges()),
-        Err(refusal) => refused(refusal),
-    }
-}
-
-pub fn by_tree(alloc: Global, file: &str) -> Answer {
+fn answer_to(alloc: Global, file: &str) -> Answer {
     match read_tree(alloc, file.as_bytes()) {
         Ok(tree) => Answer::Charges(tree.charges),
-        Err(refusal) => refused(refusal),
+        Err(ProofRefusal::Syntax(at)) => Answer::Syntax(at),
+        Err(ProofRefusal::Deep(at)) => Answer::Deep(at),
+        Err(ProofRefusal::Memory) => Answer::Memory,
     }
 }
 
 #[test]
-fn proof_begins_behind_the_first_marker(rt: HostRuntime) -> Result<(), AllocError> {
-    for (file, is) in [
-        ("", ""),
-        ("a\nb", "a\nb"),
-        ("proof:", ""),
-        ("a\nproof:", ""),
-        ("proof:\na\nproof:\nb", "a\nproof:\nb"),
-        (" proof:\na", " proof:\na"),
-        ("a\nproof: \nb", "a\nproof: \nb"),
-        ("a\nxproof:\nproof:\nb", "b"),
-        ("proof:proof:\nproof:\nb", "b"),
-    ] {
-        assert!(rt; body(file.as_bytes()) == is.as_bytes(), "of {file}");
-    }
-    Ok(())
-}
-
-#[test]
-fn files_hold_proofs_or_are_refused(rt: HostRuntime) -> Result<(), AllocError> {
-    let mut output = String::from_str(
-        rt.alloc(),
-        "VALID\nconstraint: a - 3 = 0\nsolution: a = 3\nproof:\n",
-    )?;
-    output.push_str(PROOF)?;
+fn files_are_read_as_trees_or_refused(rt: HostRuntime) -> Result<(), AllocError> {
     for (file, is) in [
         (PROOF, Answer::Charges(18)),
-        (output.as_str(), Answer::Charges(18)),
+        (
+            "VALID\nconstraint: a - 3 = 0\nsolution: a = 3\nproof:\nprincess-proof 1\ncharges 18\nalpha 0\nclose\nlog\ngives c0 - 3 = 0\ngives c0 - 3 = 0\nsolution 3\n",
+            Answer::Charges(18),
+        ),
         (
             "princess-proof 1\ncharges 18\nalpha 0\nclose\nlog\ngives c0 - 3 = 0\ngives c0 - 3 = 0\nsolution 3",
             Answer::Syntax(90),
@@ -75,75 +46,66 @@ fn files_hold_proofs_or_are_refused(rt: HostRuntime) -> Result<(), AllocError> {
             Answer::Syntax(40),
         ),
         ("VALID\nproof:", Answer::Syntax(12)),
-        ("VALID\nproof:\n", Answer::Syntax(13)),
-        ("VALID\n", Answer::Syntax(0)),
-        ("proof:\nproof:\n", Answer::Syntax(7)),
         ("", Answer::Syntax(0)),
+        (USED, Answer::Charges(18)),
+        (
+            "INVALID\nproof:\nprincess-proof 2\nparts 1\npart e0\ncharges 7\nclose\nlog u0\ngives false\nnone u0\n",
+            Answer::Charges(7),
+        ),
+        (
+            "princess-proof 2\nparts 1\npart e0\ncharges 7\nclose\nlog u1\ngives false\nnone\n",
+            Answer::Syntax(53),
+        ),
     ] {
-        assert_eq!(rt; by_lines(rt.alloc(), file), is, "line by line");
-        assert_eq!(rt; by_tree(rt.alloc(), file), is, "as a tree");
+        assert!(rt; answer_to(rt.alloc(), file) == is);
     }
     Ok(())
+}
+
+pub(crate) fn has_two_entries(conclusion: &Conclusion) -> bool {
+    match conclusion {
+        Conclusion::Solution(_) => false,
+        Conclusion::Nothing(log) => log.entries.len() == 2,
+    }
+}
+
+/// Whether this is the tree of the first text.
+fn is_unified(tree: &Tree) -> bool {
+    let root = &tree.root;
+    let mut same = matches!(root.rule, Pick::Alpha(0)) && root.children.len() == 1;
+    for leaf in root.children.as_slice() {
+        let closed = matches!(leaf.rule, Pick::Close) && leaf.children.len() == 0;
+        same = closed && leaf.gives.len() == 1 && same;
+    }
+    same && matches!(tree.conclusion, Conclusion::Solution(_))
+}
+
+/// Whether this is the tree of the text with parts, whose logs have their entries.
+fn owns_its_parts(tree: &Tree) -> bool {
+    let root = &tree.root;
+    let mut same = matches!(root.rule, Pick::Gamma(0)) && root.log.entries.len() == 2;
+    for leaf in root.children.as_slice() {
+        same = matches!(leaf.rule, Pick::Close) && leaf.log.entries.len() == 2 && same;
+    }
+    same && has_two_entries(&tree.conclusion)
+}
+
+/// Whether the text is read as its tree.
+fn is_read(alloc: Global, text: &str, with_parts: bool) -> bool {
+    match read_tree(alloc, text.as_bytes()) {
+        Ok(tree) => {
+            if with_parts {
+                owns_its_parts(&tree)
+            } else {
+                is_unified(&tree)
+            }
+        }
+        Err(_) => false,
+    }
 }
 
 #[test]
 fn trees_are_as_their_lines(rt: HostRuntime) -> Result<(), AllocError> {
-    let Ok(tree) = read_tree(rt.alloc(), PROOF.as_bytes()) else {
-        assert!(rt; false, "refused");
-        return Ok(());
-    };
-    let root = &tree.root;
-    assert!(rt; matches!(root.rule, Pick::Alpha(0)), "the rule of the root");
-    assert_eq!(rt; root.children.len(), 1, "premises");
-    for leaf in root.children.as_slice() {
-        assert!(rt; matches!(leaf.rule, Pick::Close), "the rule of the leaf");
-        assert_eq!(rt; leaf.children.len(), 0, "no premises");
-        assert_eq!(rt; leaf.gives.len(), 1, "one clause");
-    }
-    assert!(rt;
-        matches!(tree.conclusion, Conclusion::Solution(_)),
-        "a solution"
-    );
-    Ok(())
-}
-
-// A proof with so many levels.
-fn nested(alloc: Global, levels: u32) -> Result<String, AllocError> {
-    let mut file = String::from_str(alloc, "proof:\nprincess-proof 1\ncharges 1\n")?;
-    for _ in 1..levels {
-        file.push_str("alpha 0\n")?;
-    }
-    file.push_str("trivial 0\n")?;
-    for _ in 0..levels {
-        file.push_str("gives true\n")?;
-    }
-    file.push_str("solution\n")?;
-    Ok(file)
-}
-
-#[test]
-fn two_thousand_levels_are_the_most(rt: HostRuntime) -> Result<(), AllocError> {
-    let most = nested(rt.alloc(), 2000)?;
-    assert_eq!(rt;
-        by_lines(rt.alloc(), most.as_str()),
-        Answer::Charges(1),
-        "2,000 line by line"
-    );
-    assert_eq!(rt;
-        by_tree(rt.alloc(), most.as_str()),
-        Answer::Charges(1),
-        "2,000 as a tree"
-    );
-    let more = nested(rt.alloc(), 2001)?;
-    assert_eq!(rt;
-        by_lines(rt.alloc(), more.as_str()),
-        Answer::Deep(16034),
-        "2,001 line by line"
-    );
-    assert_eq!(rt;
-        by_tree(rt.alloc(), more.as_str()),
-        Answer::Deep(16034),
-        "2,001 as a tree"
-    );
+    assert!(rt; is_read(rt.alloc(), PROOF, false) && is_read(rt.alloc(), USED, true));
     Ok(())
 }

@@ -1,15 +1,13 @@
-// Calls for the tests of proofs: what a check answers, of a tree and line by line.
+// What a check of a tree answers.
 
 use crate::asked::Asked;
 use limits::MOST_BUDGET;
-use proof_file::ProofRefusal;
-use proof_reader::read_tree;
 use proof_tree::{Tree, Verdict};
 use std::alloc::Global;
-use tree_checker::{CheckFault, Checked, TextFault, check, check_text};
+use tree_checker::{CheckFault, Checked, check};
 
 /// What a check answers.
-#[derive(Clone, Copy, Debug, PartialEq, Eq)]
+#[derive(Clone, Copy, PartialEq, Eq)]
 pub(crate) enum Told {
     Valid,
     Invalid,
@@ -45,32 +43,5 @@ pub(crate) fn told_of_tree(alloc: Global, asked: Asked, tree: &Tree) -> Told {
         Err(CheckFault::Range(n, _)) => Told::Range(n),
         Err(CheckFault::Cost(n)) => Told::Cost(n),
         Err(CheckFault::Memory) => Told::Memory,
-    }
-}
-
-/// The answer to the tree of a proof's text.
-pub(crate) fn told_by_tree(alloc: Global, asked: Asked, text: &str) -> Told {
-    match read_tree(alloc, text.as_bytes()) {
-        Ok(tree) => told_of_tree(alloc, asked, &tree),
-        Err(ProofRefusal::Syntax(at)) => Told::Syntax(at),
-        Err(ProofRefusal::Deep(at)) => Told::Deep(at),
-        Err(ProofRefusal::Memory) => Told::Memory,
-    }
-}
-
-/// The answer to a proof's text that is checked line by line.
-#[tactic(auto, using(crate::proofs::Limits::limits))]
-pub(crate) fn told_by_lines(alloc: Global, asked: Asked, text: &str) -> Told {
-    let Ok(root) = asked.root(alloc) else {
-        return Told::Memory;
-    };
-    match check_text(alloc, &root, asked.constants(), text.as_bytes()) {
-        Ok(checked) => accepted(&checked),
-        Err(TextFault::Syntax(at)) => Told::Syntax(at),
-        Err(TextFault::Deep(at)) => Told::Deep(at),
-        Err(TextFault::Node(n)) => Told::Node(n),
-        Err(TextFault::Range(n, _)) => Told::Range(n),
-        Err(TextFault::Cost(n)) => Told::Cost(n),
-        Err(TextFault::Memory) => Told::Memory,
     }
 }

@@ -1,4 +1,4 @@
-// Texts for the rows of other crates: a proof that they change, and deep ones.
+// Texts for the tests of other crates: a proof, and deep ones.
 #![tactic(auto)]
 
 use std::alloc::{AllocError, Global};
@@ -14,22 +14,6 @@ pub fn proof(alloc: Global, charges: &str, lines: &str) -> Result<String, AllocE
         text.push_str(part)?;
     }
     Ok(text)
-}
-
-/// A text with its first occurrence of a line changed to others.
-pub fn changed(alloc: Global, text: &str, line: &str, others: &str) -> Result<String, AllocError> {
-    let mut out = String::new(alloc);
-    let mut found = false;
-    for part in text.split('\n') {
-        if part == line && !found {
-            found = true;
-            out.push_str(others)?;
-        } else if !part.is_empty() {
-            out.push_str(part)?;
-            out.push('\n')?;
-        }
-    }
-    Ok(out)
 }
 
 /// The lines of a proof of three levels and more, with a use of a quantifier at each level above the last two. Each node but the

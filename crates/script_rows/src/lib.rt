@@ -1,13 +1,10 @@
-// Rows of scripts: their tokens, their lists, what is refused at which place, and how large terms become.
+// Rows of scripts: their tokens, what a call that reads one takes and refuses, and how large terms become. `bench/rows` has the others,
+// over the program itself.
 #![tactic(auto)]
 
 #[cfg(test)]
-mod commands;
-#[cfg(test)]
-mod lists;
+mod reading;
 #[cfg(test)]
 mod sizes;
-#[cfg(test)]
-mod terms;
 #[cfg(test)]
 mod tokens;

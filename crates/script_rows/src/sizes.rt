@@ -1,12 +1,12 @@
-// How large asserted terms become: counted by hand, and the same as what is written out; and scripts that would become too large,
-// or whose definitions are many, counted at once.
+// How large asserted terms become: counted by hand, and the same as what is written out.
 
-use crate::lists::repeated;
+use linear_term::Memory;
 use script_checks::{Effect, read_effects};
 use script_extents::Forms;
 use script_lists::lists;
 use script_names::{Declared, Known};
-use script_sizes::{Size, size_law, size_of};
+use script_sizes::{Size, size_of};
+use script_terms::{Term, Variable};
 use script_writing::write_formula;
 use sqlite_items::Items;
 use std::alloc::Global;
@@ -21,7 +21,7 @@ struct Script {
 }
 
 /// The names of variables.
-fn names(alloc: Global, variables: &[script_terms::Variable]) -> Result<Items<Items<u8>>, Fail> {
+fn names(alloc: Global, variables: &[Variable]) -> Result<Items<Items<u8>>, Memory> {
     let mut all = Items::new(alloc);
     for variable in variables {
         all.push(Items::from_slice(alloc, variable.text.as_slice())?)?;
@@ -30,7 +30,7 @@ fn names(alloc: Global, variables: &[script_terms::Variable]) -> Result<Items<It
 }
 
 impl Script {
-    fn declare(self, alloc: Global, text: &[u8]) -> Result<Script, Fail> {
+    fn declare(self, alloc: Global, text: &[u8]) -> Result<Script, Memory> {
         let declared = Declared::Constant(self.constants);
         Ok(Script {
             known: self.known.declare(alloc, text, declared)?,
@@ -44,8 +44,8 @@ impl Script {
         alloc: Global,
         text: &[u8],
         names: &[Items<u8>],
-        term: &script_terms::Term,
-    ) -> Result<Script, Fail> {
+        term: &Term,
+    ) -> Result<Script, Memory> {
         let known = self.known.define(alloc, text, names, term)?;
         let count = names.len().min(u32::MAX as usize) as u32;
         let forms = self
@@ -57,10 +57,37 @@ impl Script {
             constants: self.constants,
         })
     }
+
+    /// The script behind one command more.
+    fn behind(self, alloc: Global, effect: &Effect) -> Result<Script, Memory> {
+        match effect {
+            Effect::Declare(text, _, _) => self.declare(alloc, text.as_slice()),
+            Effect::Define(text, variables, _, term) => {
+                let names = names(alloc, variables.as_slice())?;
+                self.define(alloc, text.as_slice(), names.as_slice(), term)
+            }
+            Effect::Claim(_) | Effect::Check => Ok(self),
+        }
+    }
+
+    /// The size of what a term is written out to.
+    fn written(&self, alloc: Global, term: &Term) -> Result<Size, Memory> {
+        let body = self.known.read(alloc, term)?;
+        let definitions = self.known.definitions.as_slice();
+        let formula = write_formula(alloc, definitions, self.constants, &body)?;
+        Ok(size_of(&formula))
+    }
+
+    /// The size of a term, as it is counted.
+    fn counted(&self, alloc: Global, term: &Term) -> Result<Size, Memory> {
+        let body = self.known.read(alloc, term)?;
+        self.forms
+            .size(alloc, self.known.definitions.as_slice(), &body)
+    }
 }
 
-/// The sizes of the asserted terms of a script, as they are counted; where they are to be written out too, of what they become.
-fn sizes(alloc: Global, text: &str, written: bool) -> Result<Vec<Size>, Fail> {
+/// The sizes of the asserted terms of a script, counted or of what they are written out to.
+fn sizes(alloc: Global, text: &str, written: bool) -> Result<Vec<Size>, Memory> {
     let mut all = Vec::new(alloc);
     let Ok(read) = lists(alloc, text.as_bytes()) else {
         return Ok(all);
@@ -72,45 +99,27 @@ fn sizes(alloc: Global, text: &str, written: bool) -> Result<Vec<Size>, Fail> {
         constants: 0,
     };
     for effect in effects.as_slice() {
-        match effect {
-            Effect::Declare(text, _, _) => {
-                script = script.declare(alloc, text.as_slice())?;
-            }
-            Effect::Define(text, variables, _, term) => {
-                let names = names(alloc, variables.as_slice())?;
-                script = script.define(alloc, text.as_slice(), names.as_slice(), term)?;
-            }
-            Effect::Claim(term) => {
-                let body = script.known.read(alloc, term)?;
-                let definitions = script.known.definitions.as_slice();
-                let size = if written {
-                    size_of(&write_formula(alloc, definitions, script.constants, &body)?)
-                } else {
-                    script.forms.size(alloc, definitions, &body)?
-                };
-                all.push(size)?;
-            }
-            Effect::Check => {}
+        if let Effect::Claim(term) = effect {
+            let size = if written {
+                script.written(alloc, term)?
+            } else {
+                script.counted(alloc, term)?
+            };
+            all.push(size)?;
         }
+        script = script.behind(alloc, effect)?;
     }
     Ok(all)
 }
 
-/// The size of the only asserted term.
-fn size(alloc: Global, text: &str, written: bool) -> Result<Option<Size>, Fail> {
-    let all = sizes(alloc, text, written)?;
-    if all.len() == 1 {
-        Ok(Some(all[0]))
-    } else {
-        Ok(None)
-    }
-}
+/// Behind these commands x is a constant, and three functions are defined.
+const BEFORE: &str =
+    "(declare-const x Int)(define-fun twice ((x Int)) Int (+ x x))(define-fun none ((x Int)) Int 0)(define-fun same ((x Int) (y Int)) Bool (= x y))";
 
 #[test]
 fn sizes_are_those_of_what_is_written(rt: HostRuntime) -> Result<(), Fail> {
-    size_law();
     let alloc = rt.alloc();
-    for (term, nodes, levels) in [
+    let rows: [(&str, u64, u64); 22] = [
         ("true", 1, 1),
         ("(and true false true)", 4, 2),
         ("(and (= x 1))", 3, 2),
@@ -133,107 +142,19 @@ fn sizes_are_those_of_what_is_written(rt: HostRuntime) -> Result<(), Fail> {
         ("(= (none (+ x 1)) 0)", 3, 2),
         ("(same (+ x 1) x)", 5, 3),
         ("(same (twice x) (none x))", 5, 3),
-    ] {
-        let mut text = String::from_str(
-            alloc,
-            "(declare-const x Int)(define-fun twice ((x Int)) Int (+ x x))(define-fun none ((x Int)) Int 0)(define-fun same ((x Int) (y Int)) Bool (= x y))(assert ",
-        )?;
-        text.push_str(term)?;
-        text.push_str(")")?;
-        let wanted = Some(Size::Fits(nodes, levels));
-        assert!(rt;
-            size(alloc, text.as_str(), true)? == wanted,
-            "written, {term}"
-        );
-        assert!(rt;
-            size(alloc, text.as_str(), false)? == wanted,
-            "counted, {term}"
-        );
-    }
-    Ok(())
-}
-
-/// A letter with a number of five digits.
-fn push_name(text: &mut String, number: usize) -> Result<(), Fail> {
-    text.push_str("f")?;
-    for part in [10000, 1000, 100, 10, 1] {
-        text.push_str(["0", "1", "2", "3", "4", "5", "6", "7", "8", "9"][number / part % 10])?;
-    }
-    Ok(())
-}
-
-/// Definitions of functions of these arguments, the first one with this term, each of the others with the one before it between
-/// each two of these texts.
-fn chained(
-    alloc: Global,
-    count: usize,
-    arguments: &str,
-    first: &str,
-    parts: &[&str],
-) -> Result<String, Fail> {
-    let mut text = String::from_str(alloc, "(declare-const x Int)")?;
-    for number in 0..count {
-        text.push_str("(define-fun ")?;
-        push_name(&mut text, number)?;
-        text.push_str(arguments)?;
-        if number == 0 {
-            text.push_str(first)?;
-        } else {
-            for i in 0..parts.len() {
-                if i > 0 {
-                    push_name(&mut text, number - 1)?;
-                }
-                text.push_str(parts[i])?;
-            }
+    ];
+    let mut text = String::from_str(alloc, BEFORE)?;
+    for (term, _, _) in rows.as_slice() {
+        for part in ["(assert ", *term, ")"] {
+            text.push_str(part)?;
         }
-        text.push_str(")")?;
     }
-    text.push_str("(assert (= (")?;
-    push_name(&mut text, count.saturating_sub(1))?;
-    Ok(text)
-}
-
-#[test]
-fn what_doubles_thirty_times_is_large_at_once(rt: HostRuntime) -> Result<(), Fail> {
-    let alloc = rt.alloc();
-    let mut text = String::from_str(alloc, "(declare-const x Int)(assert (let ((a (+ x 1))) ")?;
-    text.push_str(repeated(alloc, "(let ((a (+ a a))) ", 30, "(= a 0)")?.as_str())?;
-    text.push_str(repeated(alloc, ")", 31, ")")?.as_str())?;
-    assert!(rt; size(alloc, text.as_str(), false)? == Some(Size::Large));
-    let mut text = chained(
-        alloc,
-        31,
-        " ((x Int)) Int ",
-        "(+ x 1)",
-        &["(+ (", " x) (", " x))"],
-    )?;
-    text.push_str(" x) 0))")?;
-    assert!(rt; size(alloc, text.as_str(), false)? == Some(Size::Large));
-    Ok(())
-}
-
-#[test]
-fn an_argument_doubled_thirty_times_is_one_node(rt: HostRuntime) -> Result<(), Fail> {
-    let alloc = rt.alloc();
-    let mut text = chained(alloc, 31, " ((x Int)) Int ", "x", &["(", " (", " x))"])?;
-    text.push_str(" x) 0))")?;
     for written in [true, false] {
-        assert!(rt; size(alloc, text.as_str(), written)? == Some(Size::Fits(3, 2)));
+        let all = sizes(alloc, text.as_str(), written)?;
+        assert!(rt; all.len() == rows.len());
+        for (size, (_, nodes, levels)) in all.as_slice().iter().zip(rows.as_slice()) {
+            assert!(rt; *size == Size::Fits(*nodes, *levels));
+        }
     }
-    Ok(())
-}
-
-#[test]
-fn twenty_thousand_definitions_take_no_stack(rt: HostRuntime) -> Result<(), Fail> {
-    let alloc = rt.alloc();
-    let two = " ((x Int) (y Int)) Int ";
-    let mut text = chained(alloc, 20_000, two, "(+ y 1)", &["(", " (+ x 1) y)"])?;
-    text.push_str(" x x) 0))")?;
-    for written in [true, false] {
-        assert!(rt; size(alloc, text.as_str(), written)? == Some(Size::Fits(5, 3)));
-    }
-    let mut text = chained(alloc, 20_000, " ((x Int)) Int ", "x", &["(+ (", " x) 1)"])?;
-    text.push_str(" x) 0))")?;
-    assert!(rt; size(alloc, text.as_str(), false)? == Some(Size::Large));
     Ok(())
 }

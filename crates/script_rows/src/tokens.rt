@@ -1,14 +1,25 @@
 // The tokens of scripts, worked out by hand.
 
 use script_tokens::{Terminal, lexemes, tokens_law};
-use std::test::Fail;
+use std::alloc::{AllocError, Global};
+
+/// Whether a text is cut into these tokens, each with its place and its length.
+fn is_cut(alloc: Global, text: &str, wanted: &[(u64, u64, Terminal)]) -> Result<bool, AllocError> {
+    let found = lexemes(alloc, text.as_bytes())?;
+    if found.len() != wanted.len() {
+        return Ok(false);
+    }
+    for (x, want) in found.as_slice().iter().zip(wanted) {
+        if x.at != want.0 || x.len != want.1 || x.terminal != want.2 {
+            return Ok(false);
+        }
+    }
+    Ok(true)
+}
 
 #[test]
-fn every_terminal_is_cut(rt: HostRuntime) -> Result<(), Fail> {
-    tokens_law();
-    let text = b"(a|b c|:k 007 0.5 1.x#xaF #b01\"p\"\"q\");c\n\"open".as_slice();
-    let found = lexemes(rt.alloc(), text)?;
-    let wanted = [
+fn every_terminal_is_cut(rt: HostRuntime) -> Result<(), AllocError> {
+    let all = [
         (0, 1, Terminal::Open),
         (1, 1, Terminal::Symbol),
         (2, 5, Terminal::Quoted),
@@ -25,58 +36,46 @@ fn every_terminal_is_cut(rt: HostRuntime) -> Result<(), Fail> {
         (36, 1, Terminal::Close),
         (40, 5, Terminal::Unfinished),
     ];
-    assert_eq!(rt; found.len(), wanted.len());
-    for (x, want) in found.as_slice().iter().zip(wanted) {
-        assert_eq!(rt; (x.at, x.len, x.terminal), want);
-    }
-    Ok(())
-}
-
-#[test]
-fn a_text_is_one_token(rt: HostRuntime) -> Result<(), Fail> {
-    for (text, terminal) in [
-        ("0", Terminal::Numeral),
-        ("120", Terminal::Numeral),
-        ("0.0", Terminal::Decimal),
-        ("#xABCDEF0123456789abcdef", Terminal::Hash),
-        ("#b0", Terminal::Hash),
-        ("\"\"", Terminal::StringLiteral),
-        ("\"a\"\"b\"", Terminal::StringLiteral),
-        ("\"\\\"", Terminal::StringLiteral),
-        ("\"\r\n\"", Terminal::StringLiteral),
-        (":56", Terminal::Keyword),
-        (":smt-lib-version", Terminal::Keyword),
-        ("<=", Terminal::Symbol),
-        ("~!@$%^&*_-+=<>.?/", Terminal::Symbol),
-        ("||", Terminal::Quoted),
-        ("|a b \" ;(\n|", Terminal::Quoted),
-        ("\"a\"\"b", Terminal::Unfinished),
-        ("|a", Terminal::Unfinished),
-        (":", Terminal::Bad),
-        ("#", Terminal::Bad),
-        ("#b", Terminal::Bad),
-        ("#x", Terminal::Bad),
-        ("[a]", Terminal::Bad),
-        ("|a\\|", Terminal::Bad),
-        ("|\u{7f}|", Terminal::Bad),
-        ("\"\u{1}", Terminal::Bad),
-        ("é", Terminal::Bad),
-        ("|é|", Terminal::Quoted),
+    let text = "(a|b c|:k 007 0.5 1.x#xaF #b01\"p\"\"q\");c\n\"open";
+    assert!(rt; is_cut(rt.alloc(), text, &all)?);
+    for (text, at, terminal) in [
+        ("0", 0, Terminal::Numeral),
+        ("120", 0, Terminal::Numeral),
+        ("0.0", 0, Terminal::Decimal),
+        ("#xABCDEF0123456789abcdef", 0, Terminal::Hash),
+        ("#b0", 0, Terminal::Hash),
+        ("\"\"", 0, Terminal::StringLiteral),
+        ("\"a\"\"b\"", 0, Terminal::StringLiteral),
+        ("\"\\\"", 0, Terminal::StringLiteral),
+        ("\"\r\n\"", 0, Terminal::StringLiteral),
+        (":56", 0, Terminal::Keyword),
+        (":smt-lib-version", 0, Terminal::Keyword),
+        ("<=", 0, Terminal::Symbol),
+        ("~!@$%^&*_-+=<>.?/", 0, Terminal::Symbol),
+        ("||", 0, Terminal::Quoted),
+        ("|a b \" ;(\n|", 0, Terminal::Quoted),
+        ("|é|", 0, Terminal::Quoted),
+        ("\"a\"\"b", 0, Terminal::Unfinished),
+        ("|a", 0, Terminal::Unfinished),
+        (":", 0, Terminal::Bad),
+        ("#", 0, Terminal::Bad),
+        ("#b", 0, Terminal::Bad),
+        ("#x", 0, Terminal::Bad),
+        ("[a]", 0, Terminal::Bad),
+        ("|a\\|", 0, Terminal::Bad),
+        ("|\u{7f}|", 0, Terminal::Bad),
+        ("\"\u{1}", 0, Terminal::Bad),
+        ("é", 0, Terminal::Bad),
+        ("; ( \"\n7", 6, Terminal::Numeral),
+        (";;\r7", 3, Terminal::Numeral),
+        (" \t\r\n;\n7", 6, Terminal::Numeral),
     ] {
-        let found = lexemes(rt.alloc(), text.as_bytes())?;
-        let one =
-            matches!(found.get(0), Some(x) if x.at == 0 && x.len == text.len() as u64 && x.terminal == terminal);
-        assert!(rt; one && found.len() == 1, "at {text}");
+        let len = (text.len() as u64).saturating_sub(at);
+        assert!(rt; is_cut(rt.alloc(), text, &[(at, len, terminal)])?);
     }
-    Ok(())
-}
-
-#[test]
-fn a_comment_ends_with_its_line(rt: HostRuntime) -> Result<(), Fail> {
-    for text in ["; ( \"\n7", ";;\r7", " \t\r\n;\n7", "7;", "7 ;|"] {
-        let found = lexemes(rt.alloc(), text.as_bytes())?;
-        let one = matches!(found.get(0), Some(x) if x.len == 1 && x.terminal == Terminal::Numeral);
-        assert!(rt; one && found.len() == 1, "in {text}");
+    for text in ["7;", "7 ;|"] {
+        assert!(rt; is_cut(rt.alloc(), text, &[(0, 1, Terminal::Numeral)])?);
     }
+    tokens_law();
     Ok(())
 }
