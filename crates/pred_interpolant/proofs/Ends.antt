@@ -36,3 +36,17 @@ pub all_made : (p : Problem) (cut at : ℕ) (old new : Funds) (m : MiddleFormula
     → MakesObligations p cut at old (Ok (record { formula = m; below = b; above = a })) new
 all_made p cut at old new m f g b a found e d j k =
     (found, subst (λ z. Encodes (obligation_root p (follows z (said p m))) (Ok b.root)) e j, subst (λ z. Encodes (obligation_root p (contradicts (said p m) z)) (Ok a.root)) d k)
+
+-- what is said of a formula is said of an equal one
+pub found_as : (p : Problem) (cut at : ℕ) (old new : Funds) (m n : MiddleFormula) → n ≡ m → Finds p cut at old n new → Finds p cut at old m new
+found_as p cut at old new m n e k = subst (λ z. Finds p cut at old z new) e k
+
+pub below_as : (p : Problem) (f : Formula) (r : Result Core EncodeRefusal) (m n : MiddleFormula) → n ≡ m → Encodes (obligation_root p (follows f (said p n))) r → Encodes (obligation_root p (follows f (said p m))) r
+below_as p f r m n e k = subst (λ z. Encodes (obligation_root p (follows f (said p z))) r) e k
+
+pub above_as : (p : Problem) (g : Formula) (r : Result Core EncodeRefusal) (m n : MiddleFormula) → n ≡ m → Encodes (obligation_root p (contradicts (said p n) g)) r → Encodes (obligation_root p (contradicts (said p m) g)) r
+above_as p g r m n e k = subst (λ z. Encodes (obligation_root p (contradicts (said p z) g)) r) e k
+
+-- and so of an encoding
+pub encodes_as : (p : Problem) (f : Formula) (b d : Encoded) → d ≡ b → Encodes (obligation_root p f) (Ok d.root) → Encodes (obligation_root p f) (Ok b.root)
+encodes_as p f b d e k = subst (λ z. Encodes (obligation_root p f) (Ok z.root)) e k

@@ -95,17 +95,12 @@ fn above(alloc: Global, p: &Problem, g: Typed, m: &MiddleFormula) -> Result<Enco
     ensures work { Encodes (obligation_root p.now (middle.contradicts (middle.said p.now m.now) (formula g))) (root_of result) }
     ensures encoded { IfOk result (IsObligation p.now (middle.contradicts (middle.said p.now m.now) (formula g))) }
 {
-    let second = Boxed::new(alloc, g)?;
     let mut both = Items::new(alloc);
     both.push(said(alloc, p, m)?)?;
-    both.push(second.into_inner())?;
+    both.push(g)?;
     let together = Boxed::new(alloc, Typed::And(both))?;
-    let nothing = Boxed::new(alloc, Typed::Truth(false))?;
-    encode_formula(
-        alloc,
-        p,
-        Boxed::new(alloc, Typed::Implies(together, nothing))?,
-    )
+    let whole = Typed::Implies(together, Boxed::new(alloc, Typed::Truth(false))?);
+    encode_formula(alloc, p, Boxed::new(alloc, whole)?)
 }
 
 /// The two sides of a cut, with the numbers of their parts.
@@ -195,14 +190,14 @@ pub fn obligations(
     ensures below { IfOk result (λ o. IsObligation p.now (middle.below p.now cut at o.formula) o.below) }
     ensures above { IfOk result (λ o. IsObligation p.now (middle.above p.now cut at o.formula) o.above) }
 {
-    let sides = sides_at(alloc, p, cut, at)?;
-    let formula = find(alloc, p, cut, at, &sides, purse)?;
-    let Sides { first, second, .. } = sides;
-    let below = below(alloc, p, first, &formula)?;
-    let above = above(alloc, p, second, &formula)?;
+    let sides = Boxed::new(alloc, sides_at(alloc, p, cut, at)?)?;
+    let formula = Boxed::new(alloc, find(alloc, p, cut, at, sides.get(), purse)?)?;
+    let Sides { first, second, .. } = sides.into_inner();
+    let below = Boxed::new(alloc, below(alloc, p, first, formula.get())?)?;
+    let above = above(alloc, p, second, formula.get())?;
     Ok(Obligations {
-        formula,
-        below,
+        formula: formula.into_inner(),
+        below: below.into_inner(),
         above,
     })
 }
