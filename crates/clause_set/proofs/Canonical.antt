@@ -1,5 +1,5 @@
 -- The tidy form of clauses is sorted, each clause once, and none of its clauses is outdone by another one.
-use Rattle.std.proofs.Common.{◌≡◌, Bool, true, false, not, ◌&&◌, List, [], ◌∷◌, refl, sym, ◌∙◌, ap, subst}
+use Rattle.std.proofs.Common.{◌≡◌, ◌<◌, Bool, true, false, not, ◌&&◌, ◌||◌, cond, List, [], ◌∷◌, length, refl, sym, ◌∙◌, ap, subst, arith}
 use Rattle.std.specs.Prelude.{All}
 use Rattle.std.specs.List.{AllByRecursion, list_any, filter}
 use Rattle.std.specs.List.Sorted.{IsStrictlySortedBy}
@@ -19,6 +19,23 @@ use Rattle.clause_set.proofs.Sorted.{clause_cmp-total, sorted_once-sorted, all_a
 pub tidied-sorted : (cs : List (List Literal)) → IsStrictlySortedBy clause_cmp (tidied cs)
 unfolding tidied
 tidied-sorted cs = IsStrictlySortedBy-filter clause_cmp (λ c. not (is_covered (sorted_once clause_cmp cs) c)) (sorted_once clause_cmp cs) (sorted_once-sorted clause_cmp clause_cmp-total cs)
+
+-- a clause alone is tidy, and so is none
+not_over : (b : Bool) → not ((b && not b) || false) ≡ true
+not_over true = refl
+not_over false = refl
+
+alone_again : (c : List Literal) → c ∷ [] ≡ tidied (c ∷ [])
+unfolding tidied sorted_once
+alone_again c = ap (λ b. cond b (c ∷ []) []) (sym (not_over (covers c c)))
+
+pub tidied_few : (cs : List (List Literal)) → length cs < 2 → cs ≡ tidied cs
+unfolding tidied sorted_once
+tidied_few [] lt = refl
+tidied_few (c ∷ []) lt = alone_again c
+tidied_few (c ∷ d ∷ cs) lt = absurd (omega (arith, lt))
+
+pub ruleset few = (tidied_few)
 
 filter_passes : {X : Type 0} (test : X → Bool) (xs : List X) → AllByRecursion (λ x. test x ≡ true) (filter test xs)
 filter_passes test [] = tt

@@ -337,7 +337,7 @@ at_most_some : (P : Type 0) (a : Option ℤ) (k : ℤ) → AtMost a k → ((j : 
 at_most_some P None k h f = absurd h
 at_most_some P (Some a) k h f = f a refl h
 
-own_least : (d : List Literal) (t : Linear) (j : ℤ) → AreIntervals d → Among (Geq t) d → AtMost (slack d t.pairs) j → t.constant ≤ℤ j
+pub own_least : (d : List Literal) (t : Linear) (j : ℤ) → AreIntervals d → Among (Geq t) d → AtMost (slack d t.pairs) j → t.constant ≤ℤ j
 own_least d t j h a low =
     at_most_some (t.constant ≤ℤ j) (slack d t.pairs) j low
     (λ i e le. let w = slack-witness d t.pairs i e in

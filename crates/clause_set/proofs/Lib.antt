@@ -9,6 +9,7 @@ pub mod Orders
 pub mod ClauseTruth
 pub mod Divisors
 pub mod Ends
+pub mod Excluding
 pub mod Weights
 pub mod Charges
 pub mod Covers

@@ -53,7 +53,7 @@ unfolding shade
 shade-negated h [] = refl
 shade-negated h (p ∷ ps) =
     let e : unsigned_abs (neg_ℤ p.1) ≡ unsigned_abs p.1 = grind (arith, ints) in
-    ap (λ k. shade ((h * 31 + p.0 * 7 + k % 64) % 64) (negated ps)) e ∙ shade-negated (mixed h p) ps
+    ap (λ k. shade ((h * 35 + p.0 + k % 128 * 9) % 128) (negated ps)) e ∙ shade-negated (mixed h p) ps
 
 mark-negated : (ps : List (ℕ × ℤ)) → mark (negated ps) ≡ mark ps
 unfolding mark
@@ -135,23 +135,23 @@ outdoes_none d c e = ap (λ b. b && not (covers c d)) e
 pub ruleset outdoing = (outdoes_none)
 
 -- ---- the loop over the coefficients
-shade_less_more : (h : ℕ) (ps : List (ℕ × ℤ)) → h < 64 → shade h ps < 64
+shade_less_more : (h : ℕ) (ps : List (ℕ × ℤ)) → h < 128 → shade h ps < 128
 unfolding shade
 shade_less_more h [] lt = lt
 shade_less_more h (p ∷ ps) lt = shade_less_more (mixed h p) ps (omega arith)
 
-pub shade-less : (ps : List (ℕ × ℤ)) → shade 0 ps < 64
+pub shade-less : (ps : List (ℕ × ℤ)) → shade 0 ps < 128
 shade-less ps = shade_less_more 0 ps (omega arith)
 
 -- h is what the coefficients before i leave
 pub record Shades (ps : List (ℕ × ℤ)) (i h : ℕ) : Type 0 where
   pub rest : shade h (drop i ps) ≡ shade 0 ps
-  pub less : h < 64
+  pub less : h < 128
 
 pub shades_none : (ps : List (ℕ × ℤ)) → Shades ps 0 0
 shades_none ps = record { rest = refl; less = omega arith }
 
-pub shades_more : (ps : List (ℕ × ℤ)) (i h n : ℕ) (d : ℕ × ℤ) → i < length ps → n ≡ mixed h (get_or ps i d) → n < 64 → Shades ps i h → Shades ps (i + 1) n
+pub shades_more : (ps : List (ℕ × ℤ)) (i h n : ℕ) (d : ℕ × ℤ) → i < length ps → n ≡ mixed h (get_or ps i d) → n < 128 → Shades ps i h → Shades ps (i + 1) n
 unfolding shade
 shades_more ps i h n d lt e small s = record {
   rest = ap (λ z. shade z (drop (i + 1) ps)) e ∙ ap (λ z. shade (mixed h (get_or ps i d)) (drop z ps)) (add-one i) ∙ sym (ap (shade h) (drop-cons ps i d lt)) ∙ s.rest;
@@ -165,9 +165,9 @@ shades_all ps i h le s = sym (ap (shade h) (drop_of_length-le ps le)) ∙ s.rest
 pub ruleset shading = (shades_none, shades_all)
 
 -- the set of one number
-pub single_mark : (ps : List (ℕ × ℤ)) (s : ℕ) → s ≡ shade 0 ps → s < 64 → 1 * 2 ^ s % 18446744073709551616 ≡ mark ps
+pub single_mark : (ps : List (ℕ × ℤ)) (s : ℕ) → s ≡ shade 0 ps → s < 128 → 1 * 2 ^ s % 340282366920938463463374607431768211456 ≡ mark ps
 unfolding mark
-single_mark ps s e lt = one_shl s 64 lt ∙ ap (λ k. 2 ^ k) e
+single_mark ps s e lt = one_shl s 128 lt ∙ ap (λ k. 2 ^ k) e
 
 pub ruleset single = (single_mark)
 

@@ -13,11 +13,13 @@ use Rattle.clause_set.specs.Literals.{IsLiteral, HasDivisor}
 use Rattle.clause_set.specs.Clause.{IsClause}
 use Rattle.clause_set.specs.Normal.{negated, turned, normal_of}
 use Rattle.clause_set.specs.Order.{literal_cmp, sorted_once}
+use Rattle.clause_set.specs.Contrary.{is_excluded}
 use Rattle.clause_set.specs.Clauses.{same_pairs, slack, slack_of, bounds_apart, is_negative, is_zero, is_void, with_constant, tightened, compact, clause_of, literals_of}
 use Rattle.clause_set.specs.Tighter.{IsTighter, IsImpliedLiteral, IsFirstLiteral, IsPut}
 use Rattle.clause_set.proofs.ClauseTruth.{AtMost}
 use Rattle.clause_set.proofs.Covers.{Among, any_from, any_with, at_most_self, at_most_more, slack-at, slack-witness, same_literal_test}
 use Rattle.clause_set.proofs.Intervals.{bound-slack, slack_of-bound}
+use Rattle.clause_set.proofs.Excluding.{compact_contrary}
 use Rattle.clause_set.proofs.Orders.{same_pairs-equal}
 use Rattle.clause_set.proofs.Across.{among_append, among_left, among_right}
 use Rattle.clause_set.proofs.Reordered.{same_least, bounded_by, among_map, same_sorted}
@@ -281,7 +283,14 @@ both-clause c d out b h k e is =
     let n = both_normal c d (clause-normal c h) (clause-normal d k) in
     is ∙ e ∙ sym (ap (λ z. cond z None (compact (flat_map (λ l. literals_of (normal_of l)) (c ++ d)))) (none_false (c ++ d) n) ∙ ap compact (normals-own (c ++ d) n))
 
-pub ruleset conjoining = (both-clause)
+-- a bound of one that a literal of the other leaves no value
+pub contrary-clause : (c d : List Literal) → IsClause c → IsClause d → list_any (is_excluded c) d ≡ true → None ≡ clause_of (c ++ d)
+unfolding clause_of
+contrary-clause c d h k x =
+    let n = both_normal c d (clause-normal c h) (clause-normal d k) in
+    sym (ap (λ z. cond z None (compact (flat_map (λ l. literals_of (normal_of l)) (c ++ d)))) (none_false (c ++ d) n) ∙ ap compact (normals-own (c ++ d) n) ∙ compact_contrary c d x)
+
+pub ruleset conjoining = (both-clause, contrary-clause)
 
 -- the conjunction of two clauses is one
 pub both_divisors : (c d b : List Literal) → IsClause c → IsClause d → Some b ≡ clause_of (c ++ d) → All HasDivisor b

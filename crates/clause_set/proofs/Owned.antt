@@ -1,7 +1,8 @@
 -- A clause is its own form.
 use Rattle.std.proofs.Common.{◌≡◌, ◌≢◌, ℕ, ℤ, pos, neg_ℤ, ◌≤ℤ◌, ◌<ℤ◌, unsigned_abs, int_lt, int_le, true, false, not, ◌||◌, cond, List, [], ◌∷◌, ◌++◌, refl, sym, ◌∙◌, ap, subst, arith}
 use Rattle.std.specs.Prelude.{All}
-use Rattle.std.specs.List.{AllByRecursion, list_any, flat_map}
+use Rattle.std.specs.Cmp.{first_so, second_so}
+use Rattle.std.specs.List.{AllByRecursion, list_all, list_any, flat_map}
 use Rattle.std.specs.Int.{int_div_euclid, int_rem_euclid}
 use Rattle.std.specs.Ordering.{int_eq}
 use Rattle.std.proofs.lemmas.Int.{ints}
@@ -17,11 +18,12 @@ use Rattle.clause_set.specs.declared.literal.Norm.TheVariants.{True, False, Lit}
 use Rattle.clause_set.specs.Literals.{IsLiteral}
 use Rattle.clause_set.specs.Clause.{IsClause}
 use Rattle.clause_set.specs.Primitive.{AreCoprime, LeadsPositive, IsReducedModulo, IsPrimitive}
-use Rattle.clause_set.specs.Normal.{gcd_with, divided, quotient, negated, leads_negative, turned, residues, residue, decided, denied, normal_equation, normal_inequality, normal_divisibility, normal_of}
+use Rattle.clause_set.specs.Normal.{gcd_with, divided, quotient, negated, leads_negative, turned, is_residue, residues, residue, decided, denied, normal_equation, normal_inequality, normal_divisibility, normal_of}
 use Rattle.clause_set.specs.Clauses.{literals_of, is_false}
 use Rattle.clause_set.proofs.Contents.{gcd_with-positive, gcd_with-divides, gcd_with-divides_all, gcd_positive_right, quotient_exact}
 use Rattle.clause_set.proofs.Primitive.{IsNormalLiteral, normal-keeps}
 use Rattle.clause_set.proofs.Kept.{clause-kept}
+use Rattle.clause_set.proofs.Quotients.{rem_in_range}
 
 -- ---- division by 1
 by_one : (a : ℤ) → int_div_euclid a (pos 1) ≡ a
@@ -88,6 +90,30 @@ residues-own d (p ∷ ps) h k =
     ap (λ r. cond (not (int_eq r (pos 0))) ((p.0, r) ∷ residues d ps) (residues d ps)) e
     ∙ ap (λ b. cond b (p ∷ residues d ps) (residues d ps)) (not_zero_test p.1 h.0)
     ∙ ap (λ z. p ∷ z) (residues-own d ps h.1 k.1)
+
+small_residues : (d : ℤ) (ps : List (ℕ × ℤ)) → list_all (is_residue d) ps ≡ true → residues d ps ≡ ps
+small_residues d ps h = residues-own d ps (above ps h) (below ps h)
+  where
+    positive : (k : ℤ) → int_lt (pos 0) k ≡ true → pos 0 <ℤ k
+    positive k h = grind (arith, ints)
+
+    lesser : (k : ℤ) → int_lt k d ≡ true → k <ℤ d
+    lesser k h = grind (arith, ints)
+
+    above : (ps : List (ℕ × ℤ)) → list_all (is_residue d) ps ≡ true → AllByRecursion (λ p. pos 0 <ℤ p.1) ps
+    above [] h = tt
+    above (p ∷ ps) h = (positive p.1 (first_so (int_lt (pos 0) p.1) (int_lt p.1 d) (first_so (is_residue d p) (list_all (is_residue d) ps) h)), above ps (second_so (is_residue d p) (list_all (is_residue d) ps) h))
+
+    below : (ps : List (ℕ × ℤ)) → list_all (is_residue d) ps ≡ true → AllByRecursion (λ p. p.1 <ℤ d) ps
+    below [] h = tt
+    below (p ∷ ps) h = (lesser p.1 (second_so (int_lt (pos 0) p.1) (int_lt p.1 d) (first_so (is_residue d p) (list_all (is_residue d) ps) h)), below ps (second_so (is_residue d p) (list_all (is_residue d) ps) h))
+
+-- the residue of a term whose coefficients stay has another constant alone
+pub residue_by_constant : (d k : ℤ) (t r : Linear) → list_all (is_residue d) t.pairs ≡ true → r ≡ record { pairs = t.pairs; constant = k } → k ≡ int_rem_euclid t.constant d → r ≡ residue d t
+residue_by_constant d k t r h is e =
+    is ∙ ap (λ ps. record { pairs = ps; constant = k }) (sym (small_residues d t.pairs h)) ∙ ap (λ c. record { pairs = residues d t.pairs; constant = c }) e
+
+pub ruleset own_residues = (rem_in_range, residue_by_constant)
 
 residue-own : (d : ℤ) (t : Linear) → IsReducedModulo d t → residue d t ≡ t
 residue-own d t h =

@@ -15,6 +15,7 @@ pub mod Shadows
 pub mod Rules
 pub mod Met
 pub mod Formed
+pub mod Contrary
 pub mod Primitive
 pub mod Kept
 pub mod Table

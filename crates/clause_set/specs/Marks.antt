@@ -5,11 +5,11 @@ use Rattle.clause_set.specs.declared.literal.Literal.TheVariants.{Eq, Geq, Div, 
 use Rattle.clause_set.specs.Normal.{leads_negative}
 use Rattle.clause_set.specs.Clause.{IsClause}
 
--- a number below 64 with one more coefficient mixed in, whatever its sign
+-- a number below 128 with one more coefficient mixed in, whatever its sign
 abbrev pub mixed : ℕ → ℕ × ℤ → ℕ
-mixed h p = (h * 31 + p.0 * 7 + unsigned_abs p.1 % 64) % 64
+mixed h p = (h * 35 + p.0 + unsigned_abs p.1 % 128 * 9) % 128
 
--- a number below 64 that the coefficients have in common with their opposite
+-- a number below 128 that the coefficients have in common with their opposite
 unfoldable pub shade : ℕ → List (ℕ × ℤ) → ℕ
 shade h [] = h
 shade h (p ∷ ps) = shade (mixed h p) ps

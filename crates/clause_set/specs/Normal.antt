@@ -1,5 +1,5 @@
 -- The normal form of a literal.
-use Rattle.std.specs.Prelude.{ℕ, ℤ, pos, neg_ℤ, Bool, true, false, not, cond, int_le, int_lt, unsigned_abs, List, [], ◌∷◌, map, filter}
+use Rattle.std.specs.Prelude.{ℕ, ℤ, pos, neg_ℤ, Bool, true, false, not, ◌&&◌, cond, int_le, int_lt, unsigned_abs, List, [], ◌∷◌, map, filter}
 use Rattle.std.specs.Int.{int_div_euclid, int_rem_euclid}
 use Rattle.std.specs.Ordering.{int_eq}
 use Rattle.integers.specs.Divides.{divides}
@@ -39,6 +39,10 @@ turned t = cond (leads_negative t.pairs) (record { pairs = negated t.pairs; cons
 -- the coefficients modulo d, from 0 to d − 1, without those that are 0
 abbrev pub residues : ℤ → List (ℕ × ℤ) → List (ℕ × ℤ)
 residues d ps = filter (λ p. not (int_eq p.1 (pos 0))) (map (λ p. (p.0, int_rem_euclid p.1 d)) ps)
+
+-- the coefficient is from 1 to d − 1
+abbrev pub is_residue : ℤ → ℕ × ℤ → Bool
+is_residue d p = int_lt (pos 0) p.1 && int_lt p.1 d
 
 -- the term modulo d
 abbrev pub residue : ℤ → Linear → Linear

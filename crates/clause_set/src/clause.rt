@@ -196,6 +196,16 @@ impl Clause {
         self.literals.as_slice()
     }
 
+    /// The literals in their order, handed over.
+    pub fn into_literals(self) -> Items<Literal>
+        ensures exact { result ≡ self }
+        ensures clause { IsClause result }
+    {
+        self.know_clause();
+        let Clause { literals, marks: _ } = self;
+        literals
+    }
+
     /// Whether its marks are among those of another clause: where they are not, it does not cover that one.
     #[tactic(auto, using(crate::proofs::Marking::apart))]
     pub(crate) fn may_cover(&self, other: &Clause) -> bool

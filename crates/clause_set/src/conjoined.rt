@@ -7,6 +7,7 @@ ghost use Rattle.std.specs.Prelude.{◌≡◌, ◌+◌, ◌<◌, ◌≤ℤ◌, �
 
 use super::bounds::same_pairs;
 use super::compact::compact;
+use super::contrary::are_contrary;
 use super::literal::Literal;
 use super::order::{Ordered, room_for};
 use linear_term::{Memory, Term};
@@ -124,6 +125,9 @@ pub(crate) fn conjoined(
     requires right { IsClause d.now }
     ensures { IfOk result (λ both. both ≡ clause_of (c.now ++ d.now)) }
 {
+    if are_contrary(c, d) {
+        return Ok(None);
+    }
     let literals = merged(alloc, c, d)?;
     let both = compact(alloc, literals)?;
     Ok(both)

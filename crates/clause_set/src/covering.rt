@@ -1,19 +1,19 @@
 // Which clause covers which, and the clauses that no other one covers.
 
-ghost use Rattle.clause_set.specs.Clause.{IsDnf};
+ghost use Rattle.clause_set.specs.Clause.{IsClause, IsDnf};
 ghost use Rattle.clause_set.specs.Dnfs.{covers, is_covered, is_implied, outdoes, tidied, uncovered};
-ghost use Rattle.clause_set.specs.Implying.{implies};
+ghost use Rattle.clause_set.specs.Implying.{implies, refutes};
 ghost use Rattle.clause_set.specs.Keeping.{kept_by};
 ghost use Rattle.clause_set.specs.Order.{is_literal};
 ghost use Rattle.clause_set.specs.Thinning.{AreThinned, IsThin};
 ghost use Rattle.std.specs.List.{list_all, list_any};
 ghost use Rattle.std.specs.Prelude.{◌≡◌, ◌<◌, ◌≤◌, ◌++◌, [], ◌∷◌, cond, false, filter, IfNone, IfOk, IfSome, length, not, OnOk, reverse, true};
 
-use super::bounds::sets_bound;
+use super::bounds::{same_pairs, sets_bound};
 use super::clause::Clause;
 use super::literal::Literal;
 use super::order::{Ordered, room_for, sort_once};
-use linear_term::Memory;
+use linear_term::{Memory, Term};
 use sqlite_items::Items;
 use std::alloc::Global;
 
@@ -44,17 +44,45 @@ fn implies(m: &Literal, l: &Literal) -> bool
     }
 }
 
-/// The place of the last literal that l follows from.
+/// What the bound s ≥ 0 of a clause says of whether t ≥ 0 follows from the clause: nothing, where it bounds another form.
+fn bound_answers(s: &Term, t: &Term) -> Option<bool>
+    ensures says { IfSome result (λ b. implies (Literal.Geq t.now) (Literal.Geq s.now) ≡ b) }
+    ensures refutes { IfSome result (λ b. refutes (Literal.Geq t.now) (Literal.Geq s.now) ≡ not b) }
+    ensures fails { IfNone result (implies (Literal.Geq t.now) (Literal.Geq s.now) ≡ false) }
+    ensures stays { IfNone result (refutes (Literal.Geq t.now) (Literal.Geq s.now) ≡ false) }
+{
+    if !same_pairs(s.pairs(), t.pairs()) {
+        return None;
+    }
+    Some(s.constant() <= t.constant())
+}
+
+/// What a literal m of a clause says of whether l follows from the clause: nothing, where it is neither l, nor a bound or an
+/// equation of the same form.
+fn answers(m: &Literal, l: &Literal) -> Option<bool>
+    ensures says { IfSome result (λ b. implies l.now m.now ≡ b) }
+    ensures refutes { IfSome result (λ b. refutes l.now m.now ≡ not b) }
+    ensures fails { IfNone result (implies l.now m.now ≡ false) }
+    ensures stays { IfNone result (refutes l.now m.now ≡ false) }
+{
+    match (m, l) {
+        (Literal::Geq(s), Literal::Geq(t)) => bound_answers(s, t),
+        _ => { if implies(m, l) { Some(true) } else { None } }
+    }
+}
+
+/// The last literal that says whether l follows from the clause: its place, and what it says.
 #[tactic(auto, using(crate::proofs::Implying::backwards))]
-fn last_implying(ls: &[Literal], l: &Literal) -> Option<usize>
-    ensures found { IfSome result (λ at. list_any (implies l.now) ls.now ≡ true) }
-    ensures within { IfSome result (λ at. at < length ls.now) }
+fn last_answer(ls: &[Literal], l: &Literal) -> Option<(usize, bool)>
+    ensures yes { IfSome result (λ found. found.1 ≡ true → list_any (implies l.now) ls.now ≡ true) }
+    ensures no { IfSome result (λ found. found.1 ≡ false → list_any (refutes l.now) ls.now ≡ true) }
+    ensures within { IfSome result (λ found. found.0 < length ls.now) }
     ensures none { IfNone result (list_any (implies l.now) ls.now ≡ false) }
 {
     let mut left = ls;
     while let Some((m, before)) = left.split_last() {
-        if implies(m, l) {
-            return Some(before.len());
+        if let Some(follows) = answers(m, l) {
+            return Some((before.len(), follows));
         }
         left = before;
     }
@@ -64,24 +92,24 @@ fn last_implying(ls: &[Literal], l: &Literal) -> Option<usize>
 /// The place of a literal of the clause that l follows from. Those before `at` are asked first, the last one of them first.
 #[tactic(auto, using(crate::proofs::Implying::halves))]
 fn implying(c: &[Literal], at: usize, l: &Literal) -> Option<usize>
-    requires { at ≤ length c.now }
+    requires clause { IsClause c.now }
+    requires within { at ≤ length c.now }
     ensures found { IfSome result (λ place. is_implied c.now l.now ≡ true) }
     ensures within { IfSome result (λ place. place ≤ length c.now) }
     ensures none { IfNone result (is_implied c.now l.now ≡ false) }
 {
     let (near, others) = c.split_at(at);
-    if let Some(place) = last_implying(near, l) {
-        return Some(place);
+    if let Some((place, follows)) = last_answer(near, l) {
+        return if follows { Some(place) } else { None };
     }
-    match last_implying(others, l) {
-        Some(place) => Some(at + place),
-        None => None,
-    }
+    let (place, follows) = last_answer(others, l)?;
+    if follows { Some(at + place) } else { None }
 }
 
 /// Whether the clause d covers the clause c: each literal of d is in c, or follows from its bounds. The last ones, in
 /// which sorted clauses differ most, are asked first, each of the literals of c before the one that was found last.
 fn covers(d: &[Literal], c: &[Literal]) -> bool
+    requires { IsClause c.now }
     ensures { result ≡ covers d.now c.now }
 {
     let mut left = d;
@@ -100,6 +128,7 @@ fn covers(d: &[Literal], c: &[Literal]) -> bool
 fn covers_clause(d: &Clause, c: &Clause) -> bool
     ensures { result ≡ covers d.now c.now }
 {
+    c.know_clause();
     d.may_cover(c) && covers(d.literals(), c.literals())
 }
 
@@ -108,6 +137,7 @@ fn covers_clause(d: &Clause, c: &Clause) -> bool
 fn outdoes_marked(d: &Clause, c: &Clause) -> bool
     ensures { result ≡ outdoes d.now c.now }
 {
+    c.know_clause();
     covers(d.literals(), c.literals()) && !covers_clause(c, d)
 }
 

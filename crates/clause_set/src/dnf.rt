@@ -175,10 +175,13 @@ fn charged_tidied(alloc: Global, cs: Items<Clause>, purse: &mut Purse) -> Result
 }
 
 /// The clauses in tidy form.
-#[tactic(auto, unfolding(crate::specs::Dnfs::tidied))]
+#[tactic(auto, using(crate::proofs::Canonical::few), unfolding(crate::specs::Dnfs::tidied))]
 fn tidied(alloc: Global, cs: Items<Clause>) -> Result<Items<Clause>, Memory>
     ensures { IfOk result (λ d. d ≡ tidied cs) }
 {
+    if cs.len() < 2 {
+        return Ok(cs);
+    }
     let sorted = sort_once(alloc, cs)?;
     uncovered(alloc, sorted)
 }

@@ -7,6 +7,7 @@ pub mod bounds;
 mod clause;
 mod compact;
 mod conjoined;
+mod contrary;
 mod covering;
 mod dnf;
 mod laws;

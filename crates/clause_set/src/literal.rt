@@ -1,7 +1,9 @@
 // Literals over linear terms.
 
 ghost use Rattle.clause_set.specs.Literals.{term_of};
-ghost use Rattle.clause_set.specs.Order.{divisor_of, kind_of};
+ghost use Rattle.clause_set.specs.Order.{divisor_of};
+ghost use Rattle.linear_term.specs.Order.{linear_cmp};
+ghost use Rattle.std.specs.Ordering.{int_cmp, ordering_then};
 ghost use Rattle.std.specs.Prelude.{◌≡◌, IfOk};
 
 use super::order::Ordered;
@@ -42,17 +44,6 @@ impl Literal {
         }
     }
 
-    fn kind(&self) -> u8
-        ensures { result ≡ kind_of self.now }
-    {
-        match self {
-            Literal::Eq(_) => 0,
-            Literal::Geq(_) => 1,
-            Literal::Div(_, _) => 2,
-            Literal::NDiv(_, _) => 3,
-        }
-    }
-
     /// The divisor d, 0 where there is none.
     pub fn divisor(&self) -> i128
         ensures { result ≡ divisor_of self.now }
@@ -78,6 +69,17 @@ impl Literal {
     }
 }
 
+/// By divisor, then term.
+fn compare_divisibilities(d: i128, s: &Term, e: i128, t: &Term) -> Ordering
+    ensures { result ≡ ordering_then (int_cmp d e) (linear_cmp s.now t.now) }
+{
+    match d.cmp(&e) {
+        Ordering::Less => Ordering::Less,
+        Ordering::Equal => s.compare(t),
+        Ordering::Greater => Ordering::Greater,
+    }
+}
+
 impl Ordered for Literal {
     ghost use Rattle.clause_set.specs.Order.{literal_cmp};
     ghost use Rattle.clause_set.specs.Total.{literal_cmp-equal, literal_cmp-total};
@@ -90,9 +92,31 @@ impl Ordered for Literal {
 
     /// By kind (Eq, Geq, Div, NDiv), then divisor, then term.
     fn compare(&self, other: &Literal) -> Ordering {
-        self.kind()
-            .cmp(&other.kind())
-            .then(self.divisor().cmp(&other.divisor()))
-            .then(self.term().compare(other.term()))
+        match self {
+            Literal::Eq(s) => match other {
+                Literal::Eq(t) => s.compare(t),
+                Literal::Geq(_) => Ordering::Less,
+                Literal::Div(_, _) => Ordering::Less,
+                Literal::NDiv(_, _) => Ordering::Less,
+            },
+            Literal::Geq(s) => match other {
+                Literal::Eq(_) => Ordering::Greater,
+                Literal::Geq(t) => s.compare(t),
+                Literal::Div(_, _) => Ordering::Less,
+                Literal::NDiv(_, _) => Ordering::Less,
+            },
+            Literal::Div(d, s) => match other {
+                Literal::Eq(_) => Ordering::Greater,
+                Literal::Geq(_) => Ordering::Greater,
+                Literal::Div(e, t) => compare_divisibilities(*d, s, *e, t),
+                Literal::NDiv(_, _) => Ordering::Less,
+            },
+            Literal::NDiv(d, s) => match other {
+                Literal::Eq(_) => Ordering::Greater,
+                Literal::Geq(_) => Ordering::Greater,
+                Literal::Div(_, _) => Ordering::Greater,
+                Literal::NDiv(e, t) => compare_divisibilities(*d, s, *e, t),
+            },
+        }
     }
 }

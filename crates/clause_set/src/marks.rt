@@ -9,25 +9,25 @@ use super::literal::Literal;
 /// The marks of a clause's linear forms, by the sign of their first coefficients.
 #[derive(Clone, Copy, Debug, PartialEq, Eq)]
 pub(crate) struct Marks {
-    pub own: u64,
-    pub opposite: u64,
+    pub own: u128,
+    pub opposite: u128,
 }
 
-/// A number below 64 with one more coefficient mixed in, whatever its sign.
+/// A number below 128 with one more coefficient mixed in, whatever its sign.
 fn mixed(h: u64, pair: &(u32, i128)) -> u64
-    requires { h < 64 }
+    requires { h < 128 }
     ensures exact { result ≡ mixed h pair.now }
-    ensures less { result < 64 }
+    ensures less { result < 128 }
 {
-    let size = (pair.1.unsigned_abs() % 64) as u64;
-    (h * 31 + pair.0 as u64 * 7 + size) % 64
+    let size = (pair.1.unsigned_abs() % 128) as u64;
+    (h * 35 + pair.0 as u64 + size * 9) % 128
 }
 
-/// A number below 64 that the coefficients have in common with their opposite.
+/// A number below 128 that the coefficients have in common with their opposite.
 #[tactic(auto, using(crate::proofs::Marking::shading))]
 fn shade(pairs: &[(u32, i128)]) -> u64
     ensures exact { result ≡ shade 0 pairs.now }
-    ensures less { result < 64 }
+    ensures less { result < 128 }
 {
     let mut found = 0u64;
     for pair in pairs {
@@ -38,10 +38,10 @@ fn shade(pairs: &[(u32, i128)]) -> u64
 
 /// The set of that number alone.
 #[tactic(auto, using(crate::proofs::Marking::single))]
-fn mark(pairs: &[(u32, i128)]) -> u64
+fn mark(pairs: &[(u32, i128)]) -> u128
     ensures { result ≡ mark pairs.now }
 {
-    1u64 << shade(pairs)
+    1u128 << shade(pairs)
 }
 
 /// The marks of one literal.

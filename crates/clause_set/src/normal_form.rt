@@ -2,12 +2,13 @@
 
 ghost use Rattle.clause_set.specs.Literals.{literal_truth, norm_truth, HasDivisor, HasDivisorNorm, IsDivisor};
 ghost use Rattle.clause_set.specs.Content.{HasContent};
-ghost use Rattle.clause_set.specs.Normal.{decided, denied, divided, gcd_with, normal_divisibility, normal_equation, normal_inequality, normal_of, quotient, reduced_divisibility, reduced_equation, residue, residues, turned};
+ghost use Rattle.clause_set.specs.Normal.{decided, denied, divided, gcd_with, is_residue, normal_divisibility, normal_equation, normal_inequality, normal_of, quotient, reduced_divisibility, reduced_equation, residue, residues, turned};
 ghost use Rattle.integers.specs.Divides.{divides, Divides};
 ghost use Rattle.linear_term.specs.Linear.{IsNormal};
 ghost use Rattle.linear_term.specs.Range.{InRange};
 ghost use Rattle.std.specs.Int.{int_rem_euclid};
-ghost use Rattle.std.specs.Prelude.{◌≡◌, ◌<◌, ◌%◌, ◌<ℤ◌, ℤ, pos, unsigned_abs, [], ◌∷◌, ◌++◌, All, IfOk, OnOk, List};
+ghost use Rattle.std.specs.List.{list_all};
+ghost use Rattle.std.specs.Prelude.{◌≡◌, ◌<◌, ◌%◌, ◌<ℤ◌, ℤ, pos, unsigned_abs, [], ◌∷◌, ◌++◌, All, IfOk, OnOk, List, true};
 
 use super::bounds::{leads_negative, negated, turned};
 use super::literal::{Literal, Norm};
@@ -90,6 +91,39 @@ fn quotient(alloc: Global, g: i128, t: &Term) -> Result<Term, Memory>
     Term::of(alloc, pairs.as_slice(), constant)
 }
 
+/// The same of a term that is handed over: by 1 it stays as it is.
+#[tactic(auto, using(crate::proofs::Owned::ones))]
+fn quotient_of(alloc: Global, g: i128, t: Term) -> Result<Term, Memory>
+    requires positive { pos 0 <ℤ g }
+    requires divides { All (λ p. Divides g p.1) t.pairs }
+    ensures { IfOk result (λ q. q ≡ quotient g t) }
+{
+    if g == 1 {
+        return Ok(t);
+    }
+    quotient(alloc, g, &t)
+}
+
+/// Whether the coefficient is from 1 to d − 1.
+fn is_residue(d: i128, pair: &(u32, i128)) -> bool
+    ensures { result ≡ is_residue d pair.now }
+{
+    0 < pair.1 && pair.1 < d
+}
+
+/// Whether the coefficients are from 1 to d − 1.
+#[tactic(auto, using(crate::proofs::Walks::walks))]
+fn are_residues(d: i128, pairs: &[(u32, i128)]) -> bool
+    ensures { result ≡ list_all (is_residue d) pairs.now }
+{
+    for pair in pairs {
+        if !is_residue(d, pair) {
+            return false;
+        }
+    }
+    true
+}
+
 /// The coefficients modulo a divisor d, without those that are 0.
 #[tactic(auto, using(crate::proofs::Quotients::residue_steps))]
 fn residues(alloc: Global, d: i128, pairs: &[(u32, i128)]) -> Result<Vec<(u32, i128)>, Memory>
@@ -115,11 +149,26 @@ fn push_residue(d: i128, pair: &(u32, i128), out: &mut Vec<(u32, i128)>) -> Resu
     Ok(())
 }
 
+/// The term modulo a divisor d, whose coefficients stay as they are.
+#[tactic(auto, using(crate::proofs::Owned::own_residues))]
+fn with_residue(d: i128, t: &Term) -> Result<Term, Memory>
+    requires divisor { IsDivisor d }
+    requires own { list_all (is_residue d) t.now.pairs ≡ true }
+    ensures { IfOk result (λ r. r ≡ residue d t.now) }
+{
+    let mut rest = t.copy()?;
+    rest.set_constant(remainder(t.constant(), d));
+    Ok(rest)
+}
+
 /// The term modulo a divisor d.
 fn residue(alloc: Global, d: i128, t: &Term) -> Result<Term, Memory>
     requires { IsDivisor d }
     ensures { IfOk result (λ r. r ≡ residue d t.now) }
 {
+    if are_residues(d, t.pairs()) {
+        return with_residue(d, t);
+    }
     t.know_normal();
     let pairs = residues(alloc, d, t.pairs())?;
     let constant = remainder(t.constant(), d);
@@ -194,11 +243,11 @@ fn inequality(alloc: Global, t: &Term) -> Result<Norm, Memory>
 }
 
 /// d divides r, divided by the greatest common divisor h of d and the coefficients.
-fn reduced_divisibility(alloc: Global, h: i128, d: i128, r: &Term) -> Result<Norm, Memory>
+fn reduced_divisibility(alloc: Global, h: i128, d: i128, r: Term) -> Result<Norm, Memory>
     requires divisor { IsDivisor d }
     requires positive { pos 0 <ℤ h }
-    requires divides { All (λ p. Divides h p.1) r.now.pairs }
-    ensures { IfOk result (λ n. n ≡ reduced_divisibility h d r.now) }
+    requires divides { All (λ p. Divides h p.1) r.pairs }
+    ensures { IfOk result (λ n. n ≡ reduced_divisibility h d r) }
 {
     if !divides(h, r.constant()) {
         return Ok(Norm::False);
@@ -207,7 +256,7 @@ fn reduced_divisibility(alloc: Global, h: i128, d: i128, r: &Term) -> Result<Nor
     if rest == 1 {
         return Ok(Norm::True);
     }
-    Ok(Norm::Lit(Literal::Div(rest, quotient(alloc, h, r)?)))
+    Ok(Norm::Lit(Literal::Div(rest, quotient_of(alloc, h, r)?)))
 }
 
 /// d divides t in normal form.
@@ -217,7 +266,8 @@ fn divisibility(alloc: Global, d: i128, t: &Term) -> Result<Norm, Memory>
     ensures { IfOk result (λ n. n ≡ normal_divisibility d t.now) }
 {
     let r = residue(alloc, d, t)?;
-    reduced_divisibility(alloc, content(d, &r), d, &r)
+    let h = content(d, &r);
+    reduced_divisibility(alloc, h, d, r)
 }
 
 /// The negation of a normal divisibility.
