@@ -10,8 +10,7 @@ use Rattle.clause_set.specs.declared.literal.Literal.{Literal}
 use Rattle.clause_set.specs.Clauses.{found}
 use Rattle.rule_code.specs.Answers.{first, with_first}
 use Rattle.rule_code.proofs.Calls.{IsSingle}
-use Rattle.rule_code.proofs.AtEquation.{equation_single}
-use Rattle.rule_code.proofs.AtDivisibilities.{merge_single, shift_single}
+use Rattle.rule_code.proofs.AtDivisibilities.{merge_single}
 
 -- the work again, from its first clause
 again : (w : Traced (List (List Literal))) → IsSingle w.value → next (with_first w) (λ o. just (found o)) ≡ w
@@ -26,4 +25,4 @@ single_err w r {f} {g} h did is = subst (λ z. Charged z f r g) (again w h) (the
 pub single_memory : (w : Traced (List (List Literal))) (o : Option (List Literal)) (r : Result (List (List Literal)) StepFault) {f g : Funds} → IsSingle w.value → Charged (with_first w) f (Ok o) g → IsErrAnd r (λ z. z ≡ Memory) → Charged w f r g
 single_memory w o r {f} {g} h did is = subst (λ z. Charged z f r g) (again w h) (then_ok (with_first w) _ did (no_memory r is))
 
-pub ruleset singles = (single_ok, single_err, single_memory, equation_single, merge_single, shift_single)
+pub ruleset singles = (single_ok, single_err, single_memory, merge_single)

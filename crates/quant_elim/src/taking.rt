@@ -7,7 +7,8 @@ ghost use Rattle.purse.specs.Work.{Charged, ChargedAt, Logged, marks_of};
 ghost use Rattle.quant_elim.specs.Logging.{with_log};
 ghost use Rattle.std.specs.Prelude.{◌≡◌, IfOk, [], ◌<◌, ◌-◌, ◌^◌, reverse};
 
-use super::rows::first_row;
+use super::choice::first_choice;
+use super::rows::row;
 use clause_set::{Clause, Dnf, not};
 use elim_laws::know_formed;
 use linear_term::Memory;
@@ -15,18 +16,7 @@ use purse::{ElimFault, ElimLog, Purse, StepFault};
 use sqlite_items::Items;
 use std::alloc::Global;
 
-/// A clause of the caller's without the name stays: it is copied.
-#[tactic(auto, using(purse::proofs::Charging::charging))]
-fn unused(alloc: Global, c: &Clause, purse: &mut Purse) -> Result<Items<Clause>, StepFault>
-    ensures { Charged (unused c.now) purse.old result purse.new }
-{
-    purse.step(1)?;
-    let mut out = Items::new(alloc);
-    out.push(c.copy(alloc)?)?;
-    Ok(out)
-}
-
-/// The same of a clause that is handed over.
+/// A clause without the name stays.
 #[tactic(auto, using(purse::proofs::Charging::charging))]
 fn staying(alloc: Global, c: Clause, purse: &mut Purse) -> Result<Items<Clause>, StepFault>
     ensures { Charged (unused c) purse.old result purse.new }
@@ -66,9 +56,10 @@ fn take_out(
     requires { purse.old.budget < 2 ^ 32 }
     ensures { ChargedAt (taken_out x c) (at purse.old (marks_of log.old)) result (at purse.new (marks_of log.new)) }
 {
-    match first_row(alloc, &c, x, purse)? {
+    match first_choice(&c, x) {
         None => staying(alloc, c, purse),
-        Some((entry, results)) => {
+        Some(choice) => {
+            let (entry, results) = row(alloc, c, x, choice, purse)?;
             log.entries.push(entry)?;
             take_out_all(alloc, results, x, purse, log)
         }
@@ -96,44 +87,20 @@ fn take_out_all(
     Ok(out)
 }
 
-/// x out of a clause of the caller's.
+/// x out of d, which is handed over, with the entries of the rules behind those of the log.
 #[tactic(auto, using(purse::proofs::Charging::logging))]
-fn clause_out(
+pub(crate) fn take_name_out(
     alloc: Global,
-    c: &Clause,
+    d: Dnf,
     x: u32,
     purse: &mut Purse,
     log: &mut ElimLog,
-) -> Result<Items<Clause>, StepFault>
+) -> Result<Dnf, StepFault>
     requires { purse.old.budget < 2 ^ 32 }
-    ensures { ChargedAt (taken_out x c.now) (at purse.old (marks_of log.old)) result (at purse.new (marks_of log.new)) }
+    ensures { ChargedAt (exists_name x d) (at purse.old (marks_of log.old)) result (at purse.new (marks_of log.new)) }
 {
-    match first_row(alloc, c, x, purse)? {
-        None => unused(alloc, c, purse),
-        Some((entry, results)) => {
-            log.entries.push(entry)?;
-            take_out_all(alloc, results, x, purse, log)
-        }
-    }
-}
-
-/// x out of each of the caller's clauses.
-#[tactic(auto, using(purse::proofs::Charging::logging))]
-fn clauses_out(
-    alloc: Global,
-    cs: &[Clause],
-    x: u32,
-    purse: &mut Purse,
-    log: &mut ElimLog,
-) -> Result<Items<Clause>, StepFault>
-    requires { purse.old.budget < 2 ^ 32 }
-    ensures { ChargedAt (each (taken_out x) cs.now []) (at purse.old (marks_of log.old)) result (at purse.new (marks_of log.new)) }
-{
-    let mut out = Items::new(alloc);
-    for c in cs {
-        out.append(clause_out(alloc, c, x, purse, log)?)?;
-    }
-    Ok(out)
+    let cs = take_out_all(alloc, d.into_clauses(), x, purse, log)?;
+    Dnf::tidy(alloc, cs, purse)
 }
 
 /// x out of d, with the entries of the rules behind those of the log: for callers that take several names out with one log.
@@ -151,8 +118,7 @@ pub fn name_out(
     requires { purse.old.budget < 2 ^ 32 }
     ensures { ChargedAt (exists_name x d.now) (at purse.old (marks_of log.old)) result (at purse.new (marks_of log.new)) }
 {
-    let cs = clauses_out(alloc, d.clauses(), x, purse, log)?;
-    Dnf::tidy(alloc, cs, purse)
+    take_name_out(alloc, d.copy(alloc)?, x, purse, log)
 }
 
 /// The outcome with the log of what was done; want of memory has none.
@@ -206,7 +172,7 @@ fn all_values(
     ensures { ChargedAt (for_all_name x d.now) (at purse.old (marks_of log.old)) result (at purse.new (marks_of log.new)) }
 {
     let fails = not(alloc, d, purse)?;
-    let some = name_out(alloc, &fails, x, purse, log)?;
+    let some = take_name_out(alloc, fails, x, purse, log)?;
     not(alloc, &some, purse)
 }
 

@@ -11,7 +11,7 @@ ghost use Rattle.std.specs.Prelude.{◌≡◌, ◌+◌, ◌<◌, ◌≤◌, ◌^
 
 use super::atoms::atom;
 use super::knowing::know_terms;
-use super::taking::{name_out, with_log};
+use super::taking::{take_name_out, with_log};
 use clause_set::{Dnf, and, not, or_into};
 use formula::{Core, dual, size};
 use purse::{ElimFault, ElimLog, Purse, StepFault};
@@ -105,7 +105,7 @@ fn some_value(
     ensures { ChargedAt (eliminating names (existential (form body.now))) (at purse.old (marks_of log.old)) result (at purse.new (marks_of log.new)) }
 {
     let d = eliminate_form(alloc, body, names + 1, purse, log)?;
-    name_out(alloc, &d, names, purse, log)
+    take_name_out(alloc, d, names, purse, log)
 }
 
 /// The disjunction of "every value of the name `names` makes the body true": no value makes its negation true.
@@ -125,7 +125,7 @@ fn every_value(
     purse.step(size(body))?;
     let negation = dual(alloc, body)?;
     let fails = eliminate_form(alloc, &negation, names + 1, purse, log)?;
-    let some = name_out(alloc, &fails, names, purse, log)?;
+    let some = take_name_out(alloc, fails, names, purse, log)?;
     not(alloc, &some, purse)
 }
 

@@ -1,24 +1,23 @@
 -- The rule of an equation at its place in the clause.
-use Rattle.std.proofs.Common.{◌≡◌, ◌≢◌, ◌<◌, ℕ, pos, true, List, Option, Some, None, length, Result, sym, ◌∙◌, ap, subst}
+use Rattle.std.proofs.Common.{◌≡◌, ◌≢◌, ◌<◌, ◌+◌, ℕ, pos, Ok, true, List, Some, length, Result, Err, IsErrAnd, sym, ◌∙◌, ap, subst}
 use Rattle.std.specs.Prelude.{All, remove, slice_get}
 use Rattle.std.proofs.lemmas.Option.{slice_get_within}
 use Rattle.std.proofs.lemmas.List.Elements.{recursion_from_All}
 use Rattle.purse.specs.declared.fault.StepFault.{StepFault}
 use Rattle.purse.specs.declared.log.Entry.TheVariants.{Equation}
-use Rattle.purse.specs.Trace.{Funds}
-use Rattle.purse.specs.Work.{Charged}
+use Rattle.purse.specs.Trace.{Funds, pay}
+use Rattle.purse.specs.Work.{Charged, Worked}
+use Rattle.purse.proofs.Charging.{then_ok, then_err, free}
 use Rattle.clause_set.specs.declared.literal.Literal.{Literal}
 use Rattle.clause_set.specs.declared.literal.Literal.TheVariants.{Eq}
-use Rattle.clause_set.specs.Clauses.{clauses_of}
 use Rattle.clause_set.specs.Literals.{IsLiteral}
-use Rattle.clause_set.specs.Names.{coefficient}
+use Rattle.clause_set.specs.Names.{area, coefficient}
 use Rattle.clause_set.specs.Equations.{by_equation, equation_at, equation}
 use Rattle.clause_set.specs.Rules.{applies, rule}
-use Rattle.equation_laws.specs.Results.{solved_by}
 use Rattle.equation_laws.proofs.Applying.{equation_applies, mentioned-not_zero}
 use Rattle.equation_laws.proofs.Lists.{kept-got}
-use Rattle.equation_laws.proofs.Values.{equation-value}
-use Rattle.rule_code.proofs.Calls.{IsSingle, no_clause, one_clause, rest_divisors}
+use Rattle.rule_code.specs.Solutions.{solved_beside}
+use Rattle.rule_code.proofs.Calls.{got_same}
 
 pub equation_below : (x i : ℕ) (c : List Literal) → applies x c (Equation i) ≡ true → i < length c
 equation_below x i c h = let e = equation_applies x i c h in slice_get_within c i (Eq e.term) e.stands
@@ -30,17 +29,14 @@ equation_coefficient x i c l literals h is =
     let reduced = (kept-got IsLiteral c i (Eq e.term) e.stands (recursion_from_All IsLiteral c literals)).term in
     subst (λ k. coefficient x k ≢ pos 0) same (mentioned-not_zero e.term x reduced e.mentioned)
 
-pub equation_work : (x i : ℕ) (c ls rest : List Literal) (l : Literal) (old new : Funds) (r : Result (List (List Literal)) StepFault) → ls ≡ c → rest ≡ remove ls i → slice_get c i ≡ Some l
-    → Charged (by_equation x c rest l) old r new → Charged (rule x c (Equation i)) old r new
+pub equation_work : (x i : ℕ) (c ls rest : List Literal) (l : Literal) {old paid : Funds} {v : Unit {0}} (r : Result (List (List Literal)) StepFault) → ls ≡ c → slice_get ls i ≡ Some l → rest ≡ remove ls i
+    → Charged (pay (1 + area (length c) c)) old (Ok v) paid → Worked (solved_beside x rest l) r → Charged (rule x c (Equation i)) old r paid
 unfolding rule equation
-equation_work x i c ls rest l old new r same is stands h =
-    subst (λ o. Charged (equation_at x i c o) old r new) (sym stands) (subst (λ z. Charged (by_equation x c z l) old r new) (is ∙ ap (λ z. remove z i) same) h)
+equation_work x i c ls rest l {old} {paid} r same is_l is first w =
+    let done : Charged (by_equation x c rest l) old r paid = then_ok _ _ first (free r w) in
+    subst (λ o. Charged (equation_at x i c o) old r paid) (sym (got_same i c ls l same is_l)) (subst (λ z. Charged (by_equation x c z l) old r paid) (is ∙ ap (λ z. remove z i) same) done)
 
-pub ruleset equations = (equation_below, equation_coefficient, rest_divisors, equation_work)
-
-pub equation_single : (x i : ℕ) (c : List Literal) → IsSingle (rule x c (Equation i)).value
-equation_single x i c = subst IsSingle (sym (equation-value x i c)) (by (slice_get c i))
-  where
-    by : (o : Option Literal) → IsSingle (clauses_of (solved_by x (remove c i) o))
-    by None = no_clause
-    by (Some l) = one_clause _
+pub equation_refused : (x i : ℕ) (c : List Literal) {old paid : Funds} {e : StepFault} (r : Result (List (List Literal)) StepFault) → applies x c (Equation i) ≡ true → IsErrAnd r (λ z. z ≡ e)
+    → Charged (pay (1 + area (length c) c)) old (Err e) paid → Charged (rule x c (Equation i)) old r paid
+unfolding rule equation
+equation_refused x i c {old} {paid} r h fails w = subst (λ o. Charged (equation_at x i c o) old r paid) (sym (equation_applies x i c h).stands) (then_err _ _ r fails w)

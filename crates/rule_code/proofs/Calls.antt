@@ -1,6 +1,6 @@
 -- Calls of rules that leave at most one clause: their answers, and what the laws say of them.
 use Rattle.std.proofs.Common.{◌≡◌, ◌<◌, ℕ, ℤ, false, List, [], ◌∷◌, ◌++◌, Option, Some, None, Result, Ok, Err, refl, sym, ◌∙◌, ap, subst}
-use Rattle.std.specs.Prelude.{All, IfOk, remove, ◌↔◌}
+use Rattle.std.specs.Prelude.{All, IfOk, remove, slice_get, ◌↔◌}
 use Rattle.std.specs.List.{list_any}
 use Rattle.std.proofs.lemmas.List.Elements.{recursion_from_All, All-from_recursion}
 use Rattle.purse.specs.Trace.{Funds, Traced}
@@ -19,6 +19,10 @@ use Rattle.rule_code.specs.Answers.{first}
 pub rest_divisors : (i : ℕ) (c ls rest : List Literal) → All HasDivisor c → ls ≡ c → rest ≡ remove ls i → All HasDivisor rest
 rest_divisors i c ls rest h same is =
     subst (All HasDivisor) (sym (is ∙ ap (λ z. remove z i) same)) (All-from_recursion HasDivisor (remove c i) (kept-removed HasDivisor c i (recursion_from_All HasDivisor c h)))
+
+-- what stands in the literals of the clause stands in the clause
+pub got_same : (i : ℕ) (c ls : List Literal) (l : Literal) → ls ≡ c → slice_get ls i ≡ Some l → slice_get c i ≡ Some l
+got_same i c ls l same is = ap (λ z. slice_get z i) (sym same) ∙ is
 
 -- at most one clause is there
 pub record IsSingle (cs : List (List Literal)) : Type 0 where
@@ -57,3 +61,17 @@ pub nearer_ok : (x : ℕ) (c : List Literal) (work : Traced (List (List Literal)
     → All (λ d. measure x d < measure x c) work.value → IfOk r (λ ds. All (λ d. measure x d < measure x c) ds)
 nearer_ok x c work (Ok ds) h law = nearer_by x c ds work.value (charged_value h) law
 nearer_ok x c work (Err e) h law = tt
+
+pub free_ok : (x : ℕ) (work : Traced (List (List Literal))) (r : Result (List (List Literal)) StepFault) {old new : Funds} → Charged work old r new
+    → All (λ d. list_any (has x) d ≡ false) work.value → IfOk r (λ ds. All (λ d. list_any (has x) d ≡ false) ds)
+free_ok x work (Ok ds) h law = free_by x ds work.value (charged_value h) law
+free_ok x work (Err e) h law = tt
+
+-- the same of a clause that was copied
+pub met_copied : (x : ℕ) (c d : List Literal) (work : List Literal → Traced (List (List Literal))) (r : Result (List (List Literal)) StepFault) {old new : Funds} → d ≡ c → Charged (work d) old r new
+    → ((e : List ℤ) → IsMet (c ∷ []) x e ↔ IsMet (work c).value x e) → IfOk r (λ ds. (e : List ℤ) → IsMet (c ∷ []) x e ↔ IsMet ds x e)
+met_copied x c d work r {old} {new} same h law = met_ok x c (work c) r (subst (λ z. Charged (work z) old r new) same h) law
+
+pub nearer_copied : (x : ℕ) (c d : List Literal) (work : List Literal → Traced (List (List Literal))) (r : Result (List (List Literal)) StepFault) {old new : Funds} → d ≡ c → Charged (work d) old r new
+    → All (λ d. measure x d < measure x c) (work c).value → IfOk r (λ ds. All (λ d. measure x d < measure x c) ds)
+nearer_copied x c d work r {old} {new} same h law = nearer_ok x c (work c) r (subst (λ z. Charged (work z) old r new) same h) law

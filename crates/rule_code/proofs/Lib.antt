@@ -13,4 +13,3 @@ pub mod Filters
 pub mod Results
 pub mod Counting
 pub mod Darkness
-pub mod Parting

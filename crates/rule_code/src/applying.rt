@@ -9,7 +9,7 @@ ghost use Rattle.std.specs.Prelude.{◌≡◌, ◌||◌, count_by, slice_get};
 use clause_set::{Clause, Literal};
 use step_code::{is_divisibility, is_equation, is_indivisibility};
 
-/// Whether literal i of c is an equation with x: `by_equation` applies.
+/// Whether literal i of c is an equation with x: `equation_rule` applies.
 #[tactic(auto, using(crate::proofs::Placing::places))]
 pub fn has_equation_at(c: &Clause, x: u32, i: usize) -> bool
     ensures { result ≡ applies x c.now (Equation i) }
@@ -69,7 +69,7 @@ fn has_others(ls: &[Literal], x: u32) -> bool
 }
 
 /// Whether literal i of c is the only divisibility with x, where no equation and no negated divisibility has x:
-/// `shift_div` applies.
+/// `shift_rule` applies.
 #[tactic(auto, using(crate::proofs::Placing::places))]
 pub fn has_only_divisibility_at(c: &Clause, x: u32, i: usize) -> bool
     ensures { result ≡ applies x c.now (Shift i) }

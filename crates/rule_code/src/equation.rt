@@ -1,15 +1,13 @@
 // The rule of an equation a·x + s = 0. It holds for some integer x exactly where |a| divides s, and then |a| times a
 // literal's term b·x + t is |a|·t − σ·b·s with the sign σ of a, so each other literal is multiplied by |a| and x is gone.
 
-ghost use Rattle.clause_set.specs.Clauses.{found};
-ghost use Rattle.clause_set.specs.Equations.{by_equation as by_equation_work, sign_of, size_of, solved, solved_or_kept, solved_term};
+ghost use Rattle.clause_set.specs.Equations.{sign_of, size_of, solved, solved_or_kept, solved_term};
 ghost use Rattle.clause_set.specs.Literals.{HasDivisor, IsDivisor};
 ghost use Rattle.clause_set.specs.Met.{IsMet};
 ghost use Rattle.clause_set.specs.Names.{coefficient, has, product};
 ghost use Rattle.clause_set.specs.Rules.{applies, measure, rule};
 ghost use Rattle.clause_set.specs.declared.literal.Literal.TheVariants.{Div, Eq, Geq, NDiv};
-ghost use Rattle.rule_code.specs.Answers.{with_first};
-ghost use Rattle.rule_code.specs.Solutions.{HasCoefficient};
+ghost use Rattle.rule_code.specs.Solutions.{HasCoefficient, solved_beside};
 ghost use Rattle.linear_term.specs.Linear.{coef_of, without};
 ghost use Rattle.linear_term.specs.Range.{InRange};
 ghost use Rattle.purse.specs.Trace.{compute, each};
@@ -19,7 +17,6 @@ ghost use Rattle.std.specs.List.{list_any};
 ghost use Rattle.std.specs.Prelude.{◌≡◌, ◌≢◌, ◌<◌, ◌↔◌, ◌*ℤ◌, ℤ, List, false, neg_ℤ, pos, [], ◌∷◌, All, IfErr, IfOk, OnOk, Ok, Err, true};
 
 use super::numbers::{multiplied, times};
-use super::parts::{all_but, first};
 use clause_set::{Clause, Literal};
 use linear_term::{Memory, Term};
 use purse::{Purse, StepFault};
@@ -192,21 +189,18 @@ fn all_solved(alloc: Global, q: &Solution, rest: &[Literal]) -> Result<Items<Lit
     Ok(out)
 }
 
-/// The rule at the equation l, with the other literals of the clause.
-#[tactic(auto, using(purse::proofs::Charging::charging, crate::proofs::Steps::divisors))]
+/// The rule at the equation l behind its charge, with the other literals of the clause.
+#[tactic(auto, using(purse::proofs::Charging::working, crate::proofs::Steps::divisors))]
 fn by_literal(
     alloc: Global,
-    c: &Clause,
     x: u32,
     rest: &[Literal],
     l: &Literal,
-    purse: &mut Purse,
 ) -> Result<Items<Clause>, StepFault>
     requires not_zero { coefficient x l.now ≢ pos 0 }
     requires divisors { All HasDivisor rest.now }
-    ensures { Charged (by_equation_work x c.now rest.now l.now) purse.old result purse.new }
+    ensures { Worked (solved_beside x rest.now l.now) result }
 {
-    purse.step(whole_charge(alloc, c)?)?;
     let q = solved_for(x, l.term())?;
     let solved = all_solved(alloc, &q, rest)?;
     let mut literals = alone(alloc, Literal::Div(size(&q), q.s))?;
@@ -214,40 +208,40 @@ fn by_literal(
     Ok(in_form(alloc, literals)?)
 }
 
-/// What the rule of the equation at i leaves.
-#[tactic(auto, using(crate::proofs::AtEquation::equations))]
-pub fn equation_clauses(
+/// The rule of the equation at i, on a clause that is handed over.
+#[tactic(auto, using(purse::proofs::Charging::charging))]
+fn equation_performed(
     alloc: Global,
-    c: &Clause,
+    c: Clause,
     x: u32,
     i: usize,
     purse: &mut Purse,
 ) -> Result<Items<Clause>, StepFault>
-    requires { applies x c.now (Equation i) ≡ true }
-    ensures { Charged (rule x c.now (Equation i)) purse.old result purse.new }
+    requires { applies x c (Equation i) ≡ true }
+    ensures { Charged (rule x c (Equation i)) purse.old result purse.new }
 {
-    c.know_clause();
-    let rest = all_but(alloc, c.literals(), i)?;
-    by_literal(alloc, c, x, rest.as_slice(), c.get(i), purse)
+    purse.step(whole_charge(alloc, &c)?)?;
+    let mut rest = c.into_literals();
+    let l = rest.remove(i);
+    by_literal(alloc, x, rest.as_slice(), &l)
 }
 
-/// The rule of the equation at i: the clause without x that is true exactly where c is for some integer x. None where
-/// that is found to be false.
-#[tactic(auto, using(purse::proofs::Charging::charging, crate::proofs::AtEquation::equation_below))]
-pub fn by_equation(
+/// The rule of the equation at i, on a clause that is handed over: what it leaves is without x, and true exactly where the
+/// clause is for some integer x.
+#[tactic(auto, using(purse::proofs::Charging::charging))]
+pub fn equation_rule(
     alloc: Global,
-    c: &Clause,
+    c: Clause,
     x: u32,
     i: usize,
     purse: &mut Purse,
-) -> Result<Option<Clause>, StepFault>
-    requires { applies x c.now (Equation i) ≡ true }
-    ensures work { Charged (with_first (rule x c.now (Equation i))) purse.old result purse.new }
-    ensures exact { IfOk result (λ r. (e : List ℤ) → IsMet (c.now ∷ []) x e ↔ IsMet (found r) x e) }
-    ensures free { IfOk result (λ r. All (λ d. list_any (has x) d ≡ false) (found r)) }
-    ensures nearer { IfOk result (λ r. All (λ d. measure x d < measure x c.now) (found r)) }
+) -> Result<Items<Clause>, StepFault>
+    requires { applies x c (Equation i) ≡ true }
+    ensures work { Charged (rule x c (Equation i)) purse.old result purse.new }
+    ensures exact { IfOk result (λ ds. (e : List ℤ) → IsMet (c ∷ []) x e ↔ IsMet ds x e) }
+    ensures free { IfOk result (λ ds. All (λ d. list_any (has x) d ≡ false) ds) }
+    ensures nearer { IfOk result (λ ds. All (λ d. measure x d < measure x c) ds) }
 {
     c.know_clause();
-    let clauses = equation_clauses(alloc, c, x, i, purse)?;
-    Ok(first(clauses))
+    equation_performed(alloc, c, x, i, purse)
 }

@@ -17,16 +17,16 @@ mod shift;
 mod sides;
 mod splinter;
 
-pub use apart::free_ndiv;
+pub use apart::{apart_rule, free_ndiv};
 pub use applying::{
     has_divisibilities_at, has_equation_at, has_indivisibility_at, has_only_divisibility_at,
 };
 pub use dark_shadow::dark;
-pub use equation::{by_equation, equation_clauses};
+pub use equation::equation_rule;
 pub use exact_shadow::exact;
-pub use merge::{merge_clauses, merge_divs};
+pub use merge::{merge_divs, merge_rule};
 pub use one_side::one_sided;
-pub use shift::{shift_clauses, shift_div};
+pub use shift::shift_rule;
 pub use sides::{
     Side, all_units, bounds_alone, has_name, has_unit, is_lower, is_upper, literals_on,
 };

@@ -4,7 +4,7 @@
 ghost use Rattle.clause_set.specs.Bezout.{bezout};
 ghost use Rattle.clause_set.specs.Clauses.{found};
 ghost use Rattle.clause_set.specs.Formed.{IsNormalized};
-ghost use Rattle.clause_set.specs.Divisibilities.{merged as merged_work, merged_by as merged_by_work, with_name};
+ghost use Rattle.clause_set.specs.Divisibilities.{merged_by as merged_by_work, with_name};
 ghost use Rattle.clause_set.specs.Literals.{HasDivisor, IsDivisor, term_of};
 ghost use Rattle.clause_set.specs.Met.{IsMet};
 ghost use Rattle.clause_set.specs.Names.{is_equation, product};
@@ -12,7 +12,7 @@ ghost use Rattle.clause_set.specs.Order.{divisor_of};
 ghost use Rattle.clause_set.specs.Rules.{applies, measure, rule};
 ghost use Rattle.clause_set.specs.declared.literal.Literal.TheVariants.{Div};
 ghost use Rattle.rule_code.specs.Answers.{bezout_of, with_first};
-ghost use Rattle.rule_code.specs.Congruences.{IsCongruence, merge_numbers};
+ghost use Rattle.rule_code.specs.Congruences.{IsCongruence, merge_numbers, merged_beside};
 ghost use Rattle.linear_term.specs.Linear.{coef_of, mentions};
 ghost use Rattle.linear_term.specs.Range.{InRange, stays};
 ghost use Rattle.purse.specs.Trace.{compute};
@@ -23,7 +23,7 @@ ghost use Rattle.std.specs.List.{list_any};
 ghost use Rattle.std.specs.Prelude.{◌≡◌, ◌<◌, ◌<ℤ◌, ◌*ℤ◌, ◌↔◌, ℤ, List, [], ◌∷◌, All, false, IfErr, IfOk, OnOk, Ok, Err, pos, true};
 
 use super::numbers::{Cofactors, coefficients, multiplied, opposite, times, with_name};
-use super::parts::{all_but_two, divisor, first};
+use super::parts::{divisor, first};
 use clause_set::{Clause, Literal};
 use linear_term::Term;
 use purse::{Purse, StepFault};
@@ -101,29 +101,67 @@ fn merged_by(
     Ok(in_form_with(alloc, rest, new)?)
 }
 
-/// The rule at the divisibilities l and m, with the other literals of the clause.
-#[tactic(auto, using(purse::proofs::Charging::charging))]
+/// The rule at the divisibilities l and m behind its charge, with the other literals of the clause.
+#[tactic(auto, using(purse::proofs::Charging::working))]
 fn merged(
     alloc: Global,
-    c: &Clause,
     x: u32,
     rest: Items<Literal>,
     l: &Literal,
     m: &Literal,
-    purse: &mut Purse,
 ) -> Result<Items<Clause>, StepFault>
     requires first { IsCongruence x l.now }
     requires second { IsCongruence x m.now }
     requires normalized { All IsNormalized rest }
-    ensures { Charged (merged_work x c.now rest (divisor_of l.now) (term_of l.now) (divisor_of m.now) (term_of m.now)) purse.old result purse.new }
+    ensures { Worked (merged_beside x rest l.now m.now) result }
 {
-    purse.step(whole_charge(alloc, c)?)?;
     let z = joint_coefficients(x, l, m)?;
     merged_by(alloc, x, rest, &z, l, m)
 }
 
-/// What the rule of the divisibilities at i and j leaves.
-pub fn merge_clauses(
+/// The rule of the divisibilities at i and j on a clause that is handed over: its other literals are moved.
+#[tactic(auto, using(purse::proofs::Charging::charging))]
+fn merge_performed(
+    alloc: Global,
+    c: Clause,
+    x: u32,
+    i: usize,
+    j: usize,
+    purse: &mut Purse,
+) -> Result<Items<Clause>, StepFault>
+    requires { applies x c (Merge i j) ≡ true }
+    ensures { Charged (rule x c (Merge i j)) purse.old result purse.new }
+{
+    purse.step(whole_charge(alloc, &c)?)?;
+    let mut rest = c.into_literals();
+    let m = rest.remove(j);
+    let l = rest.remove(i);
+    merged(alloc, x, rest, &l, &m)
+}
+
+/// The rule of the divisibilities at i and j on a clause that is handed over: what it leaves has one divisibility of x in
+/// place of both, and is true at the same integers.
+#[tactic(auto, using(purse::proofs::Charging::charging))]
+pub fn merge_rule(
+    alloc: Global,
+    c: Clause,
+    x: u32,
+    i: usize,
+    j: usize,
+    purse: &mut Purse,
+) -> Result<Items<Clause>, StepFault>
+    requires { applies x c (Merge i j) ≡ true }
+    ensures work { Charged (rule x c (Merge i j)) purse.old result purse.new }
+    ensures exact { IfOk result (λ ds. (e : List ℤ) → IsMet (c ∷ []) x e ↔ IsMet ds x e) }
+    ensures nearer { list_any (is_equation x) c ≡ false → IfOk result (λ ds. All (λ d. measure x d < measure x c) ds) }
+{
+    c.know_clause();
+    merge_performed(alloc, c, x, i, j, purse)
+}
+
+/// The same of a clause of the caller's, which is copied.
+#[tactic(auto, using(purse::proofs::Charging::charging))]
+fn merge_clauses(
     alloc: Global,
     c: &Clause,
     x: u32,
@@ -134,9 +172,7 @@ pub fn merge_clauses(
     requires { applies x c.now (Merge i j) ≡ true }
     ensures { Charged (rule x c.now (Merge i j)) purse.old result purse.new }
 {
-    c.know_clause();
-    let rest = all_but_two(alloc, c.literals(), i, j)?;
-    merged(alloc, c, x, rest, c.get(i), c.get(j), purse)
+    merge_rule(alloc, c.copy(alloc)?, x, i, j, purse)
 }
 
 /// The rule of the divisibilities at i and j: the clause with one divisibility of x in place of both, true at the same

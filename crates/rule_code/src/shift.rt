@@ -3,15 +3,14 @@
 // a·x + s ≥ 0 becomes a·d·k + g·s − a·u·t ≥ 0, where x stands for k.
 
 ghost use Rattle.clause_set.specs.Bezout.{bezout};
-ghost use Rattle.clause_set.specs.Clauses.{found};
-ghost use Rattle.clause_set.specs.Divisibilities.{shift_by as shift_by_work, shifted, shifted_bound};
+ghost use Rattle.clause_set.specs.Divisibilities.{shifted, shifted_bound};
 ghost use Rattle.clause_set.specs.Literals.{HasDivisor, IsDivisor, term_of};
 ghost use Rattle.clause_set.specs.Met.{IsMet};
 ghost use Rattle.clause_set.specs.Order.{divisor_of};
 ghost use Rattle.clause_set.specs.Rules.{applies, measure, rule};
 ghost use Rattle.clause_set.specs.declared.literal.Literal.TheVariants.{Geq};
-ghost use Rattle.rule_code.specs.Answers.{bezout_of, with_first};
-ghost use Rattle.rule_code.specs.Congruences.{IsCongruence};
+ghost use Rattle.rule_code.specs.Answers.{bezout_of};
+ghost use Rattle.rule_code.specs.Congruences.{IsCongruence, shifted_beside};
 ghost use Rattle.linear_term.specs.Linear.{coef_of};
 ghost use Rattle.purse.specs.Trace.{each, just};
 ghost use Rattle.purse.specs.Work.{Charged, Worked};
@@ -19,7 +18,7 @@ ghost use Rattle.purse.specs.declared.log.Entry.TheVariants.{Shift};
 ghost use Rattle.std.specs.Prelude.{◌≡◌, ◌<◌, ◌↔◌, ℤ, List, [], ◌∷◌, All, IfOk, true};
 
 use super::numbers::{Cofactors, coefficients, multiplied, opposite, times, with_name};
-use super::parts::{all_but, divisor, first};
+use super::parts::divisor;
 use clause_set::{Clause, Literal};
 use linear_term::Term;
 use purse::{Purse, StepFault};
@@ -120,22 +119,19 @@ fn all_shifted(
     Ok(out)
 }
 
-/// The rule at the divisibility l, with the other literals of the clause.
-#[tactic(auto, using(purse::proofs::Charging::charging, crate::proofs::Steps::divisors))]
+/// The rule at the divisibility l behind its charge, with the other literals of the clause.
+#[tactic(auto, using(purse::proofs::Charging::working, crate::proofs::Steps::divisors))]
 fn shift_by(
     alloc: Global,
-    c: &Clause,
     x: u32,
     rest: &[Literal],
     z: &Cofactors,
     l: &Literal,
-    purse: &mut Purse,
 ) -> Result<Items<Clause>, StepFault>
     requires cofactor { IsDivisor z.now.g }
     requires divisors { All HasDivisor rest.now }
-    ensures { Charged (shift_by_work x c.now rest.now (divisor_of l.now) (bezout_of z.now) (term_of l.now)) purse.old result purse.new }
+    ensures { Worked (shifted_beside x rest.now (bezout_of z.now) l.now) result }
 {
-    purse.step(whole_charge(alloc, c)?)?;
     let shifted = all_shifted(alloc, x, z, l, rest)?;
     let t = l.term().without(x)?;
     let mut literals = alone(alloc, Literal::Div(z.g, t))?;
@@ -152,40 +148,40 @@ fn own_coefficients(x: u32, l: &Literal) -> Cofactors
     coefficients(l.term().coef(x), divisor(l))
 }
 
-/// What the rule of the only divisibility leaves, at i.
-pub fn shift_clauses(
+/// The rule of the only divisibility, at i, on a clause that is handed over.
+#[tactic(auto, using(purse::proofs::Charging::charging))]
+fn shift_performed(
     alloc: Global,
-    c: &Clause,
+    c: Clause,
     x: u32,
     i: usize,
     purse: &mut Purse,
 ) -> Result<Items<Clause>, StepFault>
-    requires { applies x c.now (Shift i) ≡ true }
-    ensures { Charged (rule x c.now (Shift i)) purse.old result purse.new }
+    requires { applies x c (Shift i) ≡ true }
+    ensures { Charged (rule x c (Shift i)) purse.old result purse.new }
 {
-    c.know_clause();
-    let l = c.get(i);
-    let z = own_coefficients(x, l);
-    let rest = all_but(alloc, c.literals(), i)?;
-    shift_by(alloc, c, x, rest.as_slice(), &z, l, purse)
+    purse.step(whole_charge(alloc, &c)?)?;
+    let mut rest = c.into_literals();
+    let l = rest.remove(i);
+    let z = own_coefficients(x, &l);
+    shift_by(alloc, x, rest.as_slice(), &z, &l)
 }
 
-/// The rule of the divisibility at i: the clause without it, where x counts its solutions, which is true exactly where
-/// c is for some integer x. None where that is found to be false.
+/// The rule of the only divisibility, at i, on a clause that is handed over: what it leaves is without the divisibility, x
+/// counts its solutions, and it is true exactly where the clause is for some integer x.
 #[tactic(auto, using(purse::proofs::Charging::charging))]
-pub fn shift_div(
+pub fn shift_rule(
     alloc: Global,
-    c: &Clause,
+    c: Clause,
     x: u32,
     i: usize,
     purse: &mut Purse,
-) -> Result<Option<Clause>, StepFault>
-    requires { applies x c.now (Shift i) ≡ true }
-    ensures work { Charged (with_first (rule x c.now (Shift i))) purse.old result purse.new }
-    ensures exact { IfOk result (λ r. (e : List ℤ) → IsMet (c.now ∷ []) x e ↔ IsMet (found r) x e) }
-    ensures nearer { IfOk result (λ r. All (λ d. measure x d < measure x c.now) (found r)) }
+) -> Result<Items<Clause>, StepFault>
+    requires { applies x c (Shift i) ≡ true }
+    ensures work { Charged (rule x c (Shift i)) purse.old result purse.new }
+    ensures exact { IfOk result (λ ds. (e : List ℤ) → IsMet (c ∷ []) x e ↔ IsMet ds x e) }
+    ensures nearer { IfOk result (λ ds. All (λ d. measure x d < measure x c) ds) }
 {
     c.know_clause();
-    let clauses = shift_clauses(alloc, c, x, i, purse)?;
-    Ok(first(clauses))
+    shift_performed(alloc, c, x, i, purse)
 }

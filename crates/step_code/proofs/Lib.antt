@@ -1,3 +1,4 @@
 pub mod Works
 pub mod Mentioning
 pub mod Putting
+pub mod Marking

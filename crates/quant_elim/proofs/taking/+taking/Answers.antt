@@ -1,32 +1,44 @@
-use Rattle.std.proofs.Common.{◌^◌, ap, arith}
+use Rattle.std.proofs.Common.{◌^◌, None, Some, Err, refl, sym, ◌∙◌, ap, arith}
+use Rattle.std.specs.Option.{option_map}
 use Rattle.purse.specs.Work.{marks_of}
 use Rattle.elim_laws.specs.Elimination.{taken_out}
 use Rattle.purse.proofs.Charging.{after_note, remains_all, remains_next, remains_ends, then_err, no_memory}
-use Rattle.quant_elim.proofs.ByRule.{row_fault, row_none, row_some, row_nearer, row_memory, noted}
+use Rattle.quant_elim.specs.First.{entry_of}
+use Rattle.quant_elim.proofs.ByRule.{row_ok, row_err, row_without, row_fault, row_none, row_some, row_nearer, row_memory, noted}
 use Rattle.quant_elim.proofs.Budgets.{below_budget}
 use Rattle.quant_elim.proofs.Turning.{farthest-last, farthest-front, reverse-last, turned_back, near_turned}
 use Rattle.quant_elim.proofs.taking.+taking.Goals as goal
 
-pub take_out-returns-in_err-first_row : goal.take_out-returns-in_err-first_row
-take_out-returns-in_err-first_row t c = row_fault c.args.x c.args.c _ c.from_residual.result c.in_err-first_row.ensures c.from_residual.ensures.1
+pub take_out-returns-in-None : goal.take_out-returns-in-None
+take_out-returns-in-None t c =
+    let none = sym c.first_choice.ensures ∙ ap (option_map (entry_of c.args.x c.args.c)) c.in-None.is in
+    row_none c.args.x c.args.c _ None c.staying.result (row_without c.args.x c.args.c none) refl c.staying.ensures
+
+pub take_out-returns-in_err-entry-in-Some : goal.take_out-returns-in_err-entry-in-Some
+take_out-returns-in_err-entry-in-Some t c =
+    let first = sym c.first_choice.ensures ∙ ap (option_map (entry_of c.args.x c.args.c)) c.in-Some.is in
+    row_fault c.args.x c.args.c _ c.from_residual.result (row_err c.args.x c.args.c _ (Err c.in_err-entry-in-Some.field-0.0) first refl c.in_err-entry-in-Some.ensures) c.from_residual.ensures.1
 
 pub take_out-returns-in_err-push-in-Some : goal.take_out-returns-in_err-push-in-Some
 take_out-returns-in_err-push-in-Some t c =
-    row_memory c.args.x c.args.c _ _ c.in_ok-first_row.field-0 c.in-Some.entry c.in-Some.results c.from_residual-in_err-push-in-Some.result c.in_ok-first_row.ensures c.in-Some.is
+    let first = sym c.first_choice.ensures ∙ ap (option_map (entry_of c.args.x c.args.c)) c.in-Some.is in
+    let did = row_ok c.args.x c.args.c _ (c.in_ok-entry-in-Some.entry, c.in_ok-entry-in-Some.results) first c.in_ok-entry-in-Some.ensures in
+    row_memory c.args.x c.args.c _ _ (Some (c.in_ok-entry-in-Some.entry, c.in_ok-entry-in-Some.results)) c.in_ok-entry-in-Some.entry c.in_ok-entry-in-Some.results c.from_residual-in_err-push-in-Some.result did refl
     (ap (λ es. marks_of (record { entries = es })) c.in_err-push-in-Some.ensures.err) c.from_residual-in_err-push-in-Some.ensures.1
 
 pub take_out-take_out_all-requires : goal.take_out-take_out_all-requires
 take_out-take_out_all-requires t c =
-    let lt = row_nearer c.args.x c.args.c c.in_ok-first_row.field-0 c.in-Some.entry c.in-Some.results c.in_ok-first_row.ensures c.in-Some.is in
-    (omega (arith, lt), below_budget (2 ^ 32) c.in_ok-first_row.ensures c.requires)
-
-pub take_out-returns-in-None : goal.take_out-returns-in-None
-take_out-returns-in-None t c = row_none c.args.x c.args.c _ c.in_ok-first_row.field-0 c.staying.result c.in_ok-first_row.ensures c.in-None.is c.staying.ensures
+    let first = sym c.first_choice.ensures ∙ ap (option_map (entry_of c.args.x c.args.c)) c.in-Some.is in
+    let did = row_ok c.args.x c.args.c _ (c.in_ok-entry-in-Some.entry, c.in_ok-entry-in-Some.results) first c.in_ok-entry-in-Some.ensures in
+    let lt = row_nearer c.args.x c.args.c (Some (c.in_ok-entry-in-Some.entry, c.in_ok-entry-in-Some.results)) c.in_ok-entry-in-Some.entry c.in_ok-entry-in-Some.results did refl in
+    (omega (arith, lt), below_budget (2 ^ 32) did c.requires)
 
 pub take_out-returns-in_ok-push-in-Some : goal.take_out-returns-in_ok-push-in-Some
 take_out-returns-in_ok-push-in-Some t c =
-    row_some c.args.x c.args.c _ c.in_ok-first_row.field-0 c.in-Some.entry c.in-Some.results c.take_out_all.result c.in_ok-first_row.ensures c.in-Some.is
-    (after_note _ _ (rw (← noted c.args.log.now c.push.new.self c.in-Some.entry c.in_ok-push-in-Some.ensures.ok) c.take_out_all.ensures))
+    let first = sym c.first_choice.ensures ∙ ap (option_map (entry_of c.args.x c.args.c)) c.in-Some.is in
+    let did = row_ok c.args.x c.args.c _ (c.in_ok-entry-in-Some.entry, c.in_ok-entry-in-Some.results) first c.in_ok-entry-in-Some.ensures in
+    row_some c.args.x c.args.c _ (Some (c.in_ok-entry-in-Some.entry, c.in_ok-entry-in-Some.results)) c.in_ok-entry-in-Some.entry c.in_ok-entry-in-Some.results c.take_out_all.result did refl
+    (after_note _ _ (rw (← noted c.args.log.now c.push.new.self c.in_ok-entry-in-Some.entry c.in_ok-push-in-Some.ensures.ok) c.take_out_all.ensures))
 
 pub take_out_all-take_out-requires : goal.take_out_all-take_out-requires
 take_out_all-take_out-requires t c =

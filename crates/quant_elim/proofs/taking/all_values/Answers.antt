@@ -10,5 +10,5 @@ returns-in_err-some c = then_ok (negation c.args.d.now) _ (unnoted _ c.in_ok-fai
 pub returns : goal.returns
 returns c = then_ok (negation c.args.d.now) _ (unnoted _ c.in_ok-fails.ensures.charged) (then_ok _ negation c.in_ok-some.ensures (unnoted _ c.not-2.ensures.charged))
 
-pub name_out-requires : goal.name_out-requires
-name_out-requires c = below_budget (2 ^ 32) c.in_ok-fails.ensures.charged c.requires
+pub take_name_out-requires : goal.take_name_out-requires
+take_name_out-requires c = below_budget (2 ^ 32) c.in_ok-fails.ensures.charged c.requires

@@ -74,8 +74,8 @@ every_value-returns-in_err-fails t c =
     every_ok c.args.names (form c.args.body.now) _ c.in_ok-negation.negation (c.in_ok-step.ensures (size (form c.args.body.now)) c.size.ensures) c.in_ok-negation.ensures
     (then_err (eliminating (c.args.names + 1) (form c.in_ok-negation.negation)) _ c.from_residual-in_err-fails.result c.from_residual-in_err-fails.ensures.1 c.in_err-fails.ensures)
 
-pub every_value-name_out-requires : goal.every_value-name_out-requires
-every_value-name_out-requires t c = below_budget (2 ^ 32) c.in_ok-fails.ensures (below_budget (2 ^ 32) (c.in_ok-step.ensures (size (form c.args.body.now)) c.size.ensures) c.requires.budget)
+pub every_value-take_name_out-requires : goal.every_value-take_name_out-requires
+every_value-take_name_out-requires t c = below_budget (2 ^ 32) c.in_ok-fails.ensures (below_budget (2 ^ 32) (c.in_ok-step.ensures (size (form c.args.body.now)) c.size.ensures) c.requires.budget)
 
 pub every_value-returns-in_err-some : goal.every_value-returns-in_err-some
 every_value-returns-in_err-some t c =
@@ -90,8 +90,8 @@ every_value-returns t c =
 pub some_value-returns-in_err-d : goal.some_value-returns-in_err-d
 some_value-returns-in_err-d t c = some_err c.args.names (form c.args.body.now) c.from_residual.result c.from_residual.ensures.1 c.in_err-d.ensures
 
-pub some_value-name_out-requires : goal.some_value-name_out-requires
-some_value-name_out-requires t c = below_budget (2 ^ 32) c.in_ok-d.ensures c.requires.budget
+pub some_value-take_name_out-requires : goal.some_value-take_name_out-requires
+some_value-take_name_out-requires t c = below_budget (2 ^ 32) c.in_ok-d.ensures c.requires.budget
 
 pub some_value-returns : goal.some_value-returns
-some_value-returns t c = some_ok c.args.names (form c.args.body.now) c.in_ok-d.ensures c.name_out.ensures
+some_value-returns t c = some_ok c.args.names (form c.args.body.now) c.in_ok-d.ensures c.take_name_out.ensures

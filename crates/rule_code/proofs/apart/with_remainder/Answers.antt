@@ -8,7 +8,7 @@ use Rattle.rule_code.proofs.apart.with_remainder.Goals as goal
 pub returns-in_err-s : goal.returns-in_err-s
 returns-in_err-s c =
     let p : to_z w128 c.args.r ≡ pos c.args.r = to_z_pos w128 c.args.r c.requires.remainder in
-    remainder_failed c.args.i c.args.c.now _ _ c.term.result.now c.number.result c.args.r c.in_err-s.field-0.0 c.from_residual.result c.term.ensures (rw p at c.number.ensures) c.in_err-s.ensures
+    remainder_failed c.args.rest c.args.l.now c.term.result.now c.number.result c.args.r c.in_err-s.field-0.0 c.from_residual.result c.term.ensures (rw p at c.number.ensures) c.in_err-s.ensures
     c.from_residual.ensures.1
 
 pub in_form_with-requires-clause-divisors : goal.in_form_with-requires-clause-divisors
@@ -20,5 +20,5 @@ pub returns : goal.returns
 returns c =
     let d : SFits w128 c.divisor.result = search rules in
     let p : to_z w128 c.args.r ≡ pos c.args.r = to_z_pos w128 c.args.r c.requires.remainder in
-    remainder_done c.args.i c.args.c.now c.in_ok-rest.rest c.in_ok-new.new _ c.divisor.result _ c.term.result.now c.number.result c.in_ok-s.s c.args.r c.in_ok-in_form_with.field-0 c.requires.within c.term.ensures
-    (rw p at c.number.ensures) c.in_ok-s.ensures c.in_ok-rest.ensures c.divisor.ensures (simp to_z-of_z at c.in_ok-new.ensures) c.in_ok-in_form_with.ensures
+    remainder_done c.args.rest c.in_ok-new.new c.args.l.now c.divisor.result c.term.result.now c.number.result c.in_ok-s.s c.args.r c.in_ok-in_form_with.field-0 c.term.ensures
+    (rw p at c.number.ensures) c.in_ok-s.ensures c.divisor.ensures (simp to_z-of_z at c.in_ok-new.ensures) c.in_ok-in_form_with.ensures

@@ -1,5 +1,5 @@
 use Rattle.std.proofs.Common.{subst}
-use Rattle.purse.proofs.Charging.{then_ok, free}
+use Rattle.purse.proofs.Charging.{work_ok}
 use Rattle.purse.specs.Work.{Worked}
 use Rattle.clause_set.specs.Divisibilities.{merged_by}
 use Rattle.clause_set.specs.Literals.{term_of}
@@ -8,7 +8,6 @@ use Rattle.rule_code.proofs.merge.merged.Goals as goal
 
 pub returns : goal.returns
 returns c =
-    then_ok _ _ (c.in_ok-step.ensures _ c.in_ok-whole_charge.ensures)
-    (then_ok _ _ (free _ c.in_ok-z.ensures.stays)
-    (free _ (subst (λ z. Worked (merged_by c.args.x c.args.rest z (divisor_of c.args.l.now) (term_of c.args.l.now) (divisor_of c.args.m.now) (term_of c.args.m.now)) c.merged_by.result)
-    c.in_ok-z.ensures.exact c.merged_by.ensures)))
+    work_ok _ _ c.in_ok-z.ensures.stays
+    (subst (λ z. Worked (merged_by c.args.x c.args.rest z (divisor_of c.args.l.now) (term_of c.args.l.now) (divisor_of c.args.m.now) (term_of c.args.m.now)) c.merged_by.result)
+    c.in_ok-z.ensures.exact c.merged_by.ensures)

@@ -2,7 +2,7 @@ use Rattle.std.proofs.Common.{rules, to_z-of_z}
 use mir.Syntax.{w128}
 use mir.Val.{SFits}
 use Rattle.clause_set.specs.Literals.{term_of}
-use Rattle.purse.proofs.Charging.{then_ok, then_just, free}
+use Rattle.purse.proofs.Charging.{work_ok, work_just}
 use Rattle.rule_code.proofs.Merging.{without_at}
 use Rattle.rule_code.proofs.Shifting.{shift_formed}
 use Rattle.rule_code.proofs.shift.shift_by.Goals as goal
@@ -10,8 +10,7 @@ use Rattle.rule_code.proofs.shift.shift_by.Goals as goal
 pub returns : goal.returns
 returns c =
     let g : SFits w128 c.args.z.now.g = search rules in
-    then_ok _ _ (c.in_ok-step.ensures _ c.in_ok-whole_charge.ensures)
-    (then_ok _ _ (free _ c.in_ok-shifted.ensures.work)
-    (then_just _ _
+    work_ok _ _ c.in_ok-shifted.ensures.work
+    (work_just _ _
     (shift_formed c.args.x c.args.z.now.g (term_of c.args.l.now) c.in_ok-t.t c.in_ok-literals.literals c.in_ok-shifted.shifted c.append.new.self c.in_ok-in_form.field-0
-    (without_at c.args.x c.args.l.now c.term.result.now c.in_ok-t.t c.in_ok-t.ensures c.term.ensures) (simp to_z-of_z at c.in_ok-literals.ensures) c.in_ok-append.ensures c.in_ok-in_form.ensures)))
+    (without_at c.args.x c.args.l.now c.term.result.now c.in_ok-t.t c.in_ok-t.ensures c.term.ensures) (simp to_z-of_z at c.in_ok-literals.ensures) c.in_ok-append.ensures c.in_ok-in_form.ensures))

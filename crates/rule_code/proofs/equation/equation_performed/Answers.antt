@@ -1,0 +1,26 @@
+use Rattle.std.proofs.Common.{◌<◌, length, sym, subst, ◌∙◌}
+use Rattle.clause_set.specs.Clause.{IsClause}
+use Rattle.rule_code.proofs.Calls.{got_same, rest_divisors}
+use Rattle.rule_code.proofs.AtEquation.{equation_below, equation_coefficient, equation_refused, equation_work}
+use Rattle.rule_code.proofs.equation.equation_performed.Goals as goal
+
+pub returns-in_err-step : goal.returns-in_err-step
+returns-in_err-step c = equation_refused c.args.x c.args.i c.args.c c.from_residual-in_err-step.result c.requires c.from_residual-in_err-step.ensures.1 (c.in_err-step.ensures _ c.in_ok-whole_charge.ensures)
+
+pub remove-l-requires : goal.remove-l-requires
+remove-l-requires c = subst (λ z. c.args.i < length z) (sym c.into_literals-rest.ensures.exact) (equation_below c.args.x c.args.i c.args.c c.requires)
+
+pub by_literal-requires-clause-not_zero : goal.by_literal-requires-clause-not_zero
+by_literal-requires-clause-not_zero c =
+    equation_coefficient c.args.x c.args.i c.args.c c.remove-l.result (subst IsClause c.into_literals-rest.ensures.exact c.into_literals-rest.ensures.clause).literals c.requires
+    (got_same c.args.i c.args.c _ c.remove-l.result c.into_literals-rest.ensures.exact c.remove-l.ensures.item)
+
+pub by_literal-requires-clause-divisors : goal.by_literal-requires-clause-divisors
+by_literal-requires-clause-divisors c =
+    rest_divisors c.args.i c.args.c _ c.as_slice.result.now (subst IsClause c.into_literals-rest.ensures.exact c.into_literals-rest.ensures.clause).divisors c.into_literals-rest.ensures.exact
+    (c.as_slice.ensures ∙ c.remove-l.ensures.rest)
+
+pub returns : goal.returns
+returns c =
+    equation_work c.args.x c.args.i c.args.c _ c.as_slice.result.now c.remove-l.result c.by_literal.result c.into_literals-rest.ensures.exact c.remove-l.ensures.item (c.as_slice.ensures ∙ c.remove-l.ensures.rest)
+    (c.in_ok-step.ensures _ c.in_ok-whole_charge.ensures) c.by_literal.ensures

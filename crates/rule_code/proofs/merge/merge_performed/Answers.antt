@@ -1,0 +1,37 @@
+use Rattle.std.proofs.Common.{subst}
+use Rattle.clause_set.specs.Clause.{IsClause}
+use Rattle.equation_laws.proofs.Applying.{merge_applies}
+use Rattle.rule_code.proofs.AtDivisibilities.{congruence_at, second_below, first_left, both_taken, two_normalized, merge_refused, merge_work}
+use Rattle.rule_code.proofs.merge.merge_performed.Goals as goal
+
+pub returns-in_err-step : goal.returns-in_err-step
+returns-in_err-step c = merge_refused c.args.x c.args.i c.args.j c.args.c c.from_residual-in_err-step.result c.requires c.from_residual-in_err-step.ensures.1 (c.in_err-step.ensures _ c.in_ok-whole_charge.ensures)
+
+pub remove-m-requires : goal.remove-m-requires
+remove-m-requires c = second_below c.args.x c.args.i c.args.j c.args.c c.into_literals-rest.result c.requires c.into_literals-rest.ensures.exact
+
+pub remove-l-requires : goal.remove-l-requires
+remove-l-requires c = first_left c.args.x c.args.i c.args.j c.args.c _ _ c.requires c.into_literals-rest.ensures.exact c.remove-m.ensures.rest
+
+pub merged-requires-clause-first : goal.merged-requires-clause-first
+merged-requires-clause-first c =
+    let both = both_taken c.args.x c.args.i c.args.j c.args.c _ _ _ c.remove-l.result c.remove-m.result c.requires c.into_literals-rest.ensures.exact c.remove-m.ensures.item c.remove-m.ensures.rest c.remove-l.ensures.item
+    c.remove-l.ensures.rest in
+    congruence_at c.args.x c.args.i c.args.c c.remove-l.result (subst IsClause c.into_literals-rest.ensures.exact c.into_literals-rest.ensures.clause)
+    (merge_applies c.args.x c.args.i c.args.j c.args.c c.requires).first both.first
+
+pub merged-requires-clause-second : goal.merged-requires-clause-second
+merged-requires-clause-second c =
+    let both = both_taken c.args.x c.args.i c.args.j c.args.c _ _ _ c.remove-l.result c.remove-m.result c.requires c.into_literals-rest.ensures.exact c.remove-m.ensures.item c.remove-m.ensures.rest c.remove-l.ensures.item
+    c.remove-l.ensures.rest in
+    congruence_at c.args.x c.args.j c.args.c c.remove-m.result (subst IsClause c.into_literals-rest.ensures.exact c.into_literals-rest.ensures.clause)
+    (merge_applies c.args.x c.args.i c.args.j c.args.c c.requires).second both.second
+
+pub merged-requires-clause-normalized : goal.merged-requires-clause-normalized
+merged-requires-clause-normalized c = two_normalized c.args.i c.args.j c.into_literals-rest.result _ _ c.into_literals-rest.ensures.clause c.remove-m.ensures.rest c.remove-l.ensures.rest
+
+pub returns : goal.returns
+returns c =
+    let both = both_taken c.args.x c.args.i c.args.j c.args.c _ _ _ c.remove-l.result c.remove-m.result c.requires c.into_literals-rest.ensures.exact c.remove-m.ensures.item c.remove-m.ensures.rest c.remove-l.ensures.item
+    c.remove-l.ensures.rest in
+    merge_work c.args.x c.args.i c.args.j c.args.c _ c.remove-l.result c.remove-m.result c.merged.result c.requires both (c.in_ok-step.ensures _ c.in_ok-whole_charge.ensures) c.merged.ensures
