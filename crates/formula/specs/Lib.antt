@@ -1,3 +1,4 @@
+pub mod formers
 pub mod Duals
 pub mod Form
 pub mod Reduced

@@ -1,7 +1,8 @@
 // The formulas of the calculus. Contracts see them as the trees of `specs/Form.antt`, on which truth is defined.
 
+use crate::shared::Shared;
 use linear_term::Term;
-use sqlite_items::{Boxed, Items};
+use sqlite_items::Items;
 
 /// A formula in negation normal form over linear terms, predicates and the graphs of functions (Rümmer, A constraint
 /// sequent calculus for first-order logic with linear integer arithmetic, 2008). A name is a number; in a formula over n
@@ -24,6 +25,6 @@ pub enum Core {
     And(Items<Core>),
     /// Some member is true; none is there in the formula `false`.
     Or(Items<Core>),
-    Forall(Boxed<Core>),
-    Exists(Boxed<Core>),
+    Forall(Shared<Core>),
+    Exists(Shared<Core>),
 }

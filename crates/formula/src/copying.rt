@@ -4,7 +4,7 @@ ghost use Rattle.std.specs.Prelude.{◌≡◌, [], IfOk};
 
 use crate::calculus::Core;
 use linear_term::{Memory, Term};
-use sqlite_items::{Boxed, Items};
+use sqlite_items::Items;
 use std::alloc::Global;
 
 /// No items yet, and room for so many.
@@ -15,7 +15,7 @@ pub(crate) fn room_for<T>(alloc: Global, count: usize) -> Result<Items<T>, Memor
 }
 
 impl Core {
-    /// The same formula once more.
+    /// The same formula once more, with the body of a quantifier in common.
     #[cycle(copy)]
     pub fn copy(&self, alloc: Global) -> Result<Core, Memory>
         ensures { IfOk result (λ f. f ≡ self.now) }
@@ -33,8 +33,8 @@ impl Core {
             )),
             Core::And(fs) => Ok(Core::And(copy_all(alloc, fs.as_slice())?)),
             Core::Or(fs) => Ok(Core::Or(copy_all(alloc, fs.as_slice())?)),
-            Core::Forall(f) => Ok(Core::Forall(Boxed::new(alloc, f.get().copy(alloc)?)?)),
-            Core::Exists(f) => Ok(Core::Exists(Boxed::new(alloc, f.get().copy(alloc)?)?)),
+            Core::Forall(f) => Ok(Core::Forall(f.share()?)),
+            Core::Exists(f) => Ok(Core::Exists(f.share()?)),
         }
     }
 }

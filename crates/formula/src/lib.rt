@@ -9,6 +9,7 @@ mod measures;
 mod negation;
 mod purity;
 mod reduced;
+mod shared;
 mod shifting;
 
 pub use calculus::Core;
@@ -16,5 +17,6 @@ pub use laws::{depth_law, dual_law, purity_law, shift_law, size_law, stability_l
 pub use measures::{depth, size};
 pub use negation::dual;
 pub use purity::is_pure;
+pub use shared::Shared;
 pub use shifting::shift;
 pub use typed_formula::{Relation, Table, TruthRow, Typed, TypedTerm, ValueRow, World};

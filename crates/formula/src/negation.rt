@@ -10,8 +10,9 @@ ghost use Rattle.formula.specs.Tree.{form, forms_of};
 
 use crate::calculus::Core;
 use crate::copying::copy_terms;
+use crate::shared::Shared;
 use linear_term::{Memory, Term, TermFault};
-use sqlite_items::{Boxed, Items};
+use sqlite_items::Items;
 use std::alloc::Global;
 
 /// The negation of a formula without predicates and functions, in negation normal form: an equation and its negation,
@@ -34,8 +35,8 @@ pub fn dual(alloc: Global, f: &Core) -> Result<Core, TermFault>
         )),
         Core::And(fs) => Ok(Core::Or(dual_all(alloc, fs.as_slice())?)),
         Core::Or(fs) => Ok(Core::And(dual_all(alloc, fs.as_slice())?)),
-        Core::Forall(g) => Ok(Core::Exists(Boxed::new(alloc, dual(alloc, g.get())?)?)),
-        Core::Exists(g) => Ok(Core::Forall(Boxed::new(alloc, dual(alloc, g.get())?)?)),
+        Core::Forall(g) => Ok(Core::Exists(Shared::new(alloc, dual(alloc, g.get())?)?)),
+        Core::Exists(g) => Ok(Core::Forall(Shared::new(alloc, dual(alloc, g.get())?)?)),
     }
 }
 

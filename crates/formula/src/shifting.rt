@@ -8,9 +8,10 @@ ghost use Rattle.formula.specs.Tree.{form, forms_of};
 
 use crate::calculus::Core;
 use crate::copying::room_for;
+use crate::shared::Shared;
 use linear_term::{Memory, Term};
 use smallvec::SmallVec;
-use sqlite_items::{Boxed, Items};
+use sqlite_items::Items;
 use std::alloc::Global;
 
 /// The pair with its name raised, if it is from `from` on.
@@ -79,11 +80,11 @@ fn shift_by(alloc: Global, f: &Core, from: u32, by: u32) -> Result<Core, Memory>
         }
         Core::And(fs) => Ok(Core::And(shift_all(alloc, fs.as_slice(), from, by)?)),
         Core::Or(fs) => Ok(Core::Or(shift_all(alloc, fs.as_slice(), from, by)?)),
-        Core::Forall(g) => Ok(Core::Forall(Boxed::new(
+        Core::Forall(g) => Ok(Core::Forall(Shared::new(
             alloc,
             shift_by(alloc, g.get(), from, by)?,
         )?)),
-        Core::Exists(g) => Ok(Core::Exists(Boxed::new(
+        Core::Exists(g) => Ok(Core::Exists(Shared::new(
             alloc,
             shift_by(alloc, g.get(), from, by)?,
         )?)),

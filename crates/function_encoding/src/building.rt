@@ -6,9 +6,9 @@ ghost use Rattle.formula.specs.Form.{differs, fails, holds};
 ghost use Rattle.formula.specs.Tree.{form, forms_of};
 ghost use Rattle.encoding.specs.Encoding as encoding;
 
-use formula::Core;
+use formula::{Core, Shared};
 use linear_term::{Memory, Term};
-use sqlite_items::{Boxed, Items};
+use sqlite_items::Items;
 use std::alloc::Global;
 
 /// The conjunction with plus, the disjunction with minus.
@@ -26,7 +26,7 @@ pub fn junction(plus: bool, members: Items<Core>) -> Core
 pub fn quantified(alloc: Global, plus: bool, body: Core) -> Result<Core, Memory>
     ensures { IfOk result (λ f. form f ≡ encoding.quantified plus (form body)) }
 {
-    let body = Boxed::new(alloc, body)?;
+    let body = Shared::new(alloc, body)?;
     if plus {
         return Ok(Core::Forall(body));
     }

@@ -4,11 +4,11 @@ ghost use Rattle.formula.specs.Sizes.{depth};
 ghost use Rattle.formula.specs.Tree.{form};
 ghost use Rattle.std.specs.Prelude.{◌+◌, ◌≤◌, ◌^◌};
 
-use formula::{Core, depth};
+use formula::{Core, Shared, depth};
 use linear_term::Term;
 use purse::{ElimFault, Purse, StepFault};
 use quant_elim::eliminate;
-use sqlite_items::{Boxed, Items};
+use sqlite_items::Items;
 use std::alloc::Global;
 
 /// least ≤ k·x + l·y ≤ most: the name x, k, the name y, l, least and most.
@@ -83,7 +83,7 @@ fn inequalities(alloc: Global, rows: &[Between], most: u16) -> Result<Items<Core
 fn formula(alloc: Global, rows: &[Between], names: u16) -> Result<Core, StepFault> {
     let mut out = Core::And(inequalities(alloc, rows, names)?);
     for _ in 0..names {
-        out = Core::Exists(Boxed::new(alloc, out)?);
+        out = Core::Exists(Shared::new(alloc, out)?);
     }
     Ok(out)
 }

@@ -6,9 +6,9 @@ ghost use Rattle.line_rows.specs.Asked.{asked_constants, asked_form};
 ghost use Rattle.linear_term.specs.Linear.{name};
 ghost use Rattle.std.specs.Prelude.{◌≡◌, ◌∷◌, [], IfOk};
 
-use formula::Core;
+use formula::{Core, Shared};
 use linear_term::{Memory, Term};
-use sqlite_items::{Boxed, Items};
+use sqlite_items::Items;
 use std::alloc::Global;
 
 /// A formula that a proof is asked of.
@@ -50,5 +50,5 @@ fn somewhere(alloc: Global) -> Result<Core, Memory>
     terms.push(Term::name(alloc, 0))?;
     let mut members = Items::new(alloc);
     members.push(Core::Pred(0, terms))?;
-    Ok(Core::Exists(Boxed::new(alloc, Core::Or(members))?))
+    Ok(Core::Exists(Shared::new(alloc, Core::Or(members))?))
 }
