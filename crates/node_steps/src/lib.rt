@@ -6,7 +6,6 @@ mod premises;
 mod principal;
 mod reading;
 
-pub use fee::closing_fee;
 pub use premises::{conjoined, first};
 pub use principal::principal_fee;
 pub use reading::leaf_fee;

@@ -1,4 +1,5 @@
-// The charge of a leaf that is read where its members lie.
+// The charge of a leaf, which is read where its members lie. It is paid before the numbers of its closing formula are computed,
+// so the size of that is read off the members.
 
 ghost use Rattle.formula.specs.Tree.{form};
 ghost use Rattle.node_steps.specs.Pairing as pairing;

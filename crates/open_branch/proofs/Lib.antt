@@ -4,4 +4,3 @@ pub mod Passing
 pub mod Picks
 pub mod Places
 pub mod Undoing
-pub mod Turning

@@ -10,8 +10,7 @@ use crate::principal::Principal;
 use backlist::BackList;
 use formula::{Core, is_pure};
 use linear_term::Memory;
-use sequent::{Member, Sequent, width_of};
-use sqlite_items::Items;
+use sequent::{Member, width_of};
 use std::alloc::Global;
 
 /// The sequent of the node where a search stands: its members in a list that goes back, and how many constants there are.
@@ -44,24 +43,6 @@ impl Branch {
         ensures { result ≡ length (premises_from self.now principal.now) }
     {
         width_of(self.list.get(principal.at), self.count)
-    }
-
-    /// The members once more, as a sequent.
-    pub fn copied(&self, alloc: Global) -> Result<Sequent, Memory>
-        ensures { IfOk result (λ s. s ≡ held self.now) }
-    {
-        let mut members = Items::new(alloc);
-        let mut at = self.list.first();
-        for i in 0..self.list.len() {
-            if let Some(p) = at {
-                members.push(self.list.get(p).copy(alloc)?)?;
-                at = self.list.next(p);
-            }
-        }
-        Ok(Sequent {
-            members,
-            count: self.count,
-        })
     }
 
     /// The members, read where they lie.

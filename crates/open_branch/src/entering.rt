@@ -6,7 +6,7 @@ ghost use Rattle.open_branch.specs.Passed.{IsPassed};
 ghost use Rattle.open_branch.specs.Standing.{IsPrincipal, LeadsBack, held, members_in, premises_from, standing, undone};
 ghost use Rattle.open_branch.specs.declared.branch.Branch as declared;
 ghost use Rattle.open_branch.specs.declared.choosing.Passed.{Passed};
-ghost use Rattle.sequent.specs.Views.{HasRoom};
+ghost use Rattle.sequent.specs.Views.{HasRoom, added_members};
 ghost use Rattle.std.specs.List.{slice_get};
 ghost use Rattle.std.specs.Prelude.{◌≡◌, ◌+◌, ◌++◌, ◌<◌, ◌≤◌, IfOk, List, OnOk, Some, length, reverse, ℕ};
 
@@ -14,7 +14,7 @@ use crate::branch::Branch;
 use crate::principal::Principal;
 use backlist::BackList;
 use linear_term::Memory;
-use sequent::{Member, Sequent, branch, count_after};
+use sequent::{Added, Member, Sequent, branch, count_after};
 use sqlite_items::Items;
 use std::alloc::Global;
 
@@ -27,27 +27,10 @@ pub struct Entered {
     pub(crate) count: u32,
 }
 
-/// Two members, the last one first.
-fn swapped(members: Items<Member>) -> Result<Items<Member>, Memory>
-    requires { length members ≡ 2 }
-    ensures { IfOk result (λ ms. ms ≡ reverse members) }
-{
-    let mut turned = members;
-    let first = turned.remove(0);
-    turned.push(first)?;
-    Ok(turned)
-}
-
-/// The members, the last one first. Up to two of them, as most rules add, take no further memory.
+/// The members, the last one first.
 fn turned_round(alloc: Global, members: Items<Member>) -> Result<Items<Member>, Memory>
     ensures { IfOk result (λ ms. ms ≡ reverse members) }
 {
-    if members.len() < 2 {
-        return Ok(members);
-    }
-    if members.len() == 2 {
-        return swapped(members);
-    }
     let mut left = members;
     let mut out = Items::new(alloc);
     while let Some(m) = left.pop() {
@@ -84,6 +67,24 @@ fn push_all(
     Ok(())
 }
 
+/// The new members of a premise move to the end of the list, in order.
+fn push_new(alloc: Global, list: &mut BackList<Member>, new: Added) -> Result<(), Memory>
+    ensures behind { OnOk result ((more : List (Place × Member)) × (list.new.present ≡ list.old.present ++ more)) }
+    ensures members { OnOk result (members_in list.new.present ≡ members_in list.old.present ++ added_members new) }
+    ensures changes { OnOk result (length (added_members new) ≤ length list.new.earlier) }
+    ensures back { OnOk result (undone (length (added_members new)) list.new ≡ list.old) }
+{
+    match new {
+        Added::One(m) => push(list, m)?,
+        Added::Two(first, second) => {
+            push(list, first)?;
+            push(list, second)?;
+        }
+        Added::Many(members) => push_all(alloc, list, members)?,
+    }
+    Ok(())
+}
+
 impl Branch {
     /// The branch at a sequent.
     pub fn at(alloc: Global, s: Sequent) -> Result<Branch, Memory>
@@ -113,7 +114,7 @@ impl Branch {
         };
         self.count = count_after(&member.formula, self.count);
         self.list.unlink(principal.at);
-        push_all(alloc, &mut self.list, new)?;
+        push_new(alloc, &mut self.list, new)?;
         Ok(entered)
     }
 

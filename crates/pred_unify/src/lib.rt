@@ -8,4 +8,4 @@ mod pairing;
 
 pub use laws::{closing_law, leaf_law, pure_law};
 pub use leaf::Leaf;
-pub use pairing::{closing, closing_at};
+pub use pairing::closing_at;

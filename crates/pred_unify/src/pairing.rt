@@ -13,7 +13,7 @@ ghost use Rattle.purse.specs.Trace.{each};
 use super::leaf::Leaf;
 use formula::{Core, is_pure, shift};
 use linear_term::{Memory, Term, TermFault};
-use sequent::{Member, Sequent};
+use sequent::Member;
 use sqlite_items::Items;
 use std::alloc::Global;
 
@@ -116,11 +116,15 @@ fn meets(p: u32, ss: &[Term], g: &Core) -> bool
     }
 }
 
-/// More pairs behind those in out: mostly none.
+/// More formulas behind those in out. Mostly there are none, or they are the first and take the place of the list.
 fn put(out: &mut Items<Core>, more: Items<Core>) -> Result<(), Memory>
     ensures { OnOk result (out.new ≡ out.old ++ more) }
 {
     if more.is_empty() {
+        return Ok(());
+    }
+    if out.is_empty() {
+        *out = more;
         return Ok(());
     }
     out.append(more)?;
@@ -285,7 +289,7 @@ fn pures(alloc: Global, members: &[&Member], count: u32) -> Result<Items<Core>, 
     Ok(out)
 }
 
-/// One of the pure members or of the pairs, read where the members lie.
+/// The closing formula of a leaf: one of the pure members or of the pairs.
 pub fn closing_at(alloc: Global, leaf: &Leaf) -> Result<Core, TermFault>
     requires room { HasRoom (sequent_at leaf.now) }
     requires kinds { HasKinds leaf.now }
@@ -293,15 +297,6 @@ pub fn closing_at(alloc: Global, leaf: &Leaf) -> Result<Core, TermFault>
 {
     let ps = pairs_at(alloc, leaf)?;
     let mut all = pures(alloc, leaf.members.as_slice(), leaf.count)?;
-    all.append(ps)?;
+    put(&mut all, ps)?;
     Ok(Core::Or(all))
-}
-
-/// One of the pure members or of the pairs.
-pub fn closing(alloc: Global, s: &Sequent) -> Result<Core, TermFault>
-    requires { HasRoom s.now }
-    ensures { Made form (pair.closing_of (sequent_of s.now)) result }
-{
-    let leaf = Leaf::of_sequent(alloc, s)?;
-    closing_at(alloc, &leaf)
 }

@@ -15,3 +15,4 @@ pub mod Rounding
 pub mod Solving
 pub mod Telling
 pub mod Totals
+pub mod Trues

@@ -7,3 +7,4 @@ pub mod Course
 pub mod Walking
 pub mod Rounds
 pub mod Outcomes
+pub mod Trues

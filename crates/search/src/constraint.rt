@@ -10,19 +10,21 @@ ghost use Rattle.pred_unify.specs.Pairs.{closing_of};
 ghost use Rattle.pred_unify.specs.Reading.{HasKinds, sequent_at};
 ghost use Rattle.proof_tree.specs.Rules.{conjoined, first_given};
 ghost use Rattle.purse.specs.Followed.{Followed};
-ghost use Rattle.purse.specs.Trace.{Funds, just, next};
+ghost use Rattle.purse.specs.Trace.{Funds, just, next, pay};
 ghost use Rattle.purse.specs.Work.{Charged, Logged};
 ghost use Rattle.search.specs.Building.{canonical_constraint};
 ghost use Rattle.search.specs.Course.{noted};
+ghost use Rattle.search.specs.Trues.{are_top};
 ghost use Rattle.search.specs.Walking.{making, unlogged, without_log};
 ghost use Rattle.sequent.specs.Views.{HasRoom, sequent_of};
 ghost use Rattle.sequent.specs.declared.member.Pick.TheVariants as pick;
-ghost use Rattle.std.specs.Prelude.{◌≡◌, ◌+◌, ◌<◌, ◌≤◌, ◌^◌, [], IfOk, List};
+ghost use Rattle.std.specs.Prelude.{◌≡◌, ◌+◌, ◌<◌, ◌≤◌, ◌^◌, [], IfOk, List, true};
 
+use super::constraints::Constraints;
 use super::course::Course;
 use clause_set::Dnf;
 use linear_term::{Memory, TermFault};
-use node_steps::{conjoined, first};
+use node_steps::conjoined;
 use open_branch::{Branch, Principal};
 use pred_unify::{Leaf, closing_at};
 use purse::{ElimFault, ElimLog, Purse, StepFault};
@@ -85,10 +87,36 @@ fn free(alloc: Global, outcome: Result<Dnf, Memory>) -> Result<(Dnf, ElimLog), E
     }
 }
 
+/// The charges of the conjunction of a true constraint and another one.
+#[tactic(auto, using(purse::proofs::Charging::logging))]
+fn pay_for_true(purse: &mut Purse) -> Result<(), StepFault>
+    ensures { Charged (next (pay 1) (λ _. pay 1)) purse.old result purse.new }
+{
+    purse.step(1)?;
+    purse.step(1)
+}
+
+/// The conjunction of constraints that are all true: the first of them, for the charges of all.
+fn all_true(alloc: Global, ds: Constraints, purse: &mut Purse) -> Result<Dnf, StepFault>
+    requires all { are_top ds ≡ true }
+    requires first { first_given ds ≡ top }
+    ensures { Charged (conjoined ds top) purse.old result purse.new }
+{
+    let all = ds.as_slice();
+    for d in all {
+        pay_for_true(purse)?;
+    }
+    Ok(ds.into_first(alloc))
+}
+
 /// The constraint of beta: that of each premise.
-fn beta(alloc: Global, ds: Items<Dnf>, purse: &mut Purse) -> Result<(Dnf, ElimLog), ElimFault>
+fn beta(alloc: Global, ds: Constraints, purse: &mut Purse) -> Result<(Dnf, ElimLog), ElimFault>
     ensures { Logged (conjoined ds top) purse.old result purse.new }
 {
+    if ds.are_true() {
+        let all = all_true(alloc, ds, purse);
+        return unlogged(alloc, all);
+    }
     let all = conjoined(alloc, ds.as_slice(), purse);
     unlogged(alloc, all)
 }
@@ -97,27 +125,42 @@ fn beta(alloc: Global, ds: Items<Dnf>, purse: &mut Purse) -> Result<(Dnf, ElimLo
 fn delta(
     alloc: Global,
     count: u32,
-    ds: Items<Dnf>,
+    ds: Constraints,
     purse: &mut Purse,
 ) -> Result<(Dnf, ElimLog), ElimFault>
     requires room { count + 1 < 2 ^ 32 }
     requires budget { purse.old.budget < 2 ^ 32 }
     ensures { Logged (for_all_name count (first_given ds)) purse.old result purse.new }
 {
-    forall_last(alloc, &first(alloc, ds), count + 1, purse)
+    forall_last(alloc, &ds.into_first(alloc), count + 1, purse)
+}
+
+/// Some value of a constraint without clauses: none again, for the step of tidying it.
+#[tactic(auto, using(purse::proofs::Charging::logging))]
+fn nothing(d: Dnf, purse: &mut Purse) -> Result<Dnf, StepFault>
+    requires { d ≡ [] }
+    ensures { Charged (next (pay 0) (λ _. just [])) purse.old result purse.new }
+{
+    purse.step(0)?;
+    Ok(d)
 }
 
 /// The constraint of gamma: that of the premise, for some value of the new constant, which comes after so many.
 fn gamma(
     alloc: Global,
     count: u32,
-    ds: Items<Dnf>,
+    ds: Constraints,
     purse: &mut Purse,
 ) -> Result<(Dnf, ElimLog), ElimFault>
     requires budget { purse.old.budget < 2 ^ 32 }
     ensures { Logged (exists_name count (first_given ds)) purse.old result purse.new }
 {
-    quant_elim::exists_name(alloc, &first(alloc, ds), count, purse)
+    let d = ds.into_first(alloc);
+    if d.clauses().is_empty() {
+        let none = nothing(d, purse);
+        return unlogged(alloc, none);
+    }
+    quant_elim::exists_name(alloc, &d, count, purse)
 }
 
 /// The constraint of the rule with this principal, made of those of its premises.
@@ -125,7 +168,7 @@ fn constraint(
     alloc: Global,
     branch: &Branch,
     principal: &Principal,
-    ds: Items<Dnf>,
+    ds: Constraints,
     purse: &mut Purse,
 ) -> Result<(Dnf, ElimLog), ElimFault>
     requires room { (standing branch.now).count + 1 < 2 ^ 32 }
@@ -134,7 +177,7 @@ fn constraint(
 {
     match principal.shape {
         Shape::Trivial => free(alloc, Dnf::top(alloc)),
-        Shape::Alpha => unlogged(alloc, Ok(first(alloc, ds))),
+        Shape::Alpha => unlogged(alloc, Ok(ds.into_first(alloc))),
         Shape::Delta => delta(alloc, branch.count(), ds, purse),
         Shape::Beta => beta(alloc, ds, purse),
         Shape::Gamma => gamma(alloc, branch.count(), ds, purse),
@@ -146,7 +189,7 @@ pub fn made(
     alloc: Global,
     branch: &Branch,
     principal: &Principal,
-    ds: Items<Dnf>,
+    ds: Constraints,
     course: &mut Course,
     purse: &mut Purse,
 ) -> Result<(Dnf, ElimLog), StepFault>

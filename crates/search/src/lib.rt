@@ -4,6 +4,7 @@
 #![tactic(auto)]
 
 mod constraint;
+mod constraints;
 mod course;
 mod finishing;
 mod judge;

@@ -13,6 +13,7 @@ ghost use Rattle.sequent.specs.Sequent as q;
 ghost use Rattle.sequent.specs.declared.member.Pick.TheVariants as pick;
 ghost use Rattle.std.specs.Prelude.{◌≡◌, ◌+◌, ◌++◌, ◌<◌, ◌≤◌, ◌^◌, ◌||◌, ◌∷◌, Option, OnOk, [], false, ℕ};
 
+use super::constraints::Constraints;
 use super::course::Course;
 use super::finishing::{finish, finish_closed};
 use clause_set::Dnf;
@@ -46,7 +47,7 @@ pub struct Built {
 #[derive(Drop)]
 pub struct Children {
     pub nodes: Items<Node>,
-    pub constraints: Items<Dnf>,
+    pub constraints: Constraints,
     pub has_open: bool,
 }
 
@@ -57,7 +58,7 @@ impl Children {
     {
         Children {
             nodes: Items::new(alloc),
-            constraints: Items::new(alloc),
+            constraints: Constraints::new(alloc),
             has_open: false,
         }
     }

@@ -22,11 +22,11 @@ below_at b i [] f at h = absurd (cc)
 below_at b zero (g ∷ fs) f at h = let same : g ≡ f = cc in subst (λ (x : Core). IsBelow b (form x)) same h.0
 below_at b (suc i) (g ∷ fs) f at h = below_at b i fs f at h.1
 
-pub beta_at : (over n i : ℕ) (fs : List Core) (f : Core) (ms : List Member) → slice_get fs i ≡ Some f → members_of ms ≡ q.member (brought over n (form f)) n 0 ∷ []
-    → slice_get (one_each (new_members over n (forms_of fs))) i ≡ Some (members_of ms)
-beta_at over n i [] f ms at is = absurd (cc)
-beta_at over n zero (g ∷ fs) f ms at is = let same : g ≡ f = cc in ap (λ x. Some (q.member (brought over n (form x)) n 0 ∷ [])) same ∙ ap Some (sym is)
-beta_at over n (suc i) (g ∷ fs) f ms at is = beta_at over n i fs f ms at is
+pub beta_at : (over n i : ℕ) (fs : List Core) (f : Core) (m : Member) → slice_get fs i ≡ Some f → member_of m ≡ q.member (brought over n (form f)) n 0
+    → slice_get (one_each (new_members over n (forms_of fs))) i ≡ Some (member_of m ∷ [])
+beta_at over n i [] f m at is = absurd (cc)
+beta_at over n zero (g ∷ fs) f m at is = let same : g ≡ f = cc in ap (λ x. Some (q.member (brought over n (form x)) n 0 ∷ [])) same ∙ ap (λ x. Some (x ∷ [])) (sym is)
+beta_at over n (suc i) (g ∷ fs) f m at is = beta_at over n i fs f m at is
 
 pub length-each : (over n : ℕ) (fs : List Core) → length (one_each (new_members over n (forms_of fs))) ≡ length fs
 length-each over n [] = refl

@@ -9,8 +9,9 @@ ghost use Rattle.sequent.specs.Rules.{new_members, brought};
 ghost use Rattle.sequent.specs.Sequent as q;
 ghost use Rattle.formula.specs.Shifts.{IsBelow, AreBelow};
 ghost use Rattle.formula.specs.Tree.{form, forms_of};
-ghost use Rattle.sequent.specs.Views.{member_of, members_of};
+ghost use Rattle.sequent.specs.Views.{added_members, member_of, members_of};
 
+use crate::added::Added;
 use crate::member::Member;
 use formula::{Core, shift};
 use linear_term::Memory;
@@ -30,14 +31,9 @@ pub fn new_member(alloc: Global, f: &Core, over: u32, count: u32) -> Result<Memb
     })
 }
 
-/// The members of a disjunction as new members.
+/// The formulas as new members in a list.
 #[tactic(auto, using(crate::proofs::Stepping::new_step))]
-pub fn alpha(
-    alloc: Global,
-    formulas: &[Core],
-    over: u32,
-    count: u32,
-) -> Result<Items<Member>, Memory>
+fn many(alloc: Global, formulas: &[Core], over: u32, count: u32) -> Result<Items<Member>, Memory>
     requires over { over ≤ count }
     requires below { AreBelow (2 ^ 32 - (count - over)) (forms_of formulas.now) }
     ensures { IfOk result (λ ms. members_of ms ≡ new_members over count (forms_of formulas.now)) }
@@ -47,4 +43,21 @@ pub fn alpha(
         out.push(new_member(alloc, f, over, count)?)?;
     }
     Ok(out)
+}
+
+/// The members of a disjunction as new members.
+pub fn alpha(alloc: Global, formulas: &[Core], over: u32, count: u32) -> Result<Added, Memory>
+    requires over { over ≤ count }
+    requires below { AreBelow (2 ^ 32 - (count - over)) (forms_of formulas.now) }
+    ensures { IfOk result (λ ms. members_of (added_members ms) ≡ new_members over count (forms_of formulas.now)) }
+{
+    match formulas {
+        [f] => Ok(Added::One(new_member(alloc, f, over, count)?)),
+        [f, g] => {
+            let first = new_member(alloc, f, over, count)?;
+            let second = new_member(alloc, g, over, count)?;
+            Ok(Added::Two(first, second))
+        }
+        _ => Ok(Added::Many(many(alloc, formulas, over, count)?)),
+    }
 }

@@ -9,13 +9,13 @@ ghost use Rattle.std.specs.List.{slice_get};
 ghost use Rattle.sequent.specs.Rules.{new_members, one_each};
 ghost use Rattle.formula.specs.Shifts.{AreBelow};
 ghost use Rattle.formula.specs.Tree.{forms_of};
-ghost use Rattle.sequent.specs.Views.{members_of};
+ghost use Rattle.sequent.specs.Views.{added_members, members_of};
 
+use crate::added::Added;
 use crate::alpha::new_member;
-use crate::member::Member;
 use formula::Core;
 use linear_term::Memory;
-use sqlite_items::{Items, at};
+use sqlite_items::at;
 use std::alloc::Global;
 
 /// Member number i of a conjunction, alone.
@@ -26,17 +26,13 @@ pub fn beta(
     i: u32,
     over: u32,
     count: u32,
-) -> Result<Items<Member>, Memory>
+) -> Result<Added, Memory>
     requires over { over ≤ count }
     requires below { AreBelow (2 ^ 32 - (count - over)) (forms_of formulas.now) }
-    ensures { IfOk result (λ ms. slice_get (one_each (new_members over count (forms_of formulas.now))) i ≡ Some (members_of ms)) }
+    ensures { IfOk result (λ ms. slice_get (one_each (new_members over count (forms_of formulas.now))) i ≡ Some (members_of (added_members ms))) }
 {
     match at(formulas, i as usize) {
-        Some(f) => {
-            let mut out = Items::new(alloc);
-            out.push(new_member(alloc, f, over, count)?)?;
-            Ok(out)
-        }
+        Some(f) => Ok(Added::One(new_member(alloc, f, over, count)?)),
         None => Err(Memory),
     }
 }

@@ -9,8 +9,9 @@ ghost use Rattle.std.specs.List.{slice_get};
 ghost use Rattle.sequent.specs.Rules as calculus;
 ghost use Rattle.formula.specs.Shifts.{IsBelow};
 ghost use Rattle.formula.specs.Tree.{form};
-ghost use Rattle.sequent.specs.Views.{members_of};
+ghost use Rattle.sequent.specs.Views.{added_members, members_of};
 
+use crate::added::Added;
 use crate::alpha::alpha;
 use crate::beta::beta;
 use crate::delta::delta;
@@ -18,23 +19,22 @@ use crate::gamma::gamma;
 use crate::member::Member;
 use formula::Core;
 use linear_term::Memory;
-use sqlite_items::Items;
 use std::alloc::Global;
 
 /// The new members of premise number i.
 #[tactic(auto, using(crate::proofs::Stepping::branched))]
-pub fn branch(alloc: Global, m: &Member, count: u32, i: u32) -> Result<Items<Member>, Memory>
+pub fn branch(alloc: Global, m: &Member, count: u32, i: u32) -> Result<Added, Memory>
     requires over { m.now.over ≤ count }
     requires room { count + 1 < 2 ^ 32 }
     requires used { m.now.used + 1 < 2 ^ 32 }
     requires below { IsBelow (2 ^ 32 - (count - m.now.over)) (form m.now.formula) }
     requires within { i < length (calculus.branches count m.now.over m.now.used (form m.now.formula)) }
-    ensures { IfOk result (λ ms. slice_get (calculus.branches count m.now.over m.now.used (form m.now.formula)) i ≡ Some (members_of ms)) }
+    ensures { IfOk result (λ ms. slice_get (calculus.branches count m.now.over m.now.used (form m.now.formula)) i ≡ Some (members_of (added_members ms))) }
 {
     match &m.formula {
         Core::And(fs) => beta(alloc, fs.as_slice(), i, m.over, count),
         Core::Or(fs) => alpha(alloc, fs.as_slice(), m.over, count),
-        Core::Forall(f) => delta(alloc, f.get(), m.over, count),
+        Core::Forall(f) => Ok(Added::One(delta(alloc, f.get(), m.over, count)?)),
         Core::Exists(f) => gamma(alloc, m, f.get(), count),
         Core::Eq(_) => Err(Memory),
         Core::Neq(_) => Err(Memory),

@@ -10,28 +10,28 @@ ghost use Rattle.sequent.specs.Rules.{brought};
 ghost use Rattle.sequent.specs.Sequent as q;
 ghost use Rattle.formula.specs.Shifts.{IsBelow};
 ghost use Rattle.formula.specs.Tree.{form};
-ghost use Rattle.sequent.specs.Views.{members_of};
+ghost use Rattle.sequent.specs.Views.{added_members, members_of};
 
+use crate::added::Added;
 use crate::delta::delta;
 use crate::member::Member;
 use formula::Core;
 use linear_term::Memory;
-use sqlite_items::Items;
 use std::alloc::Global;
 
 /// The body, and behind it the principal, used once more.
-pub fn gamma(alloc: Global, m: &Member, body: &Core, count: u32) -> Result<Items<Member>, Memory>
+pub fn gamma(alloc: Global, m: &Member, body: &Core, count: u32) -> Result<Added, Memory>
     requires over { m.now.over ≤ count }
     requires below { IsBelow (2 ^ 32 - (count - m.now.over)) (form body.now) }
     requires room { count + 1 < 2 ^ 32 }
     requires used { m.now.used + 1 < 2 ^ 32 }
-    ensures { IfOk result (λ ms. members_of ms ≡ q.member (brought m.now.over count (form body.now)) (suc count) 0 ∷ q.member (form m.now.formula) m.now.over (suc m.now.used) ∷ []) }
+    ensures { IfOk result (λ ms. members_of (added_members ms) ≡ q.member (brought m.now.over count (form body.now)) (suc count) 0 ∷ q.member (form m.now.formula) m.now.over (suc m.now.used) ∷ []) }
 {
-    let mut out = delta(alloc, body, m.over, count)?;
-    out.push(Member {
+    let new = delta(alloc, body, m.over, count)?;
+    let again = Member {
         formula: m.formula.copy(alloc)?,
         over: m.over,
         used: m.used + 1,
-    })?;
-    Ok(out)
+    };
+    Ok(Added::Two(new, again))
 }

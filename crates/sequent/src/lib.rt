@@ -3,6 +3,7 @@
 // in a file of its own, and which rule comes first. A constraint is spoken of by what it says of integers.
 #![tactic(auto)]
 
+mod added;
 mod alpha;
 mod beta;
 mod branches;
@@ -14,6 +15,7 @@ mod picking;
 mod premises;
 mod starting;
 
+pub use added::Added;
 pub use branches::{branch, count_after, width_of};
 pub use laws::{covers_law, first_law, formed_law, last_law, pick_law, room_law, tight_law};
 pub use member::{Member, Pick, Sequent, Shape};

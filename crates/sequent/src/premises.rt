@@ -6,6 +6,7 @@ ghost use Rattle.sequent.specs.Rules as calculus;
 ghost use Rattle.formula.specs.Tree.{form};
 ghost use Rattle.sequent.specs.Views.{member_of, members_of, sequent_of, HasRoom};
 
+use crate::added::append;
 use crate::branches::{branch, count_after, width_of};
 use crate::member::{Member, Pick, Sequent};
 use linear_term::Memory;
@@ -69,7 +70,7 @@ pub fn premise(alloc: Global, s: &Sequent, p: Pick, i: u32) -> Result<Sequent, M
             Some(m) => {
                 let new = branch(alloc, m, s.count, i)?;
                 let mut members = others(alloc, s.members.as_slice(), at as usize)?;
-                members.append(new)?;
+                append(&mut members, new)?;
                 Ok(Sequent {
                     members,
                     count: count_after(&m.formula, s.count),

@@ -13,10 +13,10 @@ returns-in_err-ps c = made_err (map form) form _ _ _ c.from_residual.ensures.1 c
 pub returns-in_err-all : goal.returns-in_err-all
 returns-in_err-all c = made_memory form _ c.from_residual-in_err-all.ensures.1
 
-pub returns-in_err-append : goal.returns-in_err-append
-returns-in_err-append c = made_memory form _ c.from_residual-in_err-append.ensures.1
+pub returns-in_err-put : goal.returns-in_err-put
+returns-in_err-put c = made_memory form _ c.from_residual-in_err-put.ensures.1
 
 pub returns : goal.returns
 returns c =
     made_ok (map form) form _ _ c.in_ok-ps.ensures
-    (made_just form _ _ (closing_is _ _ _ _ c.in_ok-append.ensures (c.in_ok-all.ensures ∙ ap (λ rs. pures c.args.leaf.now.count (members_of (behind rs))) c.as_slice.ensures.value)))
+    (made_just form _ _ (closing_is _ _ _ _ c.in_ok-put.ensures (c.in_ok-all.ensures ∙ ap (λ rs. pures c.args.leaf.now.count (members_of (behind rs))) c.as_slice.ensures.value)))

@@ -1,9 +1,0 @@
-use Rattle.std.proofs.Common.{◌≡◌, ◌+◌, ◌<◌, ◌^◌, drop}
-use Rattle.purse.specs.Trace.{capped}
-use Rattle.sequent.specs.Views.{members_of}
-use Rattle.node_steps.specs.Pairing as pairing
-use Rattle.node_steps.specs.Pairing.{sum_of}
-use Rattle.node_steps.proofs.fee.function_sizes.Given as goal
-
-abbrev pub invariant-loop-m : goal.invariant-loop-m
-invariant-loop-m l = (l.sum < 2 ^ 64) × (capped (l.sum + sum_of (λ m. pairing.function_pair_size l.f l.ss m.formula) (members_of (drop l.m-index l.members))) ≡ capped (sum_of (λ m. pairing.function_pair_size l.f l.ss m.formula) (members_of l.members)))

@@ -1,9 +1,0 @@
-use Rattle.std.proofs.Common.{◌≡◌, ◌+◌, ◌<◌, ◌^◌, drop}
-use Rattle.purse.specs.Trace.{capped}
-use Rattle.sequent.specs.Views.{members_of}
-use Rattle.node_steps.specs.Pairing as pairing
-use Rattle.node_steps.specs.Pairing.{sum_of}
-use Rattle.node_steps.proofs.fee.later_values_size.Given as goal
-
-abbrev pub invariant-loop-i : goal.invariant-loop-i
-invariant-loop-i l = (l.sum < 2 ^ 64) × (capped (l.sum + pairing.function_pairs_size (members_of (drop l.i l.members))) ≡ capped (pairing.function_pairs_size (members_of l.members)))
