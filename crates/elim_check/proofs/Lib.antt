@@ -7,4 +7,5 @@ pub mod Members
 pub mod Naming
 pub mod Replaying
 pub mod Telling
+pub mod Turning
 pub mod Unfolded

@@ -1,5 +1,5 @@
 -- The replay of a log: its loop, and its calls joined.
-use Rattle.std.proofs.Common.{◌≡◌, ◌≢◌, ◌<◌, ◌≤◌, ◌+◌, ℕ, zero, suc, Bool, true, false, cond, List, [], ◌∷◌, ◌++◌, length, map, take, drop, remove, slice_get, get_or, Option, Some, None, Result, Ok, Err, IsErrAnd, arith, refl, sym, ◌∙◌, ap, subst}
+use Rattle.std.proofs.Common.{◌≡◌, ◌≢◌, ◌<◌, ◌≤◌, ◌+◌, ℕ, zero, suc, Bool, true, false, cond, List, [], ◌∷◌, ◌++◌, length, map, take, drop, get_or, Option, Some, None, Result, Ok, Err, IsErrAnd, arith, refl, sym, ◌∙◌, ap, subst}
 use Rattle.std.proofs.lemmas.Bool.{cond-true}
 use Rattle.std.proofs.lemmas.List.{take_more, map-append}
 use Rattle.std.specs.List.{list_any}
@@ -24,6 +24,9 @@ use Rattle.elim_check.proofs.Chained.{Reads}
 pub passed_stop : (x : ℕ) (cs out : List (List Literal)) → is_turn x cs ≡ true → passed x cs out ≡ just (cs, out)
 passed_stop x [] out h = refl
 passed_stop x (c ∷ cs) out h = cond-true _ _ _ h
+
+pub passed_on : (x : ℕ) (todo cs out : List (List Literal)) (c : List Literal) → todo ≡ c ∷ cs → list_any (has x) c ≡ false → passed x todo out ≡ next (pay 1) (λ _. passed x cs (out ++ c ∷ []))
+passed_on x todo cs out c first without = ap (λ z. passed x z out) first ∙ ap (λ z. cond z (just (c ∷ cs, out)) (next (pay 1) (λ _. passed x cs (out ++ c ∷ [])))) without
 
 -- what comes where the clauses before the turn are passed
 abbrev pub then_turn : List Entry → (List Literal → List (List Literal) → List (List Literal) → Traced (Option (Rest (List (List Literal)))))
@@ -63,14 +66,13 @@ turned x e ls (c ∷ cs) out h = by (applies x c e)
     by true = sym (next-assoc (rule x c e) (λ rs. just (Some (rs ++ cs))) (after_turn x e ls out) ∙ next-same (rule x c e) _ _ (next-just (Some ((rule x c e).value ++ cs)) (after_turn x e ls out)))
     by false = sym (next-just None (after_turn x e ls out))
 
--- an entry does not apply, or its rule is performed
-first_is : (todo : List (List Literal)) (c : List Literal) → slice_get todo 0 ≡ Some c → todo ≡ c ∷ remove todo 0
-first_is [] c is = absurd cc
-first_is (d ∷ cs) c is = let one : d ≡ c = cc in ap (λ z. z ∷ cs) one
+pub turn_none : (x : ℕ) (e : Entry) (todo : List (List Literal)) {a : At} → todo ≡ [] → ChargedAt (turn x e todo) a (Ok None) a
+turn_none x e todo {a} none = subst (λ z. ChargedAt (turn x e z) a (Ok None) a) (sym none) (then_just None None refl)
 
-module _ (x : ℕ) (e : Entry) (todo : List (List Literal)) (c : List Literal) (first : slice_get todo 0 ≡ Some c) where
-  turn_is : (b : Bool) → applies x c e ≡ b → turn x e todo ≡ cond b (next (rule x c e) (λ rs. just (Some (rs ++ remove todo 0)))) (just None)
-  turn_is b is = ap (turn x e) (first_is todo c first) ∙ ap (λ z. cond z (next (rule x c e) (λ rs. just (Some (rs ++ remove todo 0)))) (just None)) is
+-- an entry does not apply, or its rule is performed
+module _ (x : ℕ) (e : Entry) (todo cs : List (List Literal)) (c : List Literal) (first : todo ≡ c ∷ cs) where
+  turn_is : (b : Bool) → applies x c e ≡ b → turn x e todo ≡ cond b (next (rule x c e) (λ rs. just (Some (rs ++ cs)))) (just None)
+  turn_is b is = ap (turn x e) first ∙ ap (λ z. cond z (next (rule x c e) (λ rs. just (Some (rs ++ cs)))) (just None)) is
 
   pub turn_refused : {a : At} → applies x c e ≡ false → ChargedAt (turn x e todo) a (Ok None) a
   turn_refused {a} is = subst (λ w. ChargedAt w a (Ok None) a) (sym (turn_is false is)) (then_just None None refl)
@@ -89,10 +91,10 @@ module _ (x : ℕ) (e : Entry) (todo : List (List Literal)) (c : List Literal) (
       subst (λ y. ChargedAt (turn x e todo) (at f []) (outcome (Err y)) (at g [])) (sym wrong)
       (subst (λ w. ChargedAt w (at f []) (Err Memory) (at g [])) (sym (turn_is true is)) (then_ok (rule x c e) _ did (no_memory (Err Memory) refl)))
 
-  pub turn_done : {f g : Funds} {rs all : List (List Literal)} → applies x c e ≡ true → Charged (rule x c e) f (Ok rs) g → all ≡ rs ++ remove todo 0
+  pub turn_done : {f g : Funds} {rs all : List (List Literal)} → applies x c e ≡ true → Charged (rule x c e) f (Ok rs) g → all ≡ rs ++ cs
       → ChargedAt (turn x e todo) (at f []) (Ok (Some all)) (at g [])
   turn_done {f} {g} {rs} {all} is did same =
-      subst (λ w. ChargedAt w (at f []) (Ok (Some all)) (at g [])) (sym (turn_is true is)) (then_ok (rule x c e) _ did (then_just (Some (rs ++ remove todo 0)) (Some all) (ap Some same)))
+      subst (λ w. ChargedAt w (at f []) (Ok (Some all)) (at g [])) (sym (turn_is true is)) (then_ok (rule x c e) _ did (then_just (Some (rs ++ cs)) (Some all) (ap Some same)))
 
 -- ---- the loop
 -- what is left of a replay

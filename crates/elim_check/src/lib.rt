@@ -10,6 +10,7 @@ mod laws;
 mod names;
 mod performing;
 mod replay;
+mod todo;
 
 pub use checks::{check_all, check_exists, check_forall, check_log};
 pub use fault::LogFault;

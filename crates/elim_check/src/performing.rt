@@ -8,8 +8,7 @@ ghost use Rattle.std.specs.Prelude.{◌≡◌, true};
 use clause_set::Clause;
 use purse::{Entry, Purse, StepFault};
 use rule_code::{
-    Side, dark, equation_clauses, exact, free_ndiv, literals_on, merge_clauses, one_sided,
-    shift_clauses,
+    Side, apart_rule, dark, equation_rule, exact, literals_on, merge_rule, one_sided, shift_rule,
 };
 use sqlite_items::Items;
 use std::alloc::Global;
@@ -45,25 +44,25 @@ fn by_dark_shadow(
     dark(alloc, c, x, lows.as_slice(), ups.as_slice(), purse)
 }
 
-/// What the rule of the entry leaves of c, to which it applies.
+/// What the rule of the entry leaves of c, to which it applies. The literals that it leaves as they are are moved.
 #[tactic(auto, using(crate::proofs::Entries::entries))]
 pub(crate) fn perform(
     alloc: Global,
-    c: &Clause,
+    c: Clause,
     x: u32,
     entry: Entry,
     purse: &mut Purse,
 ) -> Result<Items<Clause>, StepFault>
-    requires { applies x c.now entry ≡ true }
-    ensures { Charged (rule x c.now entry) purse.old result purse.new }
+    requires { applies x c entry ≡ true }
+    ensures { Charged (rule x c entry) purse.old result purse.new }
 {
     match entry {
-        Entry::Equation(i) => equation_clauses(alloc, c, x, i as usize, purse),
-        Entry::Apart(i) => free_ndiv(alloc, c, x, i as usize, purse),
-        Entry::Merge(i, j) => merge_clauses(alloc, c, x, i as usize, j as usize, purse),
-        Entry::Shift(i) => shift_clauses(alloc, c, x, i as usize, purse),
-        Entry::OneSided => one_sided(alloc, c, x, purse),
-        Entry::Exact => by_exact_shadow(alloc, c, x, purse),
-        Entry::Dark => by_dark_shadow(alloc, c, x, purse),
+        Entry::Equation(i) => equation_rule(alloc, c, x, i as usize, purse),
+        Entry::Apart(i) => apart_rule(alloc, c, x, i as usize, purse),
+        Entry::Merge(i, j) => merge_rule(alloc, c, x, i as usize, j as usize, purse),
+        Entry::Shift(i) => shift_rule(alloc, c, x, i as usize, purse),
+        Entry::OneSided => one_sided(alloc, &c, x, purse),
+        Entry::Exact => by_exact_shadow(alloc, &c, x, purse),
+        Entry::Dark => by_dark_shadow(alloc, &c, x, purse),
     }
 }

@@ -43,6 +43,11 @@ left_memory n s p es d ds (Ok o) same h = absurd h
 left_memory n s p es d ds {Behind} {a} {b} {from} {to} (Err e) same h =
     subst (λ (z : Funds). HasLeft n s p es d ds Behind a from (Err e) z to) (sym same) (let r : Result (Option (List (List Literal))) StepFault = Err e in record { work = follow_memory r h; behind = tt })
 
+-- the same of a sequent that is equal
+pub left_same : (n : ℕ) (p : Pick) (es : List Entry) (d : List (List Literal)) (ds : List (List (List Literal))) {s t : Sequent} {Behind : Type 0} {a b : Funds} {from to : Course} {r : Result (Option (List (List Literal))) StepFault}
+    → s ≡ t → HasLeft n s p es d ds Behind a from r b to → HasLeft n t p es d ds Behind a from r b to
+left_same n p es d ds {Behind = Behind} {a} {b} {from} {to} {r} same left = subst (λ (z : Sequent). HasLeft n z p es d ds Behind a from r b to) same left
+
 pub left_cut : (n : ℕ) (s : Sequent) (p : Pick) (es : List Entry) (d : List (List Literal)) (ds : List (List (List Literal))) {Behind : Type 0} {a b : Funds} {from to : Course} {e : StepFault} (r : Result (Option (List (List Literal))) StepFault)
     → to.hand ≡ at_node from.hand (back n) → Followed at_node (redone s p ds es) a to.hand (Err e) b to.hand → IsErrAnd r (λ x. x ≡ e) → HasLeft n s p es d ds Behind a from r b to
 left_cut n s p es d ds r hand work is = record { work = follow_note (back n) (λ _. next (redone s p ds es) (on_some (confirmed d))) hand (follow_err (redone s p ds es) (on_some (confirmed d)) r is work); behind = if_err _ _ r is }

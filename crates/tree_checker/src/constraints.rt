@@ -4,6 +4,7 @@ ghost use Rattle.clause_set.specs.Dnfs.{top};
 ghost use Rattle.formula.specs.Sizes.{depth};
 ghost use Rattle.elim_laws.specs.Logs.{by_whole_log, name_by_log, reads_none, every_by_log};
 ghost use Rattle.pred_unify.specs.Pairs.{closing_of};
+ghost use Rattle.pred_unify.specs.Reading.{HasKinds, sequent_at};
 ghost use Rattle.open_branch.specs.Standing.{rule_at, standing};
 ghost use Rattle.proof_tree.specs.Rules.{conjoined, first_given};
 ghost use Rattle.proof_tree.specs.Walk.{eliminates, redone};
@@ -20,9 +21,9 @@ use clause_set::Dnf;
 use elim_check::{LogFault, check_exists, check_forall, check_log};
 use node_steps::conjoined;
 use open_branch::{Branch, Principal};
-use pred_unify::closing;
+use pred_unify::{Leaf, closing_at};
 use purse::{ElimLog, Purse, StepFault};
-use sequent::{Sequent, Shape};
+use sequent::Shape;
 use sqlite_items::Items;
 use std::alloc::Global;
 
@@ -131,18 +132,19 @@ pub fn redo(
 /// The constraint of a leaf that is closed, made again by a log: its closing formula without quantifiers.
 pub fn redo_leaf(
     alloc: Global,
-    s: &Sequent,
+    leaf: &Leaf,
     log: &ElimLog,
     purse: &mut Purse,
 ) -> Result<Option<Dnf>, StepFault>
-    requires room { HasRoom s.now }
-    requires depth { s.now.count + depth (closing_of (sequent_of s.now)).value ≤ 2 ^ 32 }
+    requires room { HasRoom (sequent_at leaf.now) }
+    requires kinds { HasKinds leaf.now }
+    requires depth { leaf.now.count + depth (closing_of (sequent_of (sequent_at leaf.now))).value ≤ 2 ^ 32 }
     requires funds { purse.old.spent ≤ purse.old.budget }
-    ensures work { (n : ℕ) → Followed at_node (redone (sequent_of s.now) pick.Close [] log.now.entries) purse.old n result purse.new n }
+    ensures work { (n : ℕ) → Followed at_node (redone (sequent_of (sequent_at leaf.now)) pick.Close [] log.now.entries) purse.old n result purse.new n }
     ensures later { Later purse.old purse.new }
 {
-    match closing(alloc, s) {
-        Ok(f) => outcome(check_log(alloc, &f, s.count, log, purse)),
+    match closing_at(alloc, leaf) {
+        Ok(f) => outcome(check_log(alloc, &f, leaf.count, log, purse)),
         Err(fault) => Err(StepFault::from(fault)),
     }
 }

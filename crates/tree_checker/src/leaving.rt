@@ -3,6 +3,7 @@
 ghost use Rattle.clause_set.specs.declared.literal.Literal.{Literal};
 ghost use Rattle.node_steps.specs.Within.{IsWithin};
 ghost use Rattle.open_branch.specs.Standing.{rule_at, standing};
+ghost use Rattle.pred_unify.specs.Reading.{HasKinds, sequent_at};
 ghost use Rattle.proof_tree.specs.Proof as tree;
 ghost use Rattle.proof_tree.specs.Proof.{Proofs};
 ghost use Rattle.proof_tree.specs.Walk as walk;
@@ -27,10 +28,11 @@ use crate::reading::read_last;
 use crate::same::is_same;
 use clause_set::{Dnf, Literal};
 use line_source::ProofLines;
-use node_steps::closing_fee;
+use node_steps::leaf_fee;
 use open_branch::{Branch, Principal};
+use pred_unify::Leaf;
 use purse::{Purse, StepFault};
-use sequent::{Pick, Sequent};
+use sequent::Pick;
 use sqlite_items::Items;
 use std::alloc::Global;
 
@@ -81,26 +83,27 @@ pub fn leave<L: ProofLines>(
     }
 }
 
-/// Leaves a leaf that is closed, with these members.
+/// Leaves a leaf that is closed. Its members are read where they lie.
 fn leave_leaf<L: ProofLines>(
     alloc: Global,
     lines: &mut L,
-    s: &Sequent,
+    leaf: &Leaf,
     number: u64,
     course: &mut Course,
     purse: &mut Purse,
 ) -> Result<Option<Dnf>, StepFault>
-    requires within { (left : ℕ) × IsWithin left (sequent_of s.now) }
+    requires within { (left : ℕ) × IsWithin left (sequent_of (sequent_at leaf.now)) }
+    requires kinds { HasKinds leaf.now }
     requires paid { IsPaid course.old purse.old }
     ensures walk { (es : List Entry) (d : List (List Literal)) (ls : List TextLine) → L.coming lines.old (last_lines pick.Close es d ++ ls)
-        → HasLeft number (sequent_of s.now) pick.Close es d [] (L.coming lines.new ls) purse.old course.old result purse.new course.new }
+        → HasLeft number (sequent_of (sequent_at leaf.now)) pick.Close es d [] (L.coming lines.new ls) purse.old course.old result purse.new course.new }
     ensures nodes { course.new.nodes ≡ course.old.nodes }
     ensures paid { IfGiven result (λ c. IsPaid course.new purse.new) }
 {
     course.back(number);
     match read_last(alloc, lines, Pick::Close)? {
         Some(gives) => {
-            let made = redo_leaf(alloc, s, lines.log(), purse)?;
+            let made = redo_leaf(alloc, leaf, lines.log(), purse)?;
             Ok(confirmed(made, gives.as_slice()))
         }
         None => Ok(None),
@@ -129,7 +132,8 @@ pub fn close<L: ProofLines>(
     if !is_leaf(rule, count) {
         return Ok(None);
     }
-    let s = branch.copied(alloc)?;
-    purse.step(closing_fee(&s))?;
-    leave_leaf(alloc, lines, &s, number, course, purse)
+    let members = branch.members(alloc)?;
+    let leaf = Leaf::of(alloc, members, branch.count())?;
+    purse.step(leaf_fee(&leaf))?;
+    leave_leaf(alloc, lines, &leaf, number, course, purse)
 }
