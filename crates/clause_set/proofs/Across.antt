@@ -1,5 +1,5 @@
 -- Tidying what is tidy: it stays as it is, and of two tidy disjunctions a clause is kept where no clause of the other one outdoes it.
-use Rattle.std.proofs.Common.{◌≡◌, Bool, true, false, not, ◌||◌, List, [], ◌∷◌, ◌++◌, length, arith, ◌⊎◌, inl, inr, refl, sym, ◌∙◌, ap}
+use Rattle.std.proofs.Common.{◌≡◌, Bool, true, false, not, ◌||◌, ◌&&◌, subst, List, [], ◌∷◌, ◌++◌, length, arith, ◌⊎◌, inl, inr, refl, sym, ◌∙◌, ap}
 use Rattle.std.specs.Prelude.{All}
 use Rattle.std.specs.List.{AllByRecursion, list_all, filter}
 use Rattle.std.specs.Cmp.{first_so, second_so}
@@ -12,8 +12,10 @@ use Rattle.clause_set.specs.declared.literal.Literal.{Literal}
 use Rattle.clause_set.specs.Clause.{IsClause, IsDnf}
 use Rattle.clause_set.specs.Order.{clause_cmp, sorted_once}
 use Rattle.clause_set.specs.Clauses.{clause_of, found}
-use Rattle.clause_set.specs.Dnfs.{outdoes, is_covered, uncovered, tidied, joined, joined_with, top}
+use Rattle.clause_set.specs.Dnfs.{covers, outdoes, is_covered, uncovered, tidied, joined, joined_with, top}
 use Rattle.clause_set.specs.Keeping.{kept_by}
+use Rattle.clause_set.specs.declared.literal.Literal.TheVariants.{Eq, Geq, Div, NDiv}
+use Rattle.clause_set.proofs.Canonical.{dnf_of_top}
 use Rattle.clause_set.proofs.Covers.{Among, among_filter, among_filter_back}
 use Rattle.clause_set.proofs.Orders.{clause_cmp-equal, sorted_once-any}
 use Rattle.clause_set.proofs.Sorted.{clause_cmp-total, sorted_once-sorted, sorted-same, all_among}
@@ -80,6 +82,10 @@ test_of test x (y ∷ ys) m =
 -- what no clause of both covers
 covered_of_both : (a b : List (List Literal)) (c : List Literal) → is_covered (sorted_once clause_cmp (a ++ b)) c ≡ (is_covered a c || is_covered b c)
 covered_of_both a b c = sorted_once-any clause_cmp (λ d. outdoes d c) clause_cmp-equal (a ++ b) ∙ list_any-append (λ d. outdoes d c) a b
+
+by_part : {X Y Z : Type 0} → (X → Z) → (Y → Z) → X ⊎ Y → Z
+by_part f g (inl x) = f x
+by_part f g (inr y) = g y
 
 or_false : (a b : Bool) → a ≡ false → b ≡ false → (a || b) ≡ false
 or_false true b h k = absurd (cc)
@@ -163,7 +169,64 @@ pub joined-top_right : (d : List (List Literal)) → AllByRecursion IsClause d �
 joined-top_right [] h = refl
 joined-top_right (c ∷ d) h = ap (λ z. z ++ joined d top) (with_top c h.0) ∙ ap (λ z. c ∷ z) (joined-top_right d h.1)
 
+-- ---- disjunctions with what is true
+and_no : (x : Bool) → (x && false) ≡ false
+and_no true = refl
+and_no false = refl
+
+never_covered : (b : List (List Literal)) → is_covered b [] ≡ false
+never_covered [] = refl
+never_covered (d ∷ ds) = or_false (outdoes d []) (is_covered ds []) (and_no (covers d [])) (never_covered ds)
+
+no_literal : (c : List Literal) → outdoes [] c ≡ false → c ≡ []
+no_literal [] h = refl
+no_literal (Eq t ∷ c) h = absurd (cc)
+no_literal (Geq t ∷ c) h = absurd (cc)
+no_literal (Div d t ∷ c) h = absurd (cc)
+no_literal (NDiv d t ∷ c) h = absurd (cc)
+
+kept_by_true : (b : List (List Literal)) (c : List Literal) → Among c (kept_by top b) → c ≡ []
+kept_by_true b c m = no_literal c (or_left (outdoes [] c) false (no_of (is_covered top c) (test_of (λ z. not (is_covered top z)) c b m)))
+
+only_true : (c : List Literal) → Among c top → c ≡ []
+only_true c (inl e) = e
+only_true c (inr m) = absurd m
+
+true_stays : (b : List (List Literal)) → Among [] (kept_by b top)
+true_stays b = among_filter (λ z. not (is_covered b z)) [] top (inl refl) (ap not (never_covered b))
+
+in_true : (c : List Literal) → c ≡ [] → Among c top
+in_true c e = inl e
+
+tidied-true_left : (b : List (List Literal)) → IsDnf b → tidied (top ++ b) ≡ top
+tidied-true_left b h =
+    let t : IsDnf top = dnf_of_top top refl in
+    sorted-same clause_cmp clause_cmp-total (tidied (top ++ b)) top (sorted_tidied (top ++ b)) t.sorted
+    (λ c m. in_true c (by_part (λ n. only_true c (among_filter_back (λ z. not (is_covered b z)) c top n)) (kept_by_true b c) (among_append c (kept_by b top) (kept_by top b) (back_from_both top b c m))))
+    (λ c m. subst (λ z. Among z (tidied (top ++ b))) (sym (only_true c m)) (stays_left top b [] t (true_stays b)))
+
+tidied-true_right : (a : List (List Literal)) → IsDnf a → tidied (a ++ top) ≡ top
+tidied-true_right a h =
+    let t : IsDnf top = dnf_of_top top refl in
+    sorted-same clause_cmp clause_cmp-total (tidied (a ++ top)) top (sorted_tidied (a ++ top)) t.sorted
+    (λ c m. in_true c (by_part (kept_by_true a c) (λ n. only_true c (among_filter_back (λ z. not (is_covered a z)) c top n)) (among_append c (kept_by top a) (kept_by a top) (back_from_both a top c m))))
+    (λ c m. subst (λ z. Among z (tidied (a ++ top))) (sym (only_true c m)) (stays_right a top [] t (true_stays a)))
+
 -- ---- as the code has it
+pub true_left : (a b d : List (List Literal)) → a ≡ top → IsDnf b → d ≡ a → d ≡ tidied (a ++ b)
+true_left a b d e h is = is ∙ e ∙ sym (ap (λ z. tidied (z ++ b)) e ∙ tidied-true_left b h)
+
+pub true_right : (a b d : List (List Literal)) → b ≡ top → IsDnf a → d ≡ b → d ≡ tidied (a ++ b)
+true_right a b d e h is = is ∙ e ∙ sym (ap (λ z. tidied (a ++ z)) e ∙ tidied-true_right a h)
+
+pub false_left : (a b d : List (List Literal)) → length a ≡ 0 → IsDnf b → d ≡ b → d ≡ tidied (a ++ b)
+false_left [] b d e h is = is ∙ sym (tidied-own b h)
+false_left (c ∷ a) b d e h is = absurd (omega (arith, e))
+
+pub false_right : (a b d : List (List Literal)) → length b ≡ 0 → IsDnf a → d ≡ a → d ≡ tidied (a ++ b)
+false_right a [] d e h is = is ∙ sym (ap tidied (append-nil a) ∙ tidied-own a h)
+false_right a (c ∷ b) d e h is = absurd (omega (arith, e))
+
 pub sorted_both : (a b ka kb all d : List (List Literal)) → IsDnf a → IsDnf b → ka ≡ kept_by b a → kb ≡ kept_by a b → all ≡ ka ++ kb → d ≡ sorted_once clause_cmp all → d ≡ tidied (a ++ b)
 sorted_both a b ka kb all d h k ea eb e is =
     is ∙ ap (sorted_once clause_cmp) (e ∙ ap (λ z. z ++ kb) ea ∙ ap (λ z. kept_by b a ++ z) eb) ∙ tidied-both a b h k
@@ -196,5 +259,7 @@ pub joined_before_true : (a b : List (List Literal)) → b ≡ top → All IsCla
 joined_before_true a b e h = ap (λ z. joined a z) e ∙ joined-top_right a (recursion_from_All IsClause a h)
 
 pub ruleset both = (sorted_both, sorted_whole)
+
+pub ruleset decided = (true_left, true_right, false_left, false_right)
 
 pub ruleset trivial = (top_from, tidied_same, joined_after_true, joined_before_true)

@@ -1,5 +1,5 @@
 -- The tidy form of clauses is sorted, each clause once, and none of its clauses is outdone by another one.
-use Rattle.std.proofs.Common.{◌≡◌, ◌<◌, Bool, true, false, not, ◌&&◌, ◌||◌, cond, List, [], ◌∷◌, length, refl, sym, ◌∙◌, ap, subst, arith}
+use Rattle.std.proofs.Common.{◌≡◌, ◌<◌, ℕ, Some, Bool, true, false, not, ◌&&◌, ◌||◌, cond, List, [], ◌∷◌, length, refl, sym, ◌∙◌, ap, subst, arith}
 use Rattle.std.specs.Prelude.{All}
 use Rattle.std.specs.List.{AllByRecursion, list_any, filter}
 use Rattle.std.specs.List.Sorted.{IsStrictlySortedBy}
@@ -8,6 +8,9 @@ use Rattle.std.proofs.lemmas.List.Elements.{All-from_recursion, recursion_from_A
 use Rattle.linear_term.proofs.Totals.{by_test}
 use Rattle.clause_set.specs.declared.literal.Literal.{Literal}
 use Rattle.clause_set.specs.Clause.{IsClause, IsDnf}
+use Rattle.clause_set.specs.Clauses.{clause_of, compact}
+use Rattle.clause_set.specs.Literals.{HasDivisor, IsLiteral}
+use Rattle.clause_set.specs.Marks.{IsMarked}
 use Rattle.clause_set.specs.Order.{clause_cmp, is_clause, sorted_once}
 use Rattle.clause_set.specs.Dnfs.{covers, outdoes, is_covered, uncovered, tidied, top}
 use Rattle.clause_set.proofs.Covers.{Among, any_from, any_with, among_filter_back, by_no, not_true}
@@ -103,5 +106,19 @@ dnf_of_bottom d is = dnf_of_tidied [] d (is ∙ sym no_clause)
 
 pub dnf_of_same : (c d : List (List Literal)) → d ≡ c → IsDnf c → IsDnf d
 dnf_of_same c d is h = subst IsDnf (sym is) h
+
+-- ---- the clause without literals
+true_form : clause_of [] ≡ Some []
+unfolding clause_of compact sorted_once
+true_form = refl
+
+true_clause : IsClause []
+true_clause = record { conjunction = []; of_literals = All-from_recursion IsLiteral [] tt; is = true_form; literals = All-from_recursion IsLiteral [] tt; divisors = All-from_recursion HasDivisor [] tt }
+
+pub marked_true : (c : List Literal) (m n : ℕ) → c ≡ [] → m ≡ 0 → n ≡ 0 → IsMarked c m n
+marked_true c m n e f g =
+    subst (λ z. IsMarked z m n) (sym e) (record { clause = true_clause; own = f; opposite = g })
+
+pub ruleset true_clauses = (marked_true)
 
 pub ruleset dnfs = (dnf_of_tidied, dnf_of_top, dnf_of_bottom, dnf_of_same)

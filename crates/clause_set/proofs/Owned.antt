@@ -14,11 +14,12 @@ use Rattle.integers.proofs.Residues.{residue-is, residue-only}
 use Rattle.linear_term.specs.Linear.{Linear}
 use Rattle.clause_set.specs.declared.literal.Literal.{Literal}
 use Rattle.clause_set.specs.declared.literal.Literal.TheVariants.{Eq, Geq, Div, NDiv}
+use Rattle.clause_set.specs.declared.literal.Norm.{Norm}
 use Rattle.clause_set.specs.declared.literal.Norm.TheVariants.{True, False, Lit}
 use Rattle.clause_set.specs.Literals.{IsLiteral}
 use Rattle.clause_set.specs.Clause.{IsClause}
 use Rattle.clause_set.specs.Primitive.{AreCoprime, LeadsPositive, IsReducedModulo, IsPrimitive}
-use Rattle.clause_set.specs.Normal.{gcd_with, divided, quotient, negated, leads_negative, turned, is_residue, residues, residue, decided, denied, normal_equation, normal_inequality, normal_divisibility, normal_of}
+use Rattle.clause_set.specs.Normal.{gcd_with, divided, quotient, negated, leads_negative, turned, is_residue, residues, residue, decided, denied, reduced_divisibility, normal_equation, normal_inequality, normal_divisibility, normal_of}
 use Rattle.clause_set.specs.Clauses.{literals_of, is_false}
 use Rattle.clause_set.proofs.Contents.{gcd_with-positive, gcd_with-divides, gcd_with-divides_all, gcd_positive_right, quotient_exact}
 use Rattle.clause_set.proofs.Primitive.{IsNormalLiteral, normal-keeps}
@@ -43,6 +44,22 @@ pub ruleset ones = (quotient_by_one)
 
 all_by_one : (k : ℤ) → divides 1 k ≡ true
 all_by_one k = test_from_Divides 1 k (record { quotient = k; is = omega (arith, ints) })
+
+not_whole : (d : ℤ) → d ≢ pos 1 → int_eq d (pos 1) ≡ false
+not_whole d n = grind (arith, ints)
+
+whole-form : (d : ℤ) (r : Linear) → d ≢ pos 1 → Lit (Div d r) ≡ reduced_divisibility (pos 1) d r
+whole-form d r n =
+    sym (ap (λ b. cond b (cond (int_eq (int_div_euclid d (pos 1)) (pos 1)) True (Lit (Div (int_div_euclid d (pos 1)) (quotient (pos 1) r)))) False) (all_by_one r.constant)
+    ∙ ap (λ k. cond (int_eq k (pos 1)) True (Lit (Div k (quotient (pos 1) r)))) (by_one d)
+    ∙ ap (λ b. cond b True (Lit (Div d (quotient (pos 1) r)))) (not_whole d n)
+    ∙ ap (λ s. Lit (Div d s)) (quotient-one r))
+
+-- a divisibility that nothing divides stays as it is
+pub whole_divisibility : (h d : ℤ) (r : Linear) (n : Norm) → h ≡ pos 1 → d ≢ pos 1 → n ≡ Lit (Div d r) → n ≡ reduced_divisibility h d r
+whole_divisibility h d r n one other is = is ∙ whole-form d r other ∙ ap (λ k. reduced_divisibility k d r) (sym one)
+
+pub ruleset whole = (whole_divisibility)
 
 -- ---- equations and inequalities
 content_one : (p : ℕ × ℤ) (ps : List (ℕ × ℤ)) → p.1 ≢ pos 0 → AreCoprime (pos 0) (p ∷ ps) → gcd_with (pos 0) (p ∷ ps) ≡ pos 1

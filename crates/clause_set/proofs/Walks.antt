@@ -60,6 +60,23 @@ flat_maps_more f xs i x out new lt is pushed h = record {
 pub flat_maps_all : {X Y : Type 0} (f : X → List Y) (xs : List X) (i : ℕ) (out : List Y) → length xs ≤ i → FlatMaps f xs i out → out ≡ flat_map f xs
 flat_maps_all f xs i out le h = h.is ∙ ap (λ z. flat_map f z) (take_all i xs le)
 
+-- out has the images of the items before i behind the old ones
+pub record PushesFlat {X Y : Type 0} (f : X → List Y) (xs : List X) (i : ℕ) (old out : List Y) : Type 0 where
+  pub is : out ≡ old ++ flat_map f (take i xs)
+
+pub pushes_flat_none : {X Y : Type 0} (f : X → List Y) (xs : List X) (old : List Y) → PushesFlat f xs 0 old old
+pushes_flat_none f xs old = record { is = sym (append-nil old) }
+
+pub pushes_flat_more : {X Y : Type 0} (f : X → List Y) (xs : List X) (i : ℕ) (x : X) (old out new : List Y) → i < length xs → x ≡ get_or xs i x → new ≡ out ++ f x → PushesFlat f xs i old out → PushesFlat f xs (i + 1) old new
+pushes_flat_more f xs i x old out new lt is pushed h = record {
+  is =
+      pushed ∙ ap (λ z. z ++ f x) h.is ∙ append_assoc old (flat_map f (take i xs)) (f x)
+      ∙ ap (λ z. old ++ z) (flat_maps_more f xs i x (flat_map f (take i xs)) (flat_map f (take i xs) ++ f x) lt is refl (record { is = refl })).is;
+}
+
+pub pushes_flat_all : {X Y : Type 0} (f : X → List Y) (xs : List X) (i : ℕ) (old out : List Y) → length xs ≤ i → PushesFlat f xs i old out → out ≡ old ++ flat_map f xs
+pushes_flat_all f xs i old out le h = h.is ∙ ap (λ z. old ++ flat_map f z) (take_all i xs le)
+
 -- the items before i pass the test
 pub record Passes {X : Type 0} (test : X → Bool) (xs : List X) (i : ℕ) : Type 0 where
   pub rest : list_all test (drop i xs) ≡ list_all test xs
@@ -105,7 +122,7 @@ filters_all test xs i out le h = sym (append-nil out) ∙ ap (λ z. out ++ filte
 
 pub ruleset filters = (filters_more, filters_all)
 
-pub ruleset walks = (passes_more, fails_here, passes_all, fails_more, passes_here, fails_all, maps_more, maps_all, flat_maps_more, flat_maps_all)
+pub ruleset walks = (passes_more, fails_here, passes_all, fails_more, passes_here, fails_all, maps_more, maps_all, flat_maps_more, flat_maps_all, pushes_flat_none, pushes_flat_more, pushes_flat_all)
 
 -- out has the items before i
 pub record Copies {X : Type 0} (xs : List X) (i : ℕ) (out : List X) : Type 0 where

@@ -7,7 +7,7 @@ ghost use Rattle.clause_set.specs.Formed.{IsNormalized};
 ghost use Rattle.clause_set.specs.Literals.{answer_truth, clause_truth, HasDivisor, IsLiteral, literal_truth, norm_truth};
 ghost use Rattle.clause_set.specs.Normal.{normal_of};
 ghost use Rattle.std.specs.List.{flat_map, list_any};
-ghost use Rattle.std.specs.Prelude.{◌≡◌, ◌<◌, ◌++◌, All, cond, false, IfOk, length, List, None, OnOk, slice_get, Some, ℤ};
+ghost use Rattle.std.specs.Prelude.{◌≡◌, ◌<◌, ◌++◌, [], All, cond, false, IfOk, length, List, None, OnOk, slice_get, Some, ℤ};
 
 use super::beside::beside;
 use super::compact::compact;
@@ -29,7 +29,7 @@ pub fn normal(alloc: Global, l: Literal) -> Result<Norm, Memory>
     ensures truth { IfOk result (λ n. (e : List ℤ) → norm_truth n e ≡ literal_truth l e) }
 {
     l.term().know_normal();
-    normalized(alloc, &l)
+    normalized(alloc, l)
 }
 
 /// A conjunction of literals in normal form: each linear form has its tightest bounds, no literal is true or false by
@@ -95,16 +95,13 @@ fn push_literal(n: Norm, out: &mut Items<Literal>) -> Result<(), Memory>
 
 /// The normal literals of a conjunction without those that are true; none where one is false.
 #[tactic(auto, using(crate::proofs::Walks::walks))]
-pub(crate) fn normal_literals(
-    alloc: Global,
-    ls: &[Literal],
-) -> Result<Option<Items<Literal>>, Memory>
+fn normal_literals(alloc: Global, ls: &[Literal]) -> Result<Option<Items<Literal>>, Memory>
     requires { All HasDivisor ls.now }
     ensures { IfOk result (λ answer. answer ≡ cond (list_any (λ l. is_false (normal_of l)) ls.now) None (Some (flat_map (λ l. literals_of (normal_of l)) ls.now))) }
 {
     let mut out = room_for(alloc, ls.len())?;
     for l in ls {
-        let n = normalized(alloc, l)?;
+        let n = normalized(alloc, l.copy()?)?;
         if is_false(&n) {
             return Ok(None);
         }
@@ -114,6 +111,21 @@ pub(crate) fn normal_literals(
 }
 
 impl Clause {
+    /// The clause without literals, which is true.
+    #[tactic(auto, using(crate::proofs::Canonical::true_clauses))]
+    pub(crate) fn without_literals(alloc: Global) -> Clause
+        ensures { result ≡ [] }
+    {
+        let marks = Marks {
+            own: 0,
+            opposite: 0,
+        };
+        Clause {
+            literals: Items::new(alloc),
+            marks,
+        }
+    }
+
     /// The clause of a conjunction of literals, whose divisors are from 1 to 2^127 − 1: true at the same integers; none
     /// where the conjunction is found to be false.
     pub fn of(alloc: Global, ls: Items<Literal>) -> Result<Option<Clause>, Memory>
@@ -144,7 +156,7 @@ impl Clause {
     {
         know_literals(kept.as_slice());
         know_literals(more.as_slice());
-        let Some(literals) = beside(alloc, kept, more.as_slice())? else {
+        let Some(literals) = beside(alloc, kept, more)? else {
             return Ok(None);
         };
         know_literals(literals.as_slice());

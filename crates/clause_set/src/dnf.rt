@@ -49,11 +49,12 @@ impl Drop for Dnf {
 
 impl Dnf {
     /// The disjunction that is true: one clause without literals.
-    #[tactic(auto, using(crate::proofs::Charges::no_literals, crate::proofs::Canonical::dnfs))]
+    #[tactic(auto, using(crate::proofs::Canonical::dnfs))]
     pub fn top(alloc: Global) -> Result<Dnf, Memory>
         ensures { IfOk result (λ d. d ≡ top) }
     {
-        let clauses = found(alloc, Clause::of(alloc, Items::new(alloc))?)?;
+        let mut clauses = Items::new(alloc);
+        clauses.push(Clause::without_literals(alloc))?;
         Ok(Dnf { clauses })
     }
 
@@ -145,13 +146,25 @@ impl Dnf {
         Ok(Dnf { clauses })
     }
 
-    /// The tidy form of two disjunctions together.
-    #[tactic(auto, using(crate::proofs::Canonical::dnfs))]
+    /// The tidy form of two disjunctions together: where one is true or false, it is one of them.
+    #[tactic(auto, using(crate::proofs::Canonical::dnfs, crate::proofs::Across::decided))]
     fn of_both_into(alloc: Global, a: Dnf, b: Dnf) -> Result<Dnf, Memory>
         ensures { IfOk result (λ d. d ≡ tidied (a ++ b)) }
     {
         a.know_dnf();
         b.know_dnf();
+        if a.len() == 0 {
+            return Ok(b);
+        }
+        if b.len() == 0 {
+            return Ok(a);
+        }
+        if is_top(a.clauses()) {
+            return Ok(a);
+        }
+        if is_top(b.clauses()) {
+            return Ok(b);
+        }
         let clauses = tidied_into(alloc, a.into_clauses(), b.into_clauses())?;
         Ok(Dnf { clauses })
     }
@@ -376,20 +389,25 @@ fn joined(alloc: Global, a: &[Clause], b: &[Clause]) -> Result<Items<Clause>, Me
 {
     let mut out = Items::new(alloc);
     for c in a {
-        out.append(joined_with(alloc, c, b)?)?;
+        push_joined_with(alloc, c, b, &mut out)?;
     }
     Ok(out)
 }
 
+/// Puts the conjunctions of c with each of d behind the others, without false ones.
 #[tactic(auto, using(crate::proofs::Walks::walks))]
-fn joined_with(alloc: Global, c: &Clause, d: &[Clause]) -> Result<Items<Clause>, Memory>
-    ensures { IfOk result (λ all. all ≡ joined_with c.now d.now) }
+fn push_joined_with(
+    alloc: Global,
+    c: &Clause,
+    d: &[Clause],
+    out: &mut Items<Clause>,
+) -> Result<(), Memory>
+    ensures { OnOk result (out.new ≡ out.old ++ joined_with c.now d.now) }
 {
-    let mut out = room_for(alloc, d.len())?;
     for e in d {
-        push_joined(alloc, c, e, &mut out)?;
+        push_joined(alloc, c, e, out)?;
     }
-    Ok(out)
+    Ok(())
 }
 
 /// Puts the conjunction of c and e behind the others, unless it is found to be false.

@@ -77,23 +77,7 @@ fn divided(alloc: Global, g: i128, pairs: &[(u32, i128)]) -> Result<Vec<(u32, i1
 
 /// The term divided by a positive g that divides its coefficients, its constant rounded down.
 #[tactic(auto, using(crate::proofs::Owned::ones))]
-fn quotient(alloc: Global, g: i128, t: &Term) -> Result<Term, Memory>
-    requires positive { pos 0 <ℤ g }
-    requires divides { All (λ p. Divides g p.1) t.now.pairs }
-    ensures { IfOk result (λ q. q ≡ quotient g t.now) }
-{
-    if g == 1 {
-        return t.copy();
-    }
-    t.know_normal();
-    let pairs = divided(alloc, g, t.pairs())?;
-    let constant = floor_div(t.constant(), g);
-    Term::of(alloc, pairs.as_slice(), constant)
-}
-
-/// The same of a term that is handed over: by 1 it stays as it is.
-#[tactic(auto, using(crate::proofs::Owned::ones))]
-fn quotient_of(alloc: Global, g: i128, t: Term) -> Result<Term, Memory>
+fn quotient(alloc: Global, g: i128, t: Term) -> Result<Term, Memory>
     requires positive { pos 0 <ℤ g }
     requires divides { All (λ p. Divides g p.1) t.pairs }
     ensures { IfOk result (λ q. q ≡ quotient g t) }
@@ -101,7 +85,10 @@ fn quotient_of(alloc: Global, g: i128, t: Term) -> Result<Term, Memory>
     if g == 1 {
         return Ok(t);
     }
-    quotient(alloc, g, &t)
+    t.know_normal();
+    let pairs = divided(alloc, g, t.pairs())?;
+    let constant = floor_div(t.constant(), g);
+    Term::of(alloc, pairs.as_slice(), constant)
 }
 
 /// Whether the coefficient is from 1 to d − 1.
@@ -151,23 +138,24 @@ fn push_residue(d: i128, pair: &(u32, i128), out: &mut Vec<(u32, i128)>) -> Resu
 
 /// The term modulo a divisor d, whose coefficients stay as they are.
 #[tactic(auto, using(crate::proofs::Owned::own_residues))]
-fn with_residue(d: i128, t: &Term) -> Result<Term, Memory>
+fn with_residue(d: i128, t: Term) -> Term
     requires divisor { IsDivisor d }
-    requires own { list_all (is_residue d) t.now.pairs ≡ true }
-    ensures { IfOk result (λ r. r ≡ residue d t.now) }
+    requires own { list_all (is_residue d) t.pairs ≡ true }
+    ensures { result ≡ residue d t }
 {
-    let mut rest = t.copy()?;
-    rest.set_constant(remainder(t.constant(), d));
-    Ok(rest)
+    let mut rest = t;
+    let constant = remainder(rest.constant(), d);
+    rest.set_constant(constant);
+    rest
 }
 
 /// The term modulo a divisor d.
-fn residue(alloc: Global, d: i128, t: &Term) -> Result<Term, Memory>
+fn residue(alloc: Global, d: i128, t: Term) -> Result<Term, Memory>
     requires { IsDivisor d }
-    ensures { IfOk result (λ r. r ≡ residue d t.now) }
+    ensures { IfOk result (λ r. r ≡ residue d t) }
 {
     if are_residues(d, t.pairs()) {
-        return with_residue(d, t);
+        return Ok(with_residue(d, t));
     }
     t.know_normal();
     let pairs = residues(alloc, d, t.pairs())?;
@@ -190,10 +178,10 @@ fn content(g: i128, t: &Term) -> i128
 }
 
 /// t = 0 divided by the greatest common divisor g of its coefficients.
-fn reduced_equation(alloc: Global, g: i128, t: &Term) -> Result<Norm, Memory>
+fn reduced_equation(alloc: Global, g: i128, t: Term) -> Result<Norm, Memory>
     requires positive { pos 0 <ℤ g }
-    requires divides { All (λ p. Divides g p.1) t.now.pairs }
-    ensures { IfOk result (λ n. n ≡ reduced_equation g t.now) }
+    requires divides { All (λ p. Divides g p.1) t.pairs }
+    ensures { IfOk result (λ n. n ≡ reduced_equation g t) }
 {
     if !divides(g, t.constant()) {
         return Ok(Norm::False);
@@ -216,13 +204,14 @@ fn turned_term(alloc: Global, t: Term) -> Result<Term, Memory>
 
 /// t = 0 in normal form.
 #[tactic(auto, using(crate::proofs::Quotients::contents))]
-fn equation(alloc: Global, t: &Term) -> Result<Norm, Memory>
-    ensures { IfOk result (λ n. n ≡ normal_equation t.now t.now.pairs) }
+fn equation(alloc: Global, t: Term) -> Result<Norm, Memory>
+    ensures { IfOk result (λ n. n ≡ normal_equation t t.pairs) }
 {
     if t.pairs().is_empty() {
         return Ok(decided(t.constant() == 0));
     }
-    reduced_equation(alloc, content(0, t), t)
+    let g = content(0, &t);
+    reduced_equation(alloc, g, t)
 }
 
 fn decided(holds: bool) -> Norm
@@ -233,22 +222,27 @@ fn decided(holds: bool) -> Norm
 
 /// t ≥ 0 in normal form.
 #[tactic(auto, using(crate::proofs::Quotients::contents))]
-fn inequality(alloc: Global, t: &Term) -> Result<Norm, Memory>
-    ensures { IfOk result (λ n. n ≡ normal_inequality t.now t.now.pairs) }
+fn inequality(alloc: Global, t: Term) -> Result<Norm, Memory>
+    ensures { IfOk result (λ n. n ≡ normal_inequality t t.pairs) }
 {
     if t.pairs().is_empty() {
         return Ok(decided(t.constant() >= 0));
     }
-    Ok(Norm::Lit(Literal::Geq(quotient(alloc, content(0, t), t)?)))
+    let g = content(0, &t);
+    Ok(Norm::Lit(Literal::Geq(quotient(alloc, g, t)?)))
 }
 
-/// d divides r, divided by the greatest common divisor h of d and the coefficients.
+/// d divides r, divided by the greatest common divisor h of d and the coefficients: by 1 all stays as it is.
+#[tactic(auto, using(crate::proofs::Owned::whole))]
 fn reduced_divisibility(alloc: Global, h: i128, d: i128, r: Term) -> Result<Norm, Memory>
     requires divisor { IsDivisor d }
     requires positive { pos 0 <ℤ h }
     requires divides { All (λ p. Divides h p.1) r.pairs }
     ensures { IfOk result (λ n. n ≡ reduced_divisibility h d r) }
 {
+    if h == 1 && d != 1 {
+        return Ok(Norm::Lit(Literal::Div(d, r)));
+    }
     if !divides(h, r.constant()) {
         return Ok(Norm::False);
     }
@@ -256,14 +250,14 @@ fn reduced_divisibility(alloc: Global, h: i128, d: i128, r: Term) -> Result<Norm
     if rest == 1 {
         return Ok(Norm::True);
     }
-    Ok(Norm::Lit(Literal::Div(rest, quotient_of(alloc, h, r)?)))
+    Ok(Norm::Lit(Literal::Div(rest, quotient(alloc, h, r)?)))
 }
 
 /// d divides t in normal form.
 #[tactic(auto, using(crate::proofs::Quotients::contents))]
-fn divisibility(alloc: Global, d: i128, t: &Term) -> Result<Norm, Memory>
+fn divisibility(alloc: Global, d: i128, t: Term) -> Result<Norm, Memory>
     requires { IsDivisor d }
-    ensures { IfOk result (λ n. n ≡ normal_divisibility d t.now) }
+    ensures { IfOk result (λ n. n ≡ normal_divisibility d t) }
 {
     let r = residue(alloc, d, t)?;
     let h = content(d, &r);
@@ -286,14 +280,14 @@ fn denied(norm: Norm) -> Norm
 
 /// The normal form of a literal.
 #[tactic(auto, unfolding(crate::specs::Normal::normal_of))]
-pub(crate) fn normalized(alloc: Global, l: &Literal) -> Result<Norm, Memory>
-    requires { HasDivisor l.now }
-    ensures { IfOk result (λ n. n ≡ normal_of l.now) }
+pub(crate) fn normalized(alloc: Global, l: Literal) -> Result<Norm, Memory>
+    requires { HasDivisor l }
+    ensures { IfOk result (λ n. n ≡ normal_of l) }
 {
     match l {
         Literal::Eq(t) => equation(alloc, t),
         Literal::Geq(t) => inequality(alloc, t),
-        Literal::Div(d, t) => divisibility(alloc, *d, t),
-        Literal::NDiv(d, t) => Ok(denied(divisibility(alloc, *d, t)?)),
+        Literal::Div(d, t) => divisibility(alloc, d, t),
+        Literal::NDiv(d, t) => Ok(denied(divisibility(alloc, d, t)?)),
     }
 }

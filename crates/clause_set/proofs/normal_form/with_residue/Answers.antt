@@ -9,8 +9,7 @@ pub returns : goal.returns
 returns c =
     let g : SFits w128 c.args.d = c.ranges.d in
     let k : SFits w128 c.constant.result = search rules in
-    let f : SFits w128 c.remainder.result = search rules in
-    residue_by_constant c.args.d c.remainder.result c.args.t.now c.set_constant.new.self c.requires.own
-    (c.set_constant.ensures ∙ ap (λ z. record { pairs = c.in_ok-rest.rest.pairs; constant = z }) (to_z-of_z f)
-    ∙ ap (λ (z : Linear). record { pairs = z.pairs; constant = c.remainder.result }) c.in_ok-rest.ensures)
-    (rw c.constant.ensures.exact at (simp to_z-of_z at c.remainder.ensures))
+    let f : SFits w128 c.remainder-constant.result = search rules in
+    residue_by_constant c.args.d c.remainder-constant.result c.args.t c.set_constant.new.self c.requires.own
+    (c.set_constant.ensures ∙ ap (λ z. record { pairs = c.args.t.pairs; constant = z }) (to_z-of_z f))
+    (rw c.constant.ensures.exact at (simp to_z-of_z at c.remainder-constant.ensures))

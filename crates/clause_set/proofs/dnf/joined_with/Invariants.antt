@@ -1,7 +1,0 @@
-use Rattle.std.proofs.Common.{◌++◌}
-use Rattle.clause_set.specs.Clauses.{clause_of, found}
-use Rattle.clause_set.proofs.Walks.{FlatMaps}
-use Rattle.clause_set.proofs.dnf.joined_with.Given as goal
-
-abbrev pub invariant-loop-e : goal.invariant-loop-e
-invariant-loop-e l = FlatMaps (λ k. found (clause_of (l.c ++ k))) l.d l.e-index l.out
