@@ -65,15 +65,15 @@ fn all_tightened(
     Ok(Some(out))
 }
 
-/// Up to so many literals each one is compared with each other one.
-const FEW: usize = 16;
+/// Up to so many literals the bounds of a form are looked for among all of them; a table of more is faster.
+const WITHOUT_TABLE: usize = 16;
 
 /// A table of all bounds, where there are more than a few literals.
 fn table_for(alloc: Global, literals: &[Literal]) -> Result<Option<Table>, Memory>
     ensures exact { IfOk result (λ o. IfSome o (λ m. (q : List (ℕ × ℤ)) → bound_at m q ≡ slack literals.now q)) }
     ensures range { IfOk result (λ o. IfSome o (λ m. (q : List (ℕ × ℤ)) → IfSome (bound_at m q) (λ k. InRange k))) }
 {
-    if literals.len() <= FEW {
+    if literals.len() <= WITHOUT_TABLE {
         return Ok(None);
     }
     Ok(Some(table_of(alloc, literals)?))

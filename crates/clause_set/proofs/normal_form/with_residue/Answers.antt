@@ -1,5 +1,4 @@
 use Rattle.std.proofs.Common.{rules, to_z-of_z, ◌∙◌, ap}
-use Rattle.linear_term.specs.Linear.{Linear}
 use Rattle.clause_set.proofs.Owned.{residue_by_constant}
 use mir.Syntax.{w128}
 use mir.Val.{SFits}

@@ -2,7 +2,7 @@ use Rattle.std.proofs.Common.{[], drop}
 use Rattle.purse.specs.Trace.{at, each}
 use Rattle.purse.specs.Work.{Remains}
 use Rattle.clause_set.specs.Dnfs.{negated_literal, negated_clause}
-use Rattle.clause_set.proofs.dnf.negated_clause.Given as goal
+use Rattle.clause_set.proofs.negation.negated_clause.Given as goal
 
 abbrev pub invariant-loop-l : goal.invariant-loop-l
 invariant-loop-l l = Remains (each negated_literal (drop l.l-index l.l-items) l.out) (at l.purse []) (negated_clause l.c) (at l.fn.purse [])

@@ -1,6 +1,6 @@
 use Rattle.std.proofs.Common.{arith}
 use Rattle.purse.proofs.Charging.{drop-item, free, remains_next}
-use Rattle.clause_set.proofs.dnf.negated_clause.Goals as goal
+use Rattle.clause_set.proofs.negation.negated_clause.Goals as goal
 
 pub loop-l-preserved : goal.loop-l-preserved
 loop-l-preserved c =

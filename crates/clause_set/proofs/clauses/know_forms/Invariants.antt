@@ -1,7 +1,7 @@
 use Rattle.std.proofs.Common.{ℕ, ◌<◌, List, get_or}
 use Rattle.clause_set.specs.declared.literal.Literal.{Literal}
 use Rattle.clause_set.specs.Clause.{IsClause}
-use Rattle.clause_set.proofs.dnf.know_forms.Given as goal
+use Rattle.clause_set.proofs.clauses.know_forms.Given as goal
 
 abbrev pub invariant-loop-c : goal.invariant-loop-c
 invariant-loop-c l = (k : ℕ) (d : List Literal) → k < l.c-index → IsClause (get_or l.cs k d)
