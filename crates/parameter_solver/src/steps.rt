@@ -14,9 +14,9 @@ ghost use Rattle.std.specs.Prelude.{◌≡◌, ◌<◌, ◌+◌, [], All, IfOk, 
 
 use super::numbers::nearest;
 use super::single::{at_root, bounded};
-use clause_set::{Clause, Literal, found};
+use clause_set::{Clause, Literal};
 use purse::{Purse, StepFault};
-use rule_code::{free_ndiv, merge_divs};
+use rule_code::{apart_rule, merge_rule};
 use sqlite_items::Items;
 use std::alloc::Global;
 use step_code::{is_divisibility, is_equation, is_indivisibility, whole_charge};
@@ -50,8 +50,23 @@ fn behind(ls: &[Literal], i: usize) -> &[Literal]
     &ls[i + 1..]
 }
 
+/// The clauses that the negated divisibility at i splits the clause into.
+#[tactic(auto, using(purse::proofs::Charging::charging))]
+fn apart(
+    alloc: Global,
+    c: &Clause,
+    j: u32,
+    i: usize,
+    purse: &mut Purse,
+) -> Result<Items<Clause>, StepFault>
+    requires { applies j c.now (Apart i) ≡ true }
+    ensures { Charged (rule j c.now (Apart i)) purse.old result purse.new }
+{
+    apart_rule(alloc, c.copy(alloc)?, j, i, purse)
+}
+
 /// The two divisibilities at i and k as one, with the rest of the clause.
-#[tactic(auto, using(quant_elim::proofs::Singles::singles))]
+#[tactic(auto, using(purse::proofs::Charging::charging))]
 fn merged(
     alloc: Global,
     c: &Clause,
@@ -63,8 +78,7 @@ fn merged(
     requires { applies j c.now (Merge i k) ≡ true }
     ensures { Charged (rule j c.now (Merge i k)) purse.old result purse.new }
 {
-    let one = merge_divs(alloc, c, j, i, k, purse)?;
-    Ok(found(alloc, one)?)
+    merge_rule(alloc, c.copy(alloc)?, j, i, k, purse)
 }
 
 /// The clauses that the first negated divisibility, or else the first two divisibilities, split the clause into; none
@@ -78,7 +92,7 @@ pub fn split(
     ensures { Charged (splitting j c.now) purse.old result purse.new }
 {
     if let Some(i) = indivisibility_place(c.literals(), j) {
-        return Ok(Some(free_ndiv(alloc, c, j, i, purse)?));
+        return Ok(Some(apart(alloc, c, j, i, purse)?));
     }
     let Some(i) = divisibility_place(c.literals(), j) else {
         return Ok(None);

@@ -3,7 +3,6 @@ pub mod Atomic
 pub mod Budgets
 pub mod Choices
 pub mod Outcomes
-pub mod Singles
 pub mod Unfolded
 pub mod ByRule
 pub mod Turning

@@ -14,7 +14,6 @@ use Rattle.clause_set.specs.declared.literal.Literal.{Literal}
 use Rattle.clause_set.specs.declared.literal.Literal.TheVariants.{Div}
 use Rattle.clause_set.specs.Bezout.{Bezout, bezout}
 use Rattle.clause_set.specs.Clause.{IsClause}
-use Rattle.clause_set.specs.Clauses.{clauses_of}
 use Rattle.clause_set.specs.Formed.{IsFormed, IsNormalized}
 use Rattle.clause_set.specs.Literals.{HasDivisor, IsDivisor, term_of}
 use Rattle.clause_set.specs.Names.{area}
@@ -23,12 +22,10 @@ use Rattle.clause_set.specs.Divisibilities.{merged, merge_at, merge, shift_by, s
 use Rattle.clause_set.specs.Rules.{applies, rule}
 use Rattle.clause_set.proofs.Formed.{clause-is_formed}
 use Rattle.clause_set.proofs.Joining.{literals-normalized, removed-normalized}
-use Rattle.equation_laws.specs.Results.{joined_first}
 use Rattle.equation_laws.proofs.Applying.{DivisibilityAt, merge_applies, shift_applies, mentioned-positive}
 use Rattle.equation_laws.proofs.Lists.{kept-got}
-use Rattle.equation_laws.proofs.Values.{merge-value}
 use Rattle.rule_code.specs.Congruences.{IsCongruence, merged_beside, shifted_beside}
-use Rattle.rule_code.proofs.Calls.{IsSingle, one_clause, got_same}
+use Rattle.rule_code.proofs.Calls.{got_same}
 
 -- ---- a divisibility with x in a clause
 pub divisibility_below : (x i : ℕ) (c : List Literal) → DivisibilityAt x i c → i < length c
@@ -105,13 +102,6 @@ merge_refused x i j c {old} {paid} r h fails w =
     let p = merge_applies x i j c h in
     subst (λ o. Charged (merge_at x c (remove (remove c j) i) o (slice_get c j)) old r paid) (sym (p.first).stands)
     (subst (λ o. Charged (merge_at x c (remove (remove c j) i) (Some (Div (p.first).divisor (p.first).term)) o) old r paid) (sym (p.second).stands) (then_err _ _ r fails w))
-
-pub merge_single : (x i j : ℕ) (c : List Literal) → applies x c (Merge i j) ≡ true → IsSingle (rule x c (Merge i j)).value
-merge_single x i j c h =
-    let p = merge_applies x i j c h in
-    subst IsSingle (sym (merge-value x i j c))
-    (subst (λ o. IsSingle (clauses_of (joined_first x (remove (remove c j) i) o (slice_get c j)))) (sym (p.first).stands)
-    (subst (λ o. IsSingle (clauses_of (joined_first x (remove (remove c j) i) (Some (Div (p.first).divisor (p.first).term)) o))) (sym (p.second).stands) (one_clause _)))
 
 -- ---- the only one
 pub shift_below : (x i : ℕ) (c : List Literal) → applies x c (Shift i) ≡ true → i < length c

@@ -1,5 +1,5 @@
--- Calls of rules that leave at most one clause: their answers, and what the laws say of them.
-use Rattle.std.proofs.Common.{◌≡◌, ◌<◌, ℕ, ℤ, false, List, [], ◌∷◌, ◌++◌, Option, Some, None, Result, Ok, Err, refl, sym, ◌∙◌, ap, subst}
+-- Calls of rules: the literals that they take, and what the laws say of their answers.
+use Rattle.std.proofs.Common.{◌≡◌, ◌<◌, ℕ, ℤ, false, List, [], ◌∷◌, Some, Result, Ok, Err, sym, ◌∙◌, ap, subst}
 use Rattle.std.specs.Prelude.{All, IfOk, remove, slice_get, ◌↔◌}
 use Rattle.std.specs.List.{list_any}
 use Rattle.std.proofs.lemmas.List.Elements.{recursion_from_All, All-from_recursion}
@@ -8,13 +8,11 @@ use Rattle.purse.specs.declared.fault.StepFault.{StepFault}
 use Rattle.purse.specs.Work.{Charged}
 use Rattle.purse.proofs.Charging.{charged_value}
 use Rattle.clause_set.specs.declared.literal.Literal.{Literal}
-use Rattle.clause_set.specs.Clauses.{clause_of, clauses_of, found}
 use Rattle.clause_set.specs.Literals.{HasDivisor}
 use Rattle.clause_set.specs.Met.{IsMet}
 use Rattle.clause_set.specs.Names.{has}
 use Rattle.clause_set.specs.Rules.{measure}
 use Rattle.equation_laws.proofs.Lists.{kept-removed}
-use Rattle.rule_code.specs.Answers.{first}
 
 pub rest_divisors : (i : ℕ) (c ls rest : List Literal) → All HasDivisor c → ls ≡ c → rest ≡ remove ls i → All HasDivisor rest
 rest_divisors i c ls rest h same is =
@@ -23,25 +21,6 @@ rest_divisors i c ls rest h same is =
 -- what stands in the literals of the clause stands in the clause
 pub got_same : (i : ℕ) (c ls : List Literal) (l : Literal) → ls ≡ c → slice_get ls i ≡ Some l → slice_get c i ≡ Some l
 got_same i c ls l same is = ap (λ z. slice_get z i) (sym same) ∙ is
-
--- at most one clause is there
-pub record IsSingle (cs : List (List Literal)) : Type 0 where
-  pub is : found (first cs) ≡ cs
-
-pub no_clause : IsSingle []
-no_clause = record { is = refl }
-
-pub one_clause : (d : List Literal) → IsSingle (clauses_of (d ∷ []))
-one_clause d = by (clause_of d)
-  where
-    by : (o : Option (List Literal)) → IsSingle (found o ++ [])
-    by None = no_clause
-    by (Some c) = record { is = refl }
-
--- what the call answers is what the rule leaves
-pub answer_is : (work : Traced (List (List Literal))) (cs : List (List Literal)) (r : Option (List Literal)) {old new : Funds} → Charged work old (Ok cs) new → r ≡ first cs → IsSingle work.value
-    → found r ≡ work.value
-answer_is work cs r h is single = ap found (is ∙ ap first (charged_value h)) ∙ single.is
 
 pub met_by : (x : ℕ) (c : List Literal) (ds es : List (List Literal)) → ds ≡ es → ((e : List ℤ) → IsMet (c ∷ []) x e ↔ IsMet es x e) → (e : List ℤ) → IsMet (c ∷ []) x e ↔ IsMet ds x e
 met_by x c ds es is law e = subst (λ z. IsMet (c ∷ []) x e ↔ IsMet z x e) (sym is) (law e)
@@ -66,12 +45,3 @@ pub free_ok : (x : ℕ) (work : Traced (List (List Literal))) (r : Result (List 
     → All (λ d. list_any (has x) d ≡ false) work.value → IfOk r (λ ds. All (λ d. list_any (has x) d ≡ false) ds)
 free_ok x work (Ok ds) h law = free_by x ds work.value (charged_value h) law
 free_ok x work (Err e) h law = tt
-
--- the same of a clause that was copied
-pub met_copied : (x : ℕ) (c d : List Literal) (work : List Literal → Traced (List (List Literal))) (r : Result (List (List Literal)) StepFault) {old new : Funds} → d ≡ c → Charged (work d) old r new
-    → ((e : List ℤ) → IsMet (c ∷ []) x e ↔ IsMet (work c).value x e) → IfOk r (λ ds. (e : List ℤ) → IsMet (c ∷ []) x e ↔ IsMet ds x e)
-met_copied x c d work r {old} {new} same h law = met_ok x c (work c) r (subst (λ z. Charged (work z) old r new) same h) law
-
-pub nearer_copied : (x : ℕ) (c d : List Literal) (work : List Literal → Traced (List (List Literal))) (r : Result (List (List Literal)) StepFault) {old new : Funds} → d ≡ c → Charged (work d) old r new
-    → All (λ d. measure x d < measure x c) (work c).value → IfOk r (λ ds. All (λ d. measure x d < measure x c) ds)
-nearer_copied x c d work r {old} {new} same h law = nearer_ok x c (work c) r (subst (λ z. Charged (work z) old r new) same h) law

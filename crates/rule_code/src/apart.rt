@@ -17,7 +17,7 @@ ghost use Rattle.std.specs.List.{list_any};
 ghost use Rattle.std.specs.Prelude.{◌≡◌, ◌<◌, ◌+◌, ◌-◌, ◌*◌, ◌^◌, ◌↔◌, ℤ, List, [], ◌∷◌, All, false, IfOk, length, pos, Some, true, unsigned_abs};
 
 use super::parts::divisor;
-use clause_set::{Clause, Literal, copy_literals};
+use clause_set::{Clause, Literal};
 use linear_term::{Memory, Term};
 use purse::{Purse, StepFault};
 use sqlite_items::Items;
@@ -60,6 +60,19 @@ fn with_remainder(
     Ok(in_form_with(alloc, rest, new)?)
 }
 
+/// Copies of the literals, and room for one more.
+#[tactic(auto, using(clause_set::proofs::Walks::copies))]
+fn copies_with_room(alloc: Global, ls: &[Literal]) -> Result<Items<Literal>, Memory>
+    ensures { IfOk result (λ copies. copies ≡ ls.now) }
+{
+    let room = ls.len().saturating_add(1);
+    let mut out = Items::from_vec(Vec::with_capacity(alloc, room)?);
+    for l in ls {
+        out.push(l.copy()?)?;
+    }
+    Ok(out)
+}
+
 /// The clauses of the remainders from 1 to `count`: the last one is made of the other literals, the ones before it of
 /// copies.
 #[tactic(auto, using(purse::proofs::Charging::leaving))]
@@ -80,32 +93,12 @@ fn with_remainders(
     }
     let mut r = 1u128;
     while r < count {
-        let copy = copy_literals(alloc, rest.as_slice())?;
-        out.append(with_remainder(alloc, copy, l, r)?)?;
+        let copies = copies_with_room(alloc, rest.as_slice())?;
+        out.append(with_remainder(alloc, copies, l, r)?)?;
         r += 1;
     }
     out.append(with_remainder(alloc, rest, l, count)?)?;
     Ok(out)
-}
-
-/// The rule of the negated divisibility at i on a clause that is handed over.
-#[tactic(auto, using(purse::proofs::Charging::charging))]
-fn apart_performed(
-    alloc: Global,
-    c: Clause,
-    x: u32,
-    i: usize,
-    purse: &mut Purse,
-) -> Result<Items<Clause>, StepFault>
-    requires { applies x c (Apart i) ≡ true }
-    ensures { Charged (rule x c (Apart i)) purse.old result purse.new }
-{
-    c.know_clause();
-    let count = remainder_count(c.get(i));
-    purse.step(charge(alloc, &c, count)?)?;
-    let mut rest = c.into_literals();
-    let l = rest.remove(i);
-    with_remainders(alloc, rest, &l, count)
 }
 
 /// The rule of the negated divisibility at i on a clause that is handed over: clauses one of which is true exactly where
@@ -124,23 +117,9 @@ pub fn apart_rule(
     ensures nearer { list_any (is_equation x) c ≡ false → IfOk result (λ ds. All (λ d. measure x d < measure x c) ds) }
 {
     c.know_clause();
-    apart_performed(alloc, c, x, i, purse)
-}
-
-/// The same of a clause of the caller's, which is copied.
-#[tactic(auto, using(purse::proofs::Charging::charging))]
-pub fn free_ndiv(
-    alloc: Global,
-    c: &Clause,
-    x: u32,
-    i: usize,
-    purse: &mut Purse,
-) -> Result<Items<Clause>, StepFault>
-    requires { applies x c.now (Apart i) ≡ true }
-    ensures work { Charged (rule x c.now (Apart i)) purse.old result purse.new }
-    ensures exact { IfOk result (λ ds. (e : List ℤ) → IsMet (c.now ∷ []) x e ↔ IsMet ds x e) }
-    ensures nearer { list_any (is_equation x) c.now ≡ false → IfOk result (λ ds. All (λ r. measure x r < measure x c.now) ds) }
-{
-    c.know_clause();
-    apart_rule(alloc, c.copy(alloc)?, x, i, purse)
+    let count = remainder_count(c.get(i));
+    purse.step(charge(alloc, &c, count)?)?;
+    let mut rest = c.into_literals();
+    let l = rest.remove(i);
+    with_remainders(alloc, rest, &l, count)
 }

@@ -17,7 +17,7 @@ pub fn has_equation_at(c: &Clause, x: u32, i: usize) -> bool
     i < c.len() && is_equation(c.get(i), x)
 }
 
-/// Whether literal i of c is a negated divisibility with x: `free_ndiv` applies.
+/// Whether literal i of c is a negated divisibility with x: `apart_rule` applies.
 #[tactic(auto, using(crate::proofs::Placing::places))]
 pub fn has_indivisibility_at(c: &Clause, x: u32, i: usize) -> bool
     ensures { result ≡ applies x c.now (Apart i) }
@@ -33,7 +33,7 @@ fn has_divisibility_at(c: &Clause, x: u32, i: usize) -> bool
     i < c.len() && is_divisibility(c.get(i), x)
 }
 
-/// Whether i is below j and both literals of c are divisibilities with x: `merge_divs` applies.
+/// Whether i is below j and both literals of c are divisibilities with x: `merge_rule` applies.
 #[tactic(auto, using(crate::proofs::Placing::places))]
 pub fn has_divisibilities_at(c: &Clause, x: u32, i: usize, j: usize) -> bool
     ensures { result ≡ applies x c.now (Merge i j) }

@@ -208,24 +208,6 @@ fn by_literal(
     Ok(in_form(alloc, literals)?)
 }
 
-/// The rule of the equation at i, on a clause that is handed over.
-#[tactic(auto, using(purse::proofs::Charging::charging))]
-fn equation_performed(
-    alloc: Global,
-    c: Clause,
-    x: u32,
-    i: usize,
-    purse: &mut Purse,
-) -> Result<Items<Clause>, StepFault>
-    requires { applies x c (Equation i) ≡ true }
-    ensures { Charged (rule x c (Equation i)) purse.old result purse.new }
-{
-    purse.step(whole_charge(alloc, &c)?)?;
-    let mut rest = c.into_literals();
-    let l = rest.remove(i);
-    by_literal(alloc, x, rest.as_slice(), &l)
-}
-
 /// The rule of the equation at i, on a clause that is handed over: what it leaves is without x, and true exactly where the
 /// clause is for some integer x.
 #[tactic(auto, using(purse::proofs::Charging::charging))]
@@ -242,6 +224,8 @@ pub fn equation_rule(
     ensures free { IfOk result (λ ds. All (λ d. list_any (has x) d ≡ false) ds) }
     ensures nearer { IfOk result (λ ds. All (λ d. measure x d < measure x c) ds) }
 {
-    c.know_clause();
-    equation_performed(alloc, c, x, i, purse)
+    purse.step(whole_charge(alloc, &c)?)?;
+    let mut rest = c.into_literals();
+    let l = rest.remove(i);
+    by_literal(alloc, x, rest.as_slice(), &l)
 }

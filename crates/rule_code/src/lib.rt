@@ -17,14 +17,14 @@ mod shift;
 mod sides;
 mod splinter;
 
-pub use apart::{apart_rule, free_ndiv};
+pub use apart::apart_rule;
 pub use applying::{
     has_divisibilities_at, has_equation_at, has_indivisibility_at, has_only_divisibility_at,
 };
 pub use dark_shadow::dark;
 pub use equation::equation_rule;
 pub use exact_shadow::exact;
-pub use merge::{merge_divs, merge_rule};
+pub use merge::merge_rule;
 pub use one_side::one_sided;
 pub use shift::shift_rule;
 pub use sides::{

@@ -2,7 +2,6 @@
 // they hold exactly where d1·d2 divides g·x + p·d2·t1 + q·d1·t2, and g divides a2·t1 − a1·t2, which is without x.
 
 ghost use Rattle.clause_set.specs.Bezout.{bezout};
-ghost use Rattle.clause_set.specs.Clauses.{found};
 ghost use Rattle.clause_set.specs.Formed.{IsNormalized};
 ghost use Rattle.clause_set.specs.Divisibilities.{merged_by as merged_by_work, with_name};
 ghost use Rattle.clause_set.specs.Literals.{HasDivisor, IsDivisor, term_of};
@@ -11,7 +10,7 @@ ghost use Rattle.clause_set.specs.Names.{is_equation, product};
 ghost use Rattle.clause_set.specs.Order.{divisor_of};
 ghost use Rattle.clause_set.specs.Rules.{applies, measure, rule};
 ghost use Rattle.clause_set.specs.declared.literal.Literal.TheVariants.{Div};
-ghost use Rattle.rule_code.specs.Answers.{bezout_of, with_first};
+ghost use Rattle.rule_code.specs.Answers.{bezout_of};
 ghost use Rattle.rule_code.specs.Congruences.{IsCongruence, merge_numbers, merged_beside};
 ghost use Rattle.linear_term.specs.Linear.{coef_of, mentions};
 ghost use Rattle.linear_term.specs.Range.{InRange, stays};
@@ -23,7 +22,7 @@ ghost use Rattle.std.specs.List.{list_any};
 ghost use Rattle.std.specs.Prelude.{◌≡◌, ◌<◌, ◌<ℤ◌, ◌*ℤ◌, ◌↔◌, ℤ, List, [], ◌∷◌, All, false, IfErr, IfOk, OnOk, Ok, Err, pos, true};
 
 use super::numbers::{Cofactors, coefficients, multiplied, opposite, times, with_name};
-use super::parts::{divisor, first};
+use super::parts::divisor;
 use clause_set::{Clause, Literal};
 use linear_term::Term;
 use purse::{Purse, StepFault};
@@ -119,26 +118,6 @@ fn merged(
     merged_by(alloc, x, rest, &z, l, m)
 }
 
-/// The rule of the divisibilities at i and j on a clause that is handed over: its other literals are moved.
-#[tactic(auto, using(purse::proofs::Charging::charging))]
-fn merge_performed(
-    alloc: Global,
-    c: Clause,
-    x: u32,
-    i: usize,
-    j: usize,
-    purse: &mut Purse,
-) -> Result<Items<Clause>, StepFault>
-    requires { applies x c (Merge i j) ≡ true }
-    ensures { Charged (rule x c (Merge i j)) purse.old result purse.new }
-{
-    purse.step(whole_charge(alloc, &c)?)?;
-    let mut rest = c.into_literals();
-    let m = rest.remove(j);
-    let l = rest.remove(i);
-    merged(alloc, x, rest, &l, &m)
-}
-
 /// The rule of the divisibilities at i and j on a clause that is handed over: what it leaves has one divisibility of x in
 /// place of both, and is true at the same integers.
 #[tactic(auto, using(purse::proofs::Charging::charging))]
@@ -155,43 +134,9 @@ pub fn merge_rule(
     ensures exact { IfOk result (λ ds. (e : List ℤ) → IsMet (c ∷ []) x e ↔ IsMet ds x e) }
     ensures nearer { list_any (is_equation x) c ≡ false → IfOk result (λ ds. All (λ d. measure x d < measure x c) ds) }
 {
-    c.know_clause();
-    merge_performed(alloc, c, x, i, j, purse)
-}
-
-/// The same of a clause of the caller's, which is copied.
-#[tactic(auto, using(purse::proofs::Charging::charging))]
-fn merge_clauses(
-    alloc: Global,
-    c: &Clause,
-    x: u32,
-    i: usize,
-    j: usize,
-    purse: &mut Purse,
-) -> Result<Items<Clause>, StepFault>
-    requires { applies x c.now (Merge i j) ≡ true }
-    ensures { Charged (rule x c.now (Merge i j)) purse.old result purse.new }
-{
-    merge_rule(alloc, c.copy(alloc)?, x, i, j, purse)
-}
-
-/// The rule of the divisibilities at i and j: the clause with one divisibility of x in place of both, true at the same
-/// integers. None where that is found to be false.
-#[tactic(auto, using(purse::proofs::Charging::charging))]
-pub fn merge_divs(
-    alloc: Global,
-    c: &Clause,
-    x: u32,
-    i: usize,
-    j: usize,
-    purse: &mut Purse,
-) -> Result<Option<Clause>, StepFault>
-    requires { applies x c.now (Merge i j) ≡ true }
-    ensures work { Charged (with_first (rule x c.now (Merge i j))) purse.old result purse.new }
-    ensures exact { IfOk result (λ r. (e : List ℤ) → IsMet (c.now ∷ []) x e ↔ IsMet (found r) x e) }
-    ensures nearer { list_any (is_equation x) c.now ≡ false → IfOk result (λ r. All (λ d. measure x d < measure x c.now) (found r)) }
-{
-    c.know_clause();
-    let clauses = merge_clauses(alloc, c, x, i, j, purse)?;
-    Ok(first(clauses))
+    purse.step(whole_charge(alloc, &c)?)?;
+    let mut rest = c.into_literals();
+    let m = rest.remove(j);
+    let l = rest.remove(i);
+    merged(alloc, x, rest, &l, &m)
 }

@@ -148,25 +148,6 @@ fn own_coefficients(x: u32, l: &Literal) -> Cofactors
     coefficients(l.term().coef(x), divisor(l))
 }
 
-/// The rule of the only divisibility, at i, on a clause that is handed over.
-#[tactic(auto, using(purse::proofs::Charging::charging))]
-fn shift_performed(
-    alloc: Global,
-    c: Clause,
-    x: u32,
-    i: usize,
-    purse: &mut Purse,
-) -> Result<Items<Clause>, StepFault>
-    requires { applies x c (Shift i) ≡ true }
-    ensures { Charged (rule x c (Shift i)) purse.old result purse.new }
-{
-    purse.step(whole_charge(alloc, &c)?)?;
-    let mut rest = c.into_literals();
-    let l = rest.remove(i);
-    let z = own_coefficients(x, &l);
-    shift_by(alloc, x, rest.as_slice(), &z, &l)
-}
-
 /// The rule of the only divisibility, at i, on a clause that is handed over: what it leaves is without the divisibility, x
 /// counts its solutions, and it is true exactly where the clause is for some integer x.
 #[tactic(auto, using(purse::proofs::Charging::charging))]
@@ -182,6 +163,9 @@ pub fn shift_rule(
     ensures exact { IfOk result (λ ds. (e : List ℤ) → IsMet (c ∷ []) x e ↔ IsMet ds x e) }
     ensures nearer { IfOk result (λ ds. All (λ d. measure x d < measure x c) ds) }
 {
-    c.know_clause();
-    shift_performed(alloc, c, x, i, purse)
+    purse.step(whole_charge(alloc, &c)?)?;
+    let mut rest = c.into_literals();
+    let l = rest.remove(i);
+    let z = own_coefficients(x, &l);
+    shift_by(alloc, x, rest.as_slice(), &z, &l)
 }

@@ -6,19 +6,19 @@ use Rattle.parameter_solver.specs.Splits.{splitting}
 use Rattle.parameter_solver.proofs.Parting.{found_at, apart_place, merge_place, split_apart, split_merge, split_no, split_one, rule_ok, rule_err, rule_none}
 use Rattle.parameter_solver.proofs.steps.split.Goals as goal
 
-pub free_ndiv-requires : goal.free_ndiv-requires
-free_ndiv-requires c =
+pub apart-requires : goal.apart-requires
+apart-requires c =
     apart_place c.args.j c.in-Some.i c.args.c.now (found_at (is_indivisibility c.args.j) c.literals.result.now c.args.c.now c.indivisibility_place.result (Some c.in-Some.i) c.literals.ensures c.indivisibility_place.ensures c.in-Some.is)
 
-pub returns-in_err-free_ndiv : goal.returns-in_err-free_ndiv
-returns-in_err-free_ndiv c =
+pub returns-in_err-apart : goal.returns-in_err-apart
+returns-in_err-apart c =
     let at = found_at (is_indivisibility c.args.j) c.literals.result.now c.args.c.now c.indivisibility_place.result (Some c.in-Some.i) c.literals.ensures c.indivisibility_place.ensures c.in-Some.is in
-    rule_err (splitting c.args.j c.args.c.now) (rule c.args.j c.args.c.now (Apart c.in-Some.i)) _ c.from_residual.result (split_apart c.args.j c.in-Some.i c.args.c.now at) c.in_err-free_ndiv.ensures.work c.from_residual.ensures.1
+    rule_err (splitting c.args.j c.args.c.now) (rule c.args.j c.args.c.now (Apart c.in-Some.i)) _ c.from_residual.result (split_apart c.args.j c.in-Some.i c.args.c.now at) c.in_err-apart.ensures c.from_residual.ensures.1
 
 pub returns-in-Some : goal.returns-in-Some
 returns-in-Some c =
     let at = found_at (is_indivisibility c.args.j) c.literals.result.now c.args.c.now c.indivisibility_place.result (Some c.in-Some.i) c.literals.ensures c.indivisibility_place.ensures c.in-Some.is in
-    rule_ok (splitting c.args.j c.args.c.now) (rule c.args.j c.args.c.now (Apart c.in-Some.i)) _ (split_apart c.args.j c.in-Some.i c.args.c.now at) c.in_ok-free_ndiv.ensures.work
+    rule_ok (splitting c.args.j c.args.c.now) (rule c.args.j c.args.c.now (Apart c.in-Some.i)) _ (split_apart c.args.j c.in-Some.i c.args.c.now at) c.in_ok-apart.ensures
 
 pub returns-in_default-divisibility_place : goal.returns-in_default-divisibility_place
 returns-in_default-divisibility_place c =

@@ -8,14 +8,14 @@ loop-r-init c = remainders_begin (remainder_beside c.args.rest c.args.l.now) c.a
 
 pub loop-r-preserved : goal.loop-r-preserved
 loop-r-preserved c = (
-  remainders_more (remainder_beside c.args.rest c.args.l.now) c.loop-r.r c.args.count c.loop-r.out _ _ c.loop-r-test.true c.loop-r.invariant.0 (remainder_copied c.args.rest c.in_ok-copy.copy c.args.l.now c.loop-r.r _ (c.in_ok-copy.ensures ∙ c.as_slice.ensures) c.in_ok-with_remainder.ensures) c.in_ok-append.ensures,
+  remainders_more (remainder_beside c.args.rest c.args.l.now) c.loop-r.r c.args.count c.loop-r.out _ _ c.loop-r-test.true c.loop-r.invariant.0 (remainder_copied c.args.rest c.in_ok-copies.copies c.args.l.now c.loop-r.r _ (c.in_ok-copies.ensures ∙ c.as_slice.ensures) c.in_ok-with_remainder.ensures) c.in_ok-append.ensures,
   let lt = c.loop-r-test.true in omega arith,
 )
 
 pub returns-in_err-with_remainder : goal.returns-in_err-with_remainder
 returns-in_err-with_remainder c =
     remainders_fail (remainder_beside c.args.rest c.args.l.now) c.loop-r.r c.args.count c.loop-r.out c.from_residual-in_err-with_remainder.result c.loop-r.invariant.0 c.from_residual-in_err-with_remainder.ensures.1
-    (remainder_copied c.args.rest c.in_ok-copy.copy c.args.l.now c.loop-r.r _ (c.in_ok-copy.ensures ∙ c.as_slice.ensures) c.in_err-with_remainder.ensures)
+    (remainder_copied c.args.rest c.in_ok-copies.copies c.args.l.now c.loop-r.r _ (c.in_ok-copies.ensures ∙ c.as_slice.ensures) c.in_err-with_remainder.ensures)
 
 pub returns-in_err-with_remainder-2 : goal.returns-in_err-with_remainder-2
 returns-in_err-with_remainder-2 c =
