@@ -92,7 +92,7 @@ fn push_joined(alloc: Global, c: &Clause, e: &Clause, out: &mut Items<Clause>) -
 }
 
 /// The clause alone; none where there is none.
-pub fn found(alloc: Global, c: Option<Clause>) -> Result<Items<Clause>, Memory>
+pub(crate) fn found(alloc: Global, c: Option<Clause>) -> Result<Items<Clause>, Memory>
     ensures { IfOk result (λ cs. cs ≡ found c) }
 {
     let mut out = Items::new(alloc);

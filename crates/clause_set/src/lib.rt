@@ -21,7 +21,6 @@ mod table;
 pub mod weight;
 
 pub use clause::{Clause, copy_literals, normal};
-pub use clauses::found;
 pub use dnf::{Dnf, and, or, or_into};
 pub use laws::{
     canonical_law, covers_law, form_law, formed_law, free_law, intervals_law, kept_law,
