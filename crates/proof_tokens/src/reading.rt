@@ -4,7 +4,7 @@ ghost use Rattle.proof_tokens.specs.Reading.{Cuts, RefusesNext};
 ghost use Rattle.proof_tokens.specs.Spellings.{IsRangedToken};
 ghost use Rattle.std.specs.Prelude.{◌≡◌, ◌<◌, [], ◌∷◌, length, true, false, IfErr, IfOk, IfSome, MatchOption};
 
-use crate::ahead::figure_ahead;
+use crate::ahead::{figure_ahead, row_word_ahead};
 use crate::scanner::first_piece;
 use crate::tokens::Token;
 use linear_term::Memory;
@@ -46,6 +46,9 @@ pub fn next(text: &[u8]) -> Option<(Token, &[u8])>
     ensures ranged { IfSome result (λ x. IsRangedToken x.0) }
 {
     if let Some((token, rest)) = figure_ahead(text) {
+        return Some((token, rest));
+    }
+    if let Some((token, rest)) = row_word_ahead(text) {
         return Some((token, rest));
     }
     let piece = first_piece(text)?;
