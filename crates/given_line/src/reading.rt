@@ -2,7 +2,7 @@
 
 ghost use Rattle.given_line.specs.Text.{AreClauses, gives_text};
 ghost use Rattle.proof_tokens.specs.Reading.{Cuts, RefusesProof};
-ghost use Rattle.std.specs.Prelude.{◌≡◌, ◌∷◌, [], IfErr, IfOk};
+ghost use Rattle.std.specs.Prelude.{◌≡◌, ◌∷◌, [], IfErr, IfOk, IfSome};
 
 use crate::draft::Draft;
 use crate::machine::step;
@@ -23,16 +23,35 @@ fn one_true(alloc: Global) -> Result<Items<Items<Literal>>, Memory>
     Ok(clauses)
 }
 
+/// The text behind the line `gives true`; none where another line comes.
+pub fn given_true(text: &[u8]) -> Option<&[u8]>
+    ensures { IfSome result (λ rest. Cuts (gives_text ([] ∷ [])) text.now rest.now) }
+{
+    let Ok(inner) = word(text, Word::Gives) else {
+        return None;
+    };
+    let rest = true_line(inner)?;
+    Some(rest)
+}
+
 /// The line `gives`: its clauses, and the text behind it.
 pub fn given(alloc: Global, text: &[u8]) -> Result<(Items<Items<Literal>>, &[u8]), Refusal>
     ensures found { IfOk result (λ x. AreClauses x.0 × Cuts (gives_text x.0) text.now x.1.now) }
     ensures first { IfErr result (RefusesProof AreClauses gives_text text.now) }
 {
-    let mut rest = word(text, Word::Gives)?;
-    if let Some(more) = true_line(rest) {
+    if let Some(rest) = given_true(text) {
         let clauses = one_true(alloc)?;
-        return Ok((clauses, more));
+        return Ok((clauses, rest));
     }
+    any_given(alloc, text)
+}
+
+/// The line `gives`, whatever it says: its clauses, and the text behind it.
+fn any_given(alloc: Global, text: &[u8]) -> Result<(Items<Items<Literal>>, &[u8]), Refusal>
+    ensures found { IfOk result (λ x. AreClauses x.0 × Cuts (gives_text x.0) text.now x.1.now) }
+    ensures first { IfErr result (RefusesProof AreClauses gives_text text.now) }
+{
+    let mut rest = word(text, Word::Gives)?;
     let mut draft = Draft::new(alloc);
     let mut place = Place::Behind(Last::Start);
     'tokens: loop {

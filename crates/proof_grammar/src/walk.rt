@@ -129,7 +129,7 @@ impl Walk {
     }
 
     /// The log of a node has come.
-    fn note(&mut self)
+    pub(crate) fn note(&mut self)
         ensures owed { (m : ℕ) (os : List Owed) → owed_of self.old ≡ o.Log m ∷ os → owed_of self.new ≡ os }
         ensures parts { self.new.parts ≡ self.old.parts }
     {
@@ -144,7 +144,7 @@ impl Walk {
     }
 
     /// The constraint of a node has come.
-    fn leave(&mut self)
+    pub(crate) fn leave(&mut self)
         ensures owed { (os : List Owed) → owed_of self.old ≡ o.Gives ∷ os → owed_of self.new ≡ os }
         ensures parts { self.new.parts ≡ self.old.parts }
     {

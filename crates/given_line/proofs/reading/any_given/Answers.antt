@@ -5,7 +5,7 @@ use Rattle.given_line.specs.Places.{state_of, move_of}
 use Rattle.given_line.specs.Text.{AreClauses, gives_text}
 use Rattle.given_line.proofs.Gives.{goes_far, goes_on, ends, ends_clause, at_end, at_bad, no_gives}
 use Rattle.given_line.proofs.Loop.{fine_in_range}
-use Rattle.given_line.proofs.reading.given.Goals as goal
+use Rattle.given_line.proofs.reading.any_given.Goals as goal
 
 pub returns-in_err-rest-clause-first : goal.returns-in_err-rest-clause-first
 returns-in_err-rest-clause-first c =
@@ -47,7 +47,7 @@ tokens-preserved c =
     (ap (λ p. move_of p c.step.new.draft) c.in-On.is) c.in-Some-next.ensures.ranged c.in-Some-next.ensures.exact.0
     (goes_far (state_of c.tokens.place c.tokens.draft) (state_of c.in_ok-at.at c.skim.new.draft) c.args.text.now c.tokens.rest.now c.in_ok-at.ahead.now c.in_ok-at.ensures.exact c.tokens.invariant)
 
-pub returns-in-Some-end_ahead-clause-found : goal.returns-in-Some-end_ahead-clause-found
-returns-in-Some-end_ahead-clause-found c =
-    ends_clause c.in_ok-at.at c.skim.new.draft c.end_clause.new.self.clauses c.args.text.now c.in_ok-at.ahead.now c.in-Some-end_ahead.more.now c.in-Some-end_ahead.ensures.0 (search rules) c.in-Some-end_ahead.ensures.1
+pub returns-in-Some-clause-found : goal.returns-in-Some-clause-found
+returns-in-Some-clause-found c =
+    ends_clause c.in_ok-at.at c.skim.new.draft c.end_clause.new.self.clauses c.args.text.now c.in_ok-at.ahead.now c.in-Some.more.now c.in-Some.ensures.0 (search rules) c.in-Some.ensures.1
     (goes_far (state_of c.tokens.place c.tokens.draft) (state_of c.in_ok-at.at c.skim.new.draft) c.args.text.now c.tokens.rest.now c.in_ok-at.ahead.now c.in_ok-at.ensures.exact c.tokens.invariant)
