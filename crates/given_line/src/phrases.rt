@@ -163,20 +163,6 @@ fn true_clause<'a>(draft: &Draft, text: &'a [u8]) -> (Place, &'a [u8])
     }
 }
 
-/// The text behind a blank, the word `true` and the end of the line, where these come; none elsewhere.
-pub fn true_line(text: &[u8]) -> Option<&[u8]>
-    ensures { IfSome result (λ rest. Cuts (t.Blank ∷ t.True ∷ t.LineFeed ∷ []) text.now rest.now) }
-{
-    let Ok(inner) = blank(text) else {
-        return None;
-    };
-    let end = true_ahead(inner)?;
-    let Ok(rest) = line_feed(end) else {
-        return None;
-    };
-    Some(rest)
-}
-
 /// The text behind the end of the line, where that comes behind a clause; none elsewhere.
 pub fn end_ahead(place: Place, text: &[u8]) -> Option<&[u8]>
     ensures { MatchOption result ((rest : List ℕ) → place ≡ p.Behind w.Clause → Cuts (t.LineFeed ∷ []) text.now rest → ⊥) (λ rest. (place ≡ p.Behind w.Clause) × Cuts (t.LineFeed ∷ []) text.now rest.now) }

@@ -6,11 +6,11 @@ ghost use Rattle.std.specs.Prelude.{◌≡◌, ◌∷◌, [], IfErr, IfOk, IfSom
 
 use crate::draft::Draft;
 use crate::machine::step;
-use crate::phrases::{end_ahead, skim, true_line};
+use crate::phrases::{end_ahead, skim};
 use crate::place::{Last, Place, Progress};
 use clause_set::Literal;
 use linear_term::Memory;
-use proof_tokens::{Refusal, Word, next, word};
+use proof_tokens::{Refusal, Word, behind_bytes, next, word};
 use sqlite_items::Items;
 use std::alloc::Global;
 
@@ -27,10 +27,7 @@ fn one_true(alloc: Global) -> Result<Items<Items<Literal>>, Memory>
 pub fn given_true(text: &[u8]) -> Option<&[u8]>
     ensures { IfSome result (λ rest. Cuts (gives_text ([] ∷ [])) text.now rest.now) }
 {
-    let Ok(inner) = word(text, Word::Gives) else {
-        return None;
-    };
-    let rest = true_line(inner)?;
+    let rest = behind_bytes(text, b"gives true\n".as_slice())?;
     Some(rest)
 }
 

@@ -13,7 +13,7 @@ use crate::openings::{Opening, read_opening};
 use crate::walk::Walk;
 use given_line::given_true;
 use proof_line::{Fault, Owed, TextLine, line_for};
-use proof_tokens::{Word, line_feed, next, word};
+use proof_tokens::{behind_bytes, next};
 use std::alloc::Global;
 
 /// A line that is not wanted any longer.
@@ -38,12 +38,7 @@ fn pass_true<'a>(walk: &mut Walk, owed: Owed, text: &'a [u8]) -> Option<&'a [u8]
 fn bare_log(text: &[u8]) -> Option<&[u8]>
     ensures { IfSome result (λ rest. Cuts (log_text []) text.now rest.now) }
 {
-    let Ok(end) = word(text, Word::Log) else {
-        return None;
-    };
-    let Ok(rest) = line_feed(end) else {
-        return None;
-    };
+    let rest = behind_bytes(text, b"log\n".as_slice())?;
     Some(rest)
 }
 

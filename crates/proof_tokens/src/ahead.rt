@@ -148,7 +148,7 @@ pub(crate) fn word_ahead<'a>(text: &'a [u8], word: &[u8]) -> Option<&'a [u8]>
 }
 
 /// The text behind these bytes, where they come first.
-fn behind_bytes<'a>(text: &'a [u8], front: &[u8]) -> Option<&'a [u8]>
+pub fn behind_bytes<'a>(text: &'a [u8], front: &[u8]) -> Option<&'a [u8]>
     ensures { MatchOption result ((rest : List ℕ) → text.now ≡ front.now ++ rest → ⊥) (λ rest. text.now ≡ front.now ++ rest.now) }
 {
     let mut rest = text;

@@ -48,9 +48,17 @@ pub fn next(text: &[u8]) -> Option<(Token, &[u8])>
     if let Some((token, rest)) = figure_ahead(text) {
         return Some((token, rest));
     }
-    if let Some((token, rest)) = row_word_ahead(text) {
-        return Some((token, rest));
-    }
     let piece = first_piece(text)?;
     Some((piece.token, text.split_at(piece.len).1))
+}
+
+/// The token that the text begins with, and the text behind it, as `next` says: the words of rules are found first.
+pub fn next_word(text: &[u8]) -> Option<(Token, &[u8])>
+    ensures exact { MatchOption result (text.now ≡ []) (λ x. Cuts (x.0 ∷ []) text.now x.1.now × (length x.1.now < length text.now)) }
+    ensures ranged { IfSome result (λ x. IsRangedToken x.0) }
+{
+    match row_word_ahead(text) {
+        Some((token, rest)) => Some((token, rest)),
+        None => next(text),
+    }
 }
