@@ -12,7 +12,9 @@ ghost use Rattle.proof_grammar.specs.Walks.{Advanced};
 use crate::openings::{Opening, read_opening};
 use crate::walk::Walk;
 use given_line::given_true;
-use proof_line::{Fault, Owed, TextLine, line_for};
+use limits::BRANCH_LIMIT;
+use linear_term::Memory;
+use proof_line::{Fault, Owed, TextLine, line_for, row};
 use proof_tokens::{behind_bytes, next};
 use std::alloc::Global;
 
@@ -56,6 +58,30 @@ fn pass_log<'a>(walk: &mut Walk, owed: Owed, text: &'a [u8]) -> Option<&'a [u8]>
     Some(behind)
 }
 
+/// Pays with the line of a rule, where a node is owed first on a level that there may be and that line comes, and gives the text
+/// behind it. Elsewhere nothing changes, nor at want of memory.
+fn pass_row<'a>(
+    walk: &mut Walk,
+    owed: Owed,
+    text: &'a [u8],
+) -> Result<Option<&'a [u8]>, Memory>
+    ensures some { IfOk result (λ r. IfSome r (λ behind. Advanced walk.old walk.new owed text.now behind.now)) }
+    ensures none { IfOk result (λ r. IfNone r (walk.new ≡ walk.old)) }
+    ensures unchanged { OnErr result (walk.new ≡ walk.old) }
+{
+    let Owed::Node(level, _) = owed else {
+        return Ok(None);
+    };
+    if level > BRANCH_LIMIT {
+        return Ok(None);
+    }
+    let Ok(((rule, count), behind)) = row(text) else {
+        return Ok(None);
+    };
+    walk.enter(level, rule, count)?;
+    Ok(Some(behind))
+}
+
 /// Reads the line that is owed first, and pays with it. Where none is read, nothing changes.
 fn advance<'a>(
     alloc: Global,
@@ -71,6 +97,9 @@ fn advance<'a>(
         return Ok(behind);
     }
     if let Some(behind) = pass_log(walk, owed, text) {
+        return Ok(behind);
+    }
+    if let Some(behind) = pass_row(walk, owed, text)? {
         return Ok(behind);
     }
     advance_by_line(alloc, walk, owed, text)

@@ -107,7 +107,7 @@ impl Walk {
     }
 
     /// The line that begins a node has come.
-    fn enter(&mut self, level: u32, rule: Pick, count: u32) -> Result<(), Memory>
+    pub(crate) fn enter(&mut self, level: u32, rule: Pick, count: u32) -> Result<(), Memory>
         requires { level ≤ branch_limit }
         ensures ok { OnOk result ((m : ℕ) (os : List Owed) → owed_of self.old ≡ o.Node level m ∷ os → owed_of self.new ≡ nodes_owed m count (level + 1) ++ last_owed m rule ++ os) }
         ensures parts { OnOk result (self.new.parts ≡ self.old.parts) }

@@ -6,8 +6,6 @@ use Rattle.std.specs.Char.{is_ascii_digit}
 use Rattle.std.specs.Fmt.{decimal}
 use Rattle.std.proofs.lemmas.Bool.{lt-ltb}
 use Rattle.std.proofs.lemmas.List.{take-append-drop, length-append}
-use Rattle.std.proofs.lemmas.Slice.Eq.{bytes_eq-Decides}
-use Rattle.std.specs.Str.{bytes_eq}
 use Rattle.numerals.specs.Numerals.{decimal_value, with_digits}
 use Rattle.numerals.proofs.Digits.{with_digits_grows}
 use Rattle.numerals.proofs.Tests.{left_true, right_true}

@@ -4,8 +4,6 @@ use Rattle.std.specs.Prelude.{codes, slice_index}
 use Rattle.std.specs.List.{list_all}
 use Rattle.std.specs.Char.{is_ascii_digit, is_ascii_alphabetic}
 use Rattle.std.specs.Fmt.{decimal}
-use Rattle.std.specs.Str.{bytes_eq}
-use Rattle.std.proofs.lemmas.Slice.Eq.{bytes_eq-Decides}
 use Rattle.std.proofs.lemmas.List.{append_cancel_left, length-append}
 use Rattle.numerals.specs.Numerals.{decimal_value}
 use Rattle.proof_tokens.specs.declared.tokens.Token.TheVariants as t

@@ -1,4 +1,4 @@
-use Rattle.std.proofs.Common.{rules, ap, ◌∙◌, ◌++◌}
+use Rattle.std.proofs.Common.{ap, ◌∙◌, ◌++◌}
 use Rattle.proof_tokens.proofs.Fronts.{word_front, word_longer}
 use Rattle.proof_tokens.proofs.ahead.row_word_ahead.Goals as goal
 
