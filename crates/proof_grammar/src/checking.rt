@@ -60,11 +60,7 @@ fn pass_log<'a>(walk: &mut Walk, owed: Owed, text: &'a [u8]) -> Option<&'a [u8]>
 
 /// Pays with the line of a rule, where a node is owed first on a level that there may be and that line comes, and gives the text
 /// behind it. Elsewhere nothing changes, nor at want of memory.
-fn pass_row<'a>(
-    walk: &mut Walk,
-    owed: Owed,
-    text: &'a [u8],
-) -> Result<Option<&'a [u8]>, Memory>
+fn pass_row<'a>(walk: &mut Walk, owed: Owed, text: &'a [u8]) -> Result<Option<&'a [u8]>, Memory>
     ensures some { IfOk result (λ r. IfSome r (λ behind. Advanced walk.old walk.new owed text.now behind.now)) }
     ensures none { IfOk result (λ r. IfNone r (walk.new ≡ walk.old)) }
     ensures unchanged { OnErr result (walk.new ≡ walk.old) }
