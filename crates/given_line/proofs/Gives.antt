@@ -1,5 +1,6 @@
 -- Where the machine of a line `gives` stands in the bytes, and how it ends.
 use Rattle.std.proofs.Common.{ℕ, ◌≡◌, List, [], ◌∷◌, ◌++◌, drop, length, refl, sym, ap, subst, ◌∙◌, append_assoc, append-nil}
+use Rattle.std.specs.Prelude.{codes}
 use Rattle.clause_set.specs.declared.literal.Literal.{Literal}
 use Rattle.proof_tokens.specs.declared.tokens.Token.{Token}
 use Rattle.proof_tokens.specs.declared.tokens.Token.TheVariants as t
@@ -9,6 +10,7 @@ use Rattle.proof_tokens.specs.declared.reading.Refusal.{Refusal}
 use Rattle.proof_tokens.specs.declared.scanner.Piece.{Piece}
 use Rattle.proof_tokens.proofs.Cutting.{cut_append, some_same}
 use Rattle.proof_tokens.proofs.Refusals.{no_word}
+use Rattle.proof_tokens.proofs.Respelled.{cut_back}
 use Rattle.given_line.specs.declared.draft.Draft.{Draft}
 use Rattle.given_line.specs.declared.place.Last.TheVariants as w
 use Rattle.given_line.specs.declared.place.Place.{Place}
@@ -81,6 +83,12 @@ ends_clause place g d bytes rest more is e c h =
 
 whole : (d : List (List Literal)) → AreClauses d → run line_moves gives_read (dnf_text d ++ t.LineFeed ∷ []) ≡ read d []
 whole d a = ap (run line_moves gives_read) (sym (append-nil (dnf_text d ++ t.LineFeed ∷ []))) ∙ complete d [] a
+
+-- the bytes of the line `gives true`
+pub true_cut : (text word rest : List ℕ) → word ≡ codes "gives true\n" → text ≡ word ++ rest → Cuts (gives_text ([] ∷ [])) text rest
+true_cut text word rest is e =
+    subst (λ z. Cuts (gives_text ([] ∷ [])) z rest) (sym (e ∙ ap (λ w. w ++ rest) is))
+    (cut_back (gives_text ([] ∷ [])) rest (tt, (λ _. refl), (tt, (λ h. absurd (cc)), (tt, (λ _. refl), (tt, (λ h. absurd (cc)), tt)))))
 
 -- no text goes on so
 none_goes_on : (z : GivenState) (x : Token) (inner more : List Token) (d : List (List Literal)) → AreClauses d → ((xs : List Token) → run line_moves gives_read (inner ++ xs) ≡ run line_moves z xs) → moves z x ≡ m.Bad

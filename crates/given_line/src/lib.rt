@@ -11,4 +11,4 @@ mod reading;
 mod signs;
 
 pub use laws::given_law;
-pub use reading::given;
+pub use reading::{given, given_true};

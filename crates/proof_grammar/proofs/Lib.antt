@@ -1,6 +1,7 @@
 pub mod Leading
 pub mod Trees
 pub mod Walking
+pub mod Passing
 pub mod Inner
 pub mod Deep
 pub mod Standing

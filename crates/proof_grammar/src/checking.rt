@@ -1,6 +1,8 @@
 // Whether bytes are the text of a proof.
 
-ghost use Rattle.std.specs.Prelude.{◌≡◌, [], length, IfErr, IfOk, OnErr, OnOk};
+ghost use Rattle.proof_tokens.specs.Lines.{log_text};
+ghost use Rattle.proof_tokens.specs.Reading.{Cuts};
+ghost use Rattle.std.specs.Prelude.{◌≡◌, [], length, IfErr, IfNone, IfOk, IfSome, OnErr, OnOk};
 ghost use Rattle.proof_line.specs.Faults.{RefusesLine};
 ghost use Rattle.proof_line.specs.declared.text.Fault.TheVariants as f;
 ghost use Rattle.proof_grammar.specs.Refusals.{HoldsSome, RefusesText};
@@ -9,8 +11,11 @@ ghost use Rattle.proof_grammar.specs.Walks.{Advanced};
 
 use crate::openings::{Opening, read_opening};
 use crate::walk::Walk;
-use proof_line::{Fault, Owed, TextLine, line_for};
-use proof_tokens::next;
+use given_line::given_true;
+use limits::BRANCH_LIMIT;
+use linear_term::Memory;
+use proof_line::{Fault, Owed, TextLine, line_for, row};
+use proof_tokens::{behind_bytes, next};
 use std::alloc::Global;
 
 /// A line that is not wanted any longer.
@@ -18,8 +23,86 @@ pub(crate) fn discard(line: TextLine) {
     let _ = &line;
 }
 
+/// Pays with the line `gives true`, where that is owed first and comes, and gives the text behind it. Elsewhere nothing changes.
+fn pass_true<'a>(walk: &mut Walk, owed: Owed, text: &'a [u8]) -> Option<&'a [u8]>
+    ensures some { IfSome result (λ behind. Advanced walk.old walk.new owed text.now behind.now) }
+    ensures none { IfNone result (walk.new ≡ walk.old) }
+{
+    let Owed::Gives = owed else {
+        return None;
+    };
+    let behind = given_true(text)?;
+    walk.leave();
+    Some(behind)
+}
+
+/// The text behind the line `log` with no entry; none where another line comes.
+fn bare_log(text: &[u8]) -> Option<&[u8]>
+    ensures { IfSome result (λ rest. Cuts (log_text []) text.now rest.now) }
+{
+    let rest = behind_bytes(text, b"log\n".as_slice())?;
+    Some(rest)
+}
+
+/// Pays with the line `log` with no entry, where a log is owed first and that line comes, and gives the text behind it. Elsewhere
+/// nothing changes.
+fn pass_log<'a>(walk: &mut Walk, owed: Owed, text: &'a [u8]) -> Option<&'a [u8]>
+    ensures some { IfSome result (λ behind. Advanced walk.old walk.new owed text.now behind.now) }
+    ensures none { IfNone result (walk.new ≡ walk.old) }
+{
+    let Owed::Log(_) = owed else {
+        return None;
+    };
+    let behind = bare_log(text)?;
+    walk.note();
+    Some(behind)
+}
+
+/// Pays with the line of a rule, where a node is owed first on a level that there may be and that line comes, and gives the text
+/// behind it. Elsewhere nothing changes, nor at want of memory.
+fn pass_row<'a>(walk: &mut Walk, owed: Owed, text: &'a [u8]) -> Result<Option<&'a [u8]>, Memory>
+    ensures some { IfOk result (λ r. IfSome r (λ behind. Advanced walk.old walk.new owed text.now behind.now)) }
+    ensures none { IfOk result (λ r. IfNone r (walk.new ≡ walk.old)) }
+    ensures unchanged { OnErr result (walk.new ≡ walk.old) }
+{
+    let Owed::Node(level, _) = owed else {
+        return Ok(None);
+    };
+    if level > BRANCH_LIMIT {
+        return Ok(None);
+    }
+    let Ok(((rule, count), behind)) = row(text) else {
+        return Ok(None);
+    };
+    walk.enter(level, rule, count)?;
+    Ok(Some(behind))
+}
+
 /// Reads the line that is owed first, and pays with it. Where none is read, nothing changes.
 fn advance<'a>(
+    alloc: Global,
+    walk: &mut Walk,
+    owed: Owed,
+    text: &'a [u8],
+) -> Result<&'a [u8], Fault>
+    ensures ok { IfOk result (λ behind. Advanced walk.old walk.new owed text.now behind.now) }
+    ensures err { IfErr result (RefusesLine owed text.now) }
+    ensures unchanged { OnErr result (walk.new ≡ walk.old) }
+{
+    if let Some(behind) = pass_true(walk, owed, text) {
+        return Ok(behind);
+    }
+    if let Some(behind) = pass_log(walk, owed, text) {
+        return Ok(behind);
+    }
+    if let Some(behind) = pass_row(walk, owed, text)? {
+        return Ok(behind);
+    }
+    advance_by_line(alloc, walk, owed, text)
+}
+
+/// Reads the line that is owed first as a line, and pays with it. Where none is read, nothing changes.
+fn advance_by_line<'a>(
     alloc: Global,
     walk: &mut Walk,
     owed: Owed,

@@ -107,7 +107,7 @@ impl Walk {
     }
 
     /// The line that begins a node has come.
-    fn enter(&mut self, level: u32, rule: Pick, count: u32) -> Result<(), Memory>
+    pub(crate) fn enter(&mut self, level: u32, rule: Pick, count: u32) -> Result<(), Memory>
         requires { level ≤ branch_limit }
         ensures ok { OnOk result ((m : ℕ) (os : List Owed) → owed_of self.old ≡ o.Node level m ∷ os → owed_of self.new ≡ nodes_owed m count (level + 1) ++ last_owed m rule ++ os) }
         ensures parts { OnOk result (self.new.parts ≡ self.old.parts) }
@@ -129,7 +129,7 @@ impl Walk {
     }
 
     /// The log of a node has come.
-    fn note(&mut self)
+    pub(crate) fn note(&mut self)
         ensures owed { (m : ℕ) (os : List Owed) → owed_of self.old ≡ o.Log m ∷ os → owed_of self.new ≡ os }
         ensures parts { self.new.parts ≡ self.old.parts }
     {
@@ -144,7 +144,7 @@ impl Walk {
     }
 
     /// The constraint of a node has come.
-    fn leave(&mut self)
+    pub(crate) fn leave(&mut self)
         ensures owed { (os : List Owed) → owed_of self.old ≡ o.Gives ∷ os → owed_of self.new ≡ os }
         ensures parts { self.new.parts ≡ self.old.parts }
     {

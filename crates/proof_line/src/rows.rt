@@ -4,7 +4,7 @@ ghost use Rattle.proof_tokens.specs.Reading.{Cuts, RefusesNext, RefusesProof};
 ghost use Rattle.std.specs.Prelude.{◌≡◌, ◌∷◌, [], IfErr, IfOk};
 ghost use Rattle.proof_line.specs.Rows.{IsRow, IsRowWord, placed, row_line, word_token};
 
-use proof_tokens::{Refusal, Token, counted, line_feed, next, position};
+use proof_tokens::{Refusal, Token, counted, line_feed, next_word, position};
 use sequent::Pick;
 
 /// The word of a rule that has a position alone.
@@ -29,7 +29,7 @@ pub fn row_word(text: &[u8]) -> Result<(RowWord, &[u8]), Refusal>
     ensures found { IfOk result (λ x. Cuts (word_token x.0 ∷ []) text.now x.1.now) }
     ensures lacks { IfErr result (RefusesNext IsRowWord text.now) }
 {
-    let Some((token, rest)) = next(text) else {
+    let Some((token, rest)) = next_word(text) else {
         return Err(Refusal::Syntax(0));
     };
     match token {

@@ -6,8 +6,6 @@ use Rattle.std.specs.Char.{is_ascii_digit}
 use Rattle.std.specs.Fmt.{decimal}
 use Rattle.std.proofs.lemmas.Bool.{lt-ltb}
 use Rattle.std.proofs.lemmas.List.{take-append-drop, length-append}
-use Rattle.std.proofs.lemmas.Slice.Eq.{bytes_eq-Decides}
-use Rattle.std.specs.Str.{bytes_eq}
 use Rattle.numerals.specs.Numerals.{decimal_value, with_digits}
 use Rattle.numerals.proofs.Digits.{with_digits_grows}
 use Rattle.numerals.proofs.Tests.{left_true, right_true}
@@ -129,11 +127,6 @@ begins first behind h =
     let next = not (first == 48) || not (is_ascii_digit (slice_index behind 0)) in
     (left_true (is_ascii_digit first) next h, canonical_front first behind (right_true (is_ascii_digit first) next h))
 
--- bytes before the rest of a text
-pub behind_word : (text word front rest : List ℕ) → front ≡ take (length word) text → rest ≡ drop (length word) text → bytes_eq front word ≡ true → text ≡ word ++ rest
-behind_word text word front rest p q same =
-    sym (take-append-drop (length word) text) ∙ ap (λ z. z ++ drop (length word) text) (sym p ∙ (bytes_eq-Decides front word).0 same) ∙ ap (λ z. word ++ z) (sym q)
-
 -- a word at the front of a text
 pub word_front : (x : Token) (text rest : List ℕ) → IsProofToken x → text ≡ spelling x ++ rest → ends_word rest ≡ true → Cuts (x ∷ []) text rest
 word_front x text rest is e h = subst (λ z. Cuts (x ∷ []) z rest) (sym e) (one_back x rest is (λ _. ends rest h))
@@ -145,6 +138,9 @@ word_is_token w.Part = tt
 word_is_token w.Charges = tt
 word_is_token w.Log = tt
 word_is_token w.Gives = tt
+
+pub word_longer : (word text rest : List ℕ) → 0 < length word → text ≡ word ++ rest → length rest < length text
+word_longer word text rest some e = let p = ap length e ∙ length-append word rest in omega (arith, some, p)
 
 -- a name, or a number, at the front of a text
 pub name_front : (x : ℕ) (text behind rest : List ℕ) → x < 2 ^ 32 → text ≡ 99 ∷ behind → behind ≡ decimal x ++ rest → ends_word rest ≡ true → Cuts (t.Name x ∷ []) text rest

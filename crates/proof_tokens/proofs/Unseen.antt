@@ -4,9 +4,7 @@ use Rattle.std.specs.Prelude.{codes, slice_index}
 use Rattle.std.specs.List.{list_all}
 use Rattle.std.specs.Char.{is_ascii_digit, is_ascii_alphabetic}
 use Rattle.std.specs.Fmt.{decimal}
-use Rattle.std.specs.Str.{bytes_eq}
-use Rattle.std.proofs.lemmas.Slice.Eq.{bytes_eq-Decides}
-use Rattle.std.proofs.lemmas.List.{length-append}
+use Rattle.std.proofs.lemmas.List.{append_cancel_left, length-append}
 use Rattle.numerals.specs.Numerals.{decimal_value}
 use Rattle.proof_tokens.specs.declared.tokens.Token.TheVariants as t
 use Rattle.proof_tokens.specs.Lines.{IsName, IsSmallNumber}
@@ -81,14 +79,15 @@ pub goes_on_there : (text rest : List ℕ) → rest ≡ behind_digits text → e
 goes_on_there text rest is inside n other small h e =
     let same : rest ≡ other = is ∙ (digits_are n text other small (digits_end other h) e).1 in let f : ends_word other ≡ false = subst (λ z. ends_word z ≡ false) same inside in absurd (cc)
 
--- another word, or one that goes on
-pub other_word : (text word front : List ℕ) → front ≡ take (length word) text → bytes_eq front word ≡ false → (rest : List ℕ) → ends_word rest ≡ true → text ≡ word ++ rest → ⊥
-other_word text word front is other rest h e =
-    let same : bytes_eq front word ≡ true = (bytes_eq-Decides front word).1 (is ∙ ap (take (length word)) e ∙ take_all word rest) in absurd (cc)
+-- a text is a front and what is behind it exactly where `rest` is `left` and that
+pub record IsLeft (text front rest left : List ℕ) : Type 0 where
+  pub into : (more : List ℕ) → text ≡ front ++ more → rest ≡ left ++ more
+  pub back : (more : List ℕ) → rest ≡ left ++ more → text ≡ front ++ more
 
-pub longer_word : (text word behind : List ℕ) → behind ≡ drop (length word) text → ends_word behind ≡ false → (rest : List ℕ) → ends_word rest ≡ true → text ≡ word ++ rest → ⊥
+-- a word that goes on
+pub longer_word : (text word behind : List ℕ) → text ≡ word ++ behind → ends_word behind ≡ false → (rest : List ℕ) → ends_word rest ≡ true → text ≡ word ++ rest → ⊥
 longer_word text word behind is inside rest h e =
-    let f : ends_word rest ≡ false = subst (λ z. ends_word z ≡ false) (is ∙ ap (drop (length word)) e ∙ drop_all word rest) inside in absurd (cc)
+    let same : behind ≡ rest = append_cancel_left word behind rest (sym is ∙ e) in let f : ends_word rest ≡ false = subst (λ z. ends_word z ≡ false) same inside in absurd (cc)
 
 -- numbers, names and words as tokens
 nothing_more : (w rest : List ℕ) → (w ++ []) ++ rest ≡ w ++ rest

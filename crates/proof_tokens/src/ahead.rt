@@ -5,7 +5,7 @@ ghost use Rattle.numerals.specs.Numerals.{decimal_value};
 ghost use Rattle.proof_tokens.specs.Lines.{IsName, IsSmallNumber};
 ghost use Rattle.proof_tokens.specs.Reading.{Cuts, HasNoneEnded};
 ghost use Rattle.proof_tokens.specs.Scanning.{ends_digits, ends_word, HasNoNumber};
-ghost use Rattle.proof_tokens.specs.Spellings.{IsRangedToken};
+ghost use Rattle.proof_tokens.specs.Spellings.{IsProofToken, IsRangedToken, spelling};
 ghost use Rattle.proof_tokens.specs.declared.tokens.Token.TheVariants as t;
 ghost use Rattle.std.specs.Char.{is_ascii_digit};
 ghost use Rattle.std.specs.Fmt.{decimal};
@@ -143,11 +143,50 @@ pub(crate) fn word_ahead<'a>(text: &'a [u8], word: &[u8]) -> Option<&'a [u8]>
     ensures exact { MatchOption result ((rest : List ℕ) → ends_word rest ≡ true → text.now ≡ word.now ++ rest → ⊥) (λ rest. (text.now ≡ word.now ++ rest.now) × (ends_word rest.now ≡ true)) }
     ensures within { IfSome result (λ rest. length rest.now ≤ length text.now) }
 {
-    let (front, rest) = text.split_at_checked(word.len())?;
-    if front == word && ends_word(rest) {
-        Some(rest)
-    } else {
-        None
+    let rest = behind_bytes(text, word)?;
+    if ends_word(rest) { Some(rest) } else { None }
+}
+
+/// The text behind these bytes, where they come first.
+pub fn behind_bytes<'a>(text: &'a [u8], front: &[u8]) -> Option<&'a [u8]>
+    ensures { MatchOption result ((rest : List ℕ) → text.now ≡ front.now ++ rest → ⊥) (λ rest. text.now ≡ front.now ++ rest.now) }
+{
+    let mut rest = text;
+    for byte in front {
+        let (first, behind) = rest.split_first()?;
+        if *first != *byte {
+            return None;
+        }
+        rest = behind;
+    }
+    Some(rest)
+}
+
+/// The word of a rule that the text begins with, and the text behind it. None where it begins with another token, or where that
+/// takes a closer look.
+pub(crate) fn row_word_ahead(text: &[u8]) -> Option<(Token, &[u8])>
+    ensures exact { IfSome result (λ x. Cuts (x.0 ∷ []) text.now x.1.now × (length x.1.now < length text.now)) }
+    ensures ranged { IfSome result (λ x. IsRangedToken x.0) }
+{
+    let (first, _behind) = text.split_first()?;
+    let (token, letters) = row_word_with(*first)?;
+    let rest = word_ahead(text, letters)?;
+    Some((token, rest))
+}
+
+/// The word of a rule with this first letter, and how it is written.
+fn row_word_with(first: u8) -> Option<(Token, &'static [u8])>
+    ensures exact { IfSome result (λ x. IsProofToken x.0 × (x.1.now ≡ spelling x.0)) }
+    ensures some { IfSome result (λ x. 0 < length x.1.now) }
+{
+    match first {
+        b'a' => Some((Token::Alpha, b"alpha".as_slice())),
+        b'b' => Some((Token::Beta, b"beta".as_slice())),
+        b'c' => Some((Token::Close, b"close".as_slice())),
+        b'd' => Some((Token::Delta, b"delta".as_slice())),
+        b'g' => Some((Token::Gamma, b"gamma".as_slice())),
+        b't' => Some((Token::Trivial, b"trivial".as_slice())),
+        _ => None,
     }
 }
 

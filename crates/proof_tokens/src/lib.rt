@@ -13,14 +13,14 @@ mod tokens;
 mod words;
 mod writing;
 
-pub use ahead::{name_ahead, number_ahead, true_ahead};
+pub use ahead::{behind_bytes, name_ahead, number_ahead, true_ahead};
 pub use laws::{
     charges_law, cutting_law, head_law, part_law, said_law, spelling_law, values_law, written_law,
 };
 pub use lines::{charges, head};
 pub use numbers::{counted, position, values};
 pub use part_lines::{SaidLog, part, parts, said};
-pub use reading::{Refusal, next};
+pub use reading::{Refusal, next, next_word};
 pub use scanner::{Piece, first_piece};
 pub use single::{blank, line_feed, word};
 pub use tokens::{Token, Word};

@@ -4,7 +4,7 @@ ghost use Rattle.proof_tokens.specs.Reading.{Cuts, RefusesNext};
 ghost use Rattle.proof_tokens.specs.Spellings.{IsRangedToken};
 ghost use Rattle.std.specs.Prelude.{◌≡◌, ◌<◌, [], ◌∷◌, length, true, false, IfErr, IfOk, IfSome, MatchOption};
 
-use crate::ahead::figure_ahead;
+use crate::ahead::{figure_ahead, row_word_ahead};
 use crate::scanner::first_piece;
 use crate::tokens::Token;
 use linear_term::Memory;
@@ -50,4 +50,15 @@ pub fn next(text: &[u8]) -> Option<(Token, &[u8])>
     }
     let piece = first_piece(text)?;
     Some((piece.token, text.split_at(piece.len).1))
+}
+
+/// The token that the text begins with, and the text behind it, as `next` says: the words of rules are found first.
+pub fn next_word(text: &[u8]) -> Option<(Token, &[u8])>
+    ensures exact { MatchOption result (text.now ≡ []) (λ x. Cuts (x.0 ∷ []) text.now x.1.now × (length x.1.now < length text.now)) }
+    ensures ranged { IfSome result (λ x. IsRangedToken x.0) }
+{
+    match row_word_ahead(text) {
+        Some((token, rest)) => Some((token, rest)),
+        None => next(text),
+    }
 }

@@ -6,7 +6,7 @@ ghost use Rattle.proof_tokens.specs.Spellings.{token_of};
 ghost use Rattle.proof_tokens.specs.declared.tokens.Token.TheVariants as t;
 ghost use Rattle.std.specs.Prelude.{◌≡◌, ◌≤◌, ◌<◌, ◌^◌, ◌∷◌, [], cond, length, IfErr, IfOk};
 
-use crate::ahead::{entry_ahead, word_ahead};
+use crate::ahead::{entry_ahead, number_ahead, word_ahead};
 use crate::reading::{Refusal, next};
 use crate::tokens::{Token, Word};
 use purse::Entry;
@@ -46,9 +46,17 @@ pub fn word(text: &[u8], word: Word) -> Result<&[u8], Refusal>
     ensures found { IfOk result (λ rest. Cuts (token_of word ∷ []) text.now rest.now) }
     ensures lacks { IfErr result (RefusesNext (λ x. x ≡ token_of word) text.now) }
 {
-    if let Some(rest) = word_ahead(text, word.spelling()) {
-        return Ok(rest);
+    match word_ahead(text, word.spelling()) {
+        Some(rest) => Ok(rest),
+        None => word_token(text, word),
     }
+}
+
+/// The text behind this word, whatever stands there.
+fn word_token(text: &[u8], word: Word) -> Result<&[u8], Refusal>
+    ensures found { IfOk result (λ rest. Cuts (token_of word ∷ []) text.now rest.now) }
+    ensures lacks { IfErr result (RefusesNext (λ x. x ≡ token_of word) text.now) }
+{
     let Some((token, rest)) = next(text) else {
         return Err(Refusal::Syntax(0));
     };
@@ -61,6 +69,20 @@ pub fn word(text: &[u8], word: Word) -> Result<&[u8], Refusal>
 
 /// A number from `least` to `most`, and the text behind it.
 pub(crate) fn number_between(text: &[u8], least: u128, most: u128) -> Result<(u128, &[u8]), Refusal>
+    ensures found { IfOk result (λ x. (least ≤ x.0) × (x.0 ≤ most) × Cuts (t.Number x.0 ∷ []) text.now x.1.now) }
+    ensures shorter { IfOk result (λ x. length x.1.now < length text.now) }
+    ensures lacks { IfErr result (RefusesNext (IsNumberIn least most) text.now) }
+{
+    match number_ahead(text) {
+        Some((n, rest)) if least <= u128::from(n) && u128::from(n) <= most => {
+            Ok((u128::from(n), rest))
+        }
+        _ => number_token(text, least, most),
+    }
+}
+
+/// A number from `least` to `most`, whatever stands there, and the text behind it.
+fn number_token(text: &[u8], least: u128, most: u128) -> Result<(u128, &[u8]), Refusal>
     ensures found { IfOk result (λ x. (least ≤ x.0) × (x.0 ≤ most) × Cuts (t.Number x.0 ∷ []) text.now x.1.now) }
     ensures shorter { IfOk result (λ x. length x.1.now < length text.now) }
     ensures lacks { IfErr result (RefusesNext (IsNumberIn least most) text.now) }

@@ -5,7 +5,7 @@ use Rattle.given_line.specs.Places.{state_of, move_of}
 use Rattle.given_line.specs.Text.{AreClauses, gives_text}
 use Rattle.given_line.proofs.Gives.{goes_far, goes_on, ends, ends_clause, at_end, at_bad, no_gives}
 use Rattle.given_line.proofs.Loop.{fine_in_range}
-use Rattle.given_line.proofs.reading.given.Goals as goal
+use Rattle.given_line.proofs.reading.any_given.Goals as goal
 
 pub returns-in_err-rest-clause-first : goal.returns-in_err-rest-clause-first
 returns-in_err-rest-clause-first c =

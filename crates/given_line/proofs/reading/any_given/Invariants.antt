@@ -1,7 +1,7 @@
 use Rattle.std.proofs.Common.{length}
 use Rattle.given_line.specs.Places.{state_of}
 use Rattle.given_line.proofs.Gives.{Stands}
-use Rattle.given_line.proofs.reading.given.Given as goal
+use Rattle.given_line.proofs.reading.any_given.Given as goal
 
 abbrev pub invariant-tokens : goal.invariant-tokens
 invariant-tokens l = Stands (state_of l.place l.draft) l.text l.rest
