@@ -1,2 +1,3 @@
+pub mod Meetings
 pub mod Pairing
 pub mod Within
