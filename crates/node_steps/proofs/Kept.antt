@@ -1,5 +1,5 @@
 -- Members of other kinds have no pairs, so they add nothing to the size of the pairs.
-use Rattle.std.proofs.Common.{◌≡◌, ℕ, ◌+◌, Bool, true, false, cond, List, [], ◌∷◌, ◌++◌, map, filter, length, refl, ap, ◌∙◌, arith}
+use Rattle.std.proofs.Common.{◌≡◌, ℕ, ◌+◌, Bool, true, false, cond, List, [], ◌∷◌, ◌++◌, drop, map, filter, length, refl, sym, ap, ◌∙◌, arith}
 use Rattle.std.specs.List.{flat_map}
 use Rattle.linear_term.specs.Linear.{Linear}
 use Rattle.formula.specs.Form.{Form, equal, unequal, at_least, holds, fails, differs, conjunction, disjunction, universal, existential, is_pure}
@@ -8,8 +8,9 @@ use Rattle.formula.specs.Tree.{form}
 use Rattle.sequent.specs.Sequent as q
 use Rattle.sequent.specs.declared.member.Member.{Member}
 use Rattle.sequent.specs.Views.{member_of, members_of}
-use Rattle.pred_unify.specs.Reading.{among, is_differing, meetings, meets, partners}
-use Rattle.node_steps.specs.Meetings.{meeting_size}
+use Rattle.pred_unify.specs.Reading.{among, behind, is_differing, meetings, meetings_by, meets, partners}
+use Rattle.pred_unify.specs.declared.leaf.Met.{Met}
+use Rattle.std.specs.Borrow.{Bor}
 use Rattle.node_steps.specs.Pairing.{sum_of, predicate_pair_size, function_pair_size, with_predicates_size, with_functions_size, function_pairs_size, pure_size}
 
 -- what adds nothing at the members that are left out adds up to the same over those that are kept
@@ -38,6 +39,19 @@ not_met p ss (disjunction fs) h = refl
 not_met p ss (universal f) h = refl
 not_met p ss (existential f) h = refl
 
+-- the size of the pair of a negated predicate and a predicate
+abbrev meeting_size : Form → Form → ℕ
+meeting_size (fails p ss) g = predicate_pair_size p ss g
+meeting_size (equal t) g = 0
+meeting_size (unequal t) g = 0
+meeting_size (at_least t) g = 0
+meeting_size (holds q ts) g = 0
+meeting_size (differs q ts u) g = 0
+meeting_size (conjunction fs) g = 0
+meeting_size (disjunction fs) g = 0
+meeting_size (universal f) g = 0
+meeting_size (existential f) g = 0
+
 -- the pairs of a negated predicate with those that it meets are all its pairs
 chosen : (m : Member) (p : ℕ) (ss : List Linear) (ms : List Member) → form m.formula ≡ fails p ss
     → sum_of (λ (x : Member × Member). meeting_size (form x.0.formula) (form x.1.formula)) (map (λ h. (m, h)) (filter (λ h. meets p ss (form h.formula)) ms)) ≡ sum_of (λ n. predicate_pair_size p ss n.formula) (members_of ms)
@@ -64,18 +78,24 @@ partners_size m (disjunction fs) ms is = refl
 partners_size m (universal f) ms is = refl
 partners_size m (existential f) ms is = refl
 
-all_sizes : (ns ms : List Member)
-    → sum_of (λ (x : Member × Member). meeting_size (form x.0.formula) (form x.1.formula)) (flat_map (λ m. partners m (form m.formula) ms) ns) ≡ sum_of (λ m. with_predicates_size (members_of ms) m.formula) (members_of ns)
-all_sizes [] ms = refl
-all_sizes (n ∷ ns) ms =
-    let rest = flat_map (λ m. partners m (form m.formula) ms) ns in
-    sum_append (λ (x : Member × Member). meeting_size (form x.0.formula) (form x.1.formula)) (partners n (form n.formula) ms) rest
-    ∙ (λ i. partners_size n (form n.formula) ms refl i + all_sizes ns ms i)
+all_sizes : {C : Type 0} (one : C → Member) (others : C → List Member) (xs : List C)
+    → sum_of (λ (x : Member × Member). meeting_size (form x.0.formula) (form x.1.formula)) (flat_map (λ x. partners (one x) (form (one x).formula) (others x)) xs) ≡ sum_of (λ x. with_predicates_size (members_of (others x)) (form (one x).formula)) xs
+all_sizes one others [] = refl
+all_sizes one others (x ∷ xs) =
+    let rest = flat_map (λ y. partners (one y) (form (one y).formula) (others y)) xs in
+    sum_append (λ (y : Member × Member). meeting_size (form y.0.formula) (form y.1.formula)) (partners (one x) (form (one x).formula) (others x)) rest
+    ∙ (λ i. partners_size (one x) (form (one x).formula) (others x) refl i + all_sizes one others xs i)
 
--- the pairs of the meetings are those of each negated predicate with each predicate
-pub meetings_kept : (ms : List Member) (xs : List (Member × Member)) → xs ≡ meetings ms
-    → sum_of (λ (x : Member × Member). meeting_size (form x.0.formula) (form x.1.formula)) xs ≡ sum_of (λ m. with_predicates_size (members_of ms) m.formula) (members_of ms)
-meetings_kept ms xs is = ap (λ l. sum_of (λ (x : Member × Member). meeting_size (form x.0.formula) (form x.1.formula)) l) is ∙ all_sizes ms ms
+sum_map : {C D : Type 0} (f : D → ℕ) (v : C → D) (xs : List C) → sum_of f (map v xs) ≡ sum_of (λ x. f (v x)) xs
+sum_map f v [] = refl
+sum_map f v (x ∷ xs) = ap (λ n. f (v x) + n) (sum_map f v xs)
+
+-- the pairs of those that are met are those of each negated predicate with each predicate
+pub meetings_kept : (ms : List Member) (hs : List (Bor Member)) (xs : List Met) → meetings_by hs xs ≡ meetings ms
+    → sum_of (λ x. with_predicates_size (members_of (behind (drop x.first hs))) (form x.failing.now.formula)) xs ≡ sum_of (λ m. with_predicates_size (members_of ms) m.formula) (members_of ms)
+meetings_kept ms hs xs is =
+    sym (all_sizes (λ (x : Met). x.failing.now) (λ (x : Met). behind (drop x.first hs)) xs) ∙ ap (sum_of (λ (x : Member × Member). meeting_size (form x.0.formula) (form x.1.formula))) is
+    ∙ all_sizes (λ (m : Member). m) (λ (m : Member). ms) ms ∙ sym (sum_map (λ m. with_predicates_size (members_of ms) m.formula) member_of ms)
 
 pures_all : (ms : List Member) → sum_of (λ m. size m.formula) (members_of (among is_pure ms)) ≡ sum_of pure_size (members_of ms)
 pures_all [] = refl

@@ -1,3 +1,2 @@
-pub mod Meetings
 pub mod Pairing
 pub mod Within

@@ -4,19 +4,18 @@
 ghost use Rattle.formula.specs.Sizes.{size};
 ghost use Rattle.formula.specs.Tree.{form};
 ghost use Rattle.node_steps.specs.Pairing as pairing;
-ghost use Rattle.node_steps.specs.Meetings.{meeting_size};
 ghost use Rattle.node_steps.specs.Pairing.{sum_of};
-ghost use Rattle.pred_unify.specs.Reading.{HasKinds, behind, both, sequent_at};
+ghost use Rattle.pred_unify.specs.Reading.{HasKinds, behind, sequent_at};
 ghost use Rattle.proof_tree.specs.Walk as walk;
 ghost use Rattle.purse.specs.Trace.{capped};
 ghost use Rattle.sequent.specs.Views.{members_of, sequent_of};
 ghost use Rattle.sequent.specs.declared.member.Pick.TheVariants as pick;
-ghost use Rattle.std.specs.Prelude.{◌≡◌, map};
+ghost use Rattle.std.specs.Prelude.{◌≡◌, drop};
 
 use super::fee::{function_pair_size, predicate_pair_size};
 use formula::{Core, size};
 use linear_term::Term;
-use pred_unify::{Leaf, Meeting};
+use pred_unify::{Leaf, Met};
 use sequent::Member;
 
 /// The size of the pairs of a function's value with each member.
@@ -30,12 +29,23 @@ fn function_sizes(f: u32, ss: &[Term], members: &[&Member]) -> u64
     sum
 }
 
-/// The size of the pair of f and g, if f is a negated predicate and g is that predicate.
-fn meeting_size(f: &Core, g: &Core) -> u64
-    ensures { result ≡ capped (meeting_size (form f.now) (form g.now)) }
+/// The size of the pairs of a negated predicate with each member from the first of these places on.
+fn predicate_sizes(p: u32, ss: &[Term], members: &[&Member], first: usize) -> u64
+    ensures { result ≡ capped (sum_of (λ m. pairing.predicate_pair_size p ss.now m.formula) (members_of (behind (drop first members.now)))) }
 {
-    match f {
-        Core::NotPred(p, ss) => predicate_pair_size(*p, ss.as_slice(), g),
+    let mut sum: u64 = 0;
+    for i in first..members.len() {
+        sum = sum.saturating_add(predicate_pair_size(p, ss, &members[i].formula));
+    }
+    sum
+}
+
+/// The size of the pairs of g with each member from the first of these places on, if g is a negated predicate.
+fn with_predicates_size(members: &[&Member], first: usize, g: &Core) -> u64
+    ensures { result ≡ capped (pairing.with_predicates_size (members_of (behind (drop first members.now))) (form g.now)) }
+{
+    match g {
+        Core::NotPred(p, ss) => predicate_sizes(*p, ss.as_slice(), members, first),
         Core::Eq(_) => 0,
         Core::Neq(_) => 0,
         Core::Geq(_) => 0,
@@ -66,13 +76,13 @@ fn with_functions_size(members: &[&Member], g: &Core) -> u64
     }
 }
 
-/// The size of the pairs of each negated predicate with each predicate that it meets.
-fn all_predicates_size(meetings: &[Meeting]) -> u64
-    ensures { result ≡ capped (sum_of (λ x. meeting_size (form x.0.formula) (form x.1.formula)) (map both meetings.now)) }
+/// The size of the pairs of each negated predicate that is met with each predicate from where it is met on.
+fn all_predicates_size(met: &[Met], holding: &[&Member]) -> u64
+    ensures { result ≡ capped (sum_of (λ x. pairing.with_predicates_size (members_of (behind (drop x.first holding.now))) (form x.failing.now.formula)) met.now) }
 {
     let mut sum: u64 = 0;
-    for x in meetings {
-        sum = sum.saturating_add(meeting_size(&x.failing.formula, &x.holding.formula));
+    for x in met {
+        sum = sum.saturating_add(with_predicates_size(holding, x.first, &x.failing.formula));
     }
     sum
 }
@@ -104,7 +114,7 @@ fn closing_size(leaf: &Leaf) -> u64
     requires { HasKinds leaf.now }
     ensures { result ≡ capped (pairing.closing_size (sequent_of (sequent_at leaf.now))) }
 {
-    let predicates = all_predicates_size(leaf.meetings.as_slice());
+    let predicates = all_predicates_size(leaf.met.as_slice(), leaf.holding.as_slice());
     let pairs = predicates.saturating_add(later_values_size(leaf.differing.as_slice()));
     sizes(leaf.pure.as_slice())
         .saturating_add(pairs)

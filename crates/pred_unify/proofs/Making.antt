@@ -11,8 +11,8 @@ use Rattle.purse.proofs.Charging.{Left, drop-item, drop_all}
 use Rattle.purse.proofs.Tracing.{next-assoc, next-just}
 use Rattle.std.specs.Borrow.{Bor}
 use Rattle.std.specs.List.{AllByRecursion}
-use Rattle.pred_unify.specs.Reading.{among, behind, both, is_differing, meetings, onto, pair_at}
-use Rattle.pred_unify.specs.declared.leaf.Meeting.{Meeting}
+use Rattle.pred_unify.specs.Reading.{among, behind, is_differing, meetings, meetings_by, onto}
+use Rattle.pred_unify.specs.declared.leaf.Met.{Met}
 use Rattle.pred_unify.proofs.Partners.{each_from, meetings_kept, nothing_more, onto_next, values_kept}
 use Rattle.formula.specs.declared.calculus.Core.{Core}
 use Rattle.formula.specs.declared.calculus.Core.TheVariants as c
@@ -124,25 +124,29 @@ function_else f ss u g h ts same v b old new is slice test none unchanged =
     nothing_put (function_pair f ss u (form g)) old new
     (ap (function_pair f ss u) is ∙ ap (λ t. cond t (other_values ss u ts v) (just [])) (ap (alike f ss h) (sym slice) ∙ sym test ∙ none)) unchanged
 
-pub meeting_made : (f : Core) (g : Form) (p : ℕ) (ss same : List Linear) (old new : List Core) (r : Result (Unit {0}) TermFault) → form f ≡ fails p ss → same ≡ ss
-    → Made (λ (u : Unit {0}). map form new) (onto (map form old) (predicate_pair p same g)) r → Made (λ (u : Unit {0}). map form new) (onto (map form old) (pair_at (form f) g)) r
-meeting_made f g p ss same old new r is slice made =
-    subst (λ x. Made (λ (u : Unit {0}). map form new) (onto (map form old) x) r) (ap (λ l. predicate_pair p l g) slice ∙ ap (λ h. pair_at h g) (sym is)) made
+pub predicates_made : (ms : List q.Member) (g : Core) (p : ℕ) (ss same : List Linear) (old new : List Core) (r : Result (Unit {0}) TermFault) → form g ≡ fails p ss → same ≡ ss
+    → Made (λ (u : Unit {0}). map form new) (each (λ m. predicate_pair p same m.formula) ms (map form old)) r → Made (λ (u : Unit {0}). map form new) (onto (map form old) (with_predicates ms (form g))) r
+predicates_made ms g p ss same old new r is slice made =
+    subst (λ x. Made (λ (u : Unit {0}). map form new) x r)
+    (each_from (λ m. predicate_pair p same m.formula) ms (map form old) ∙ ap (λ l. onto (map form old) (each (λ m. predicate_pair p l m.formula) ms [])) slice ∙ ap (λ f. onto (map form old) (with_predicates ms f)) (sym is)) made
 
--- the work of the meeting at the index, behind the formulas in out, and then that of the later ones
-pub meeting_onto : (xs : List Meeting) (i : ℕ) (x : Meeting) (out : List Core) (work : Traced (List Form)) → i < length xs → x ≡ get_or xs i x
-    → Left (each (λ (y : Member × Member). pair_at (form y.0.formula) (form y.1.formula)) (map both (drop i xs)) (map form out)) work
-    → Left (next (onto (map form out) (pair_at (form x.failing.now.formula) (form x.holding.now.formula))) (λ fs. each (λ (y : Member × Member). pair_at (form y.0.formula) (form y.1.formula)) (map both (drop (i + 1) xs)) fs)) work
-meeting_onto xs i x out work lt is inv =
-    let pair = λ (y : Member × Member). pair_at (form y.0.formula) (form y.1.formula) in
-    subst (λ w. Left w work) (sym (onto_next (pair (both x)) (λ fs. each pair (map both (drop (i + 1) xs)) fs) (map form out)))
-    (subst (λ l. Left (each pair (map both l) (map form out)) work) (drop-item xs i x lt is) inv)
+-- the work of the member at the index of a loop over places, behind the formulas in out, and then that of the later ones
+pub each_at : (f : q.Member → Traced (List Form)) (rs : List (Bor Member)) (i : ℕ) (d : Bor Member) (out : List Core) (work : Traced (List Form)) → i < length rs
+    → Left (each f (members_of (behind (drop i rs))) (map form out)) work → Left (next (onto (map form out) (f (member_of (get_or rs i d).now))) (λ fs. each f (members_of (behind (drop (i + 1) rs))) fs)) work
+each_at f rs i d out work lt inv =
+    subst (λ w. Left w work) (sym (onto_next (f (member_of (get_or rs i d).now)) (λ fs. each f (members_of (behind (drop (i + 1) rs))) fs) (map form out)))
+    (subst (λ l. Left (each f (members_of (behind l)) (map form out)) work) (drop_more rs i d lt) inv)
 
-pub meeting_end : (xs : List Meeting) (i : ℕ) (out : List Core) (work : Traced (List Form)) → length xs ≤ i
-    → Left (each (λ (y : Member × Member). pair_at (form y.0.formula) (form y.1.formula)) (map both (drop i xs)) (map form out)) work → Made (λ (u : Unit {0}). map form out) work (Ok tt)
-meeting_end xs i out work le inv =
-    let pair = λ (y : Member × Member). pair_at (form y.0.formula) (form y.1.formula) in
-    left_done (λ (u : Unit {0}). map form out) (Ok tt) (subst (λ l. Left (each pair (map both l) (map form out)) work) (drop_all xs i le) inv)
+-- the work of what lies at the index, behind the formulas in out, and then that of the later ones
+pub met_onto : (f : Met → Traced (List Form)) (xs : List Met) (i : ℕ) (x : Met) (out : List Core) (work : Traced (List Form)) → i < length xs → x ≡ get_or xs i x
+    → Left (each f (drop i xs) (map form out)) work → Left (next (onto (map form out) (f x)) (λ fs. each f (drop (i + 1) xs) fs)) work
+met_onto f xs i x out work lt is inv =
+    subst (λ w. Left w work) (sym (onto_next (f x) (λ fs. each f (drop (i + 1) xs) fs) (map form out))) (subst (λ l. Left (each f l (map form out)) work) (drop-item xs i x lt is) inv)
+
+pub met_end : (f : Met → Traced (List Form)) (xs : List Met) (i : ℕ) (out : List Core) (work : Traced (List Form)) → length xs ≤ i
+    → Left (each f (drop i xs) (map form out)) work → Made (λ (u : Unit {0}). map form out) work (Ok tt)
+met_end f xs i out work le inv =
+    left_done (λ (u : Unit {0}). map form out) (Ok tt) (subst (λ l. Left (each f l (map form out)) work) (drop_all xs i le) inv)
     (made_just (λ (u : Unit {0}). map form out) (map form out) tt refl)
 
 pub functions_made : (ms : List q.Member) (g : Core) (f : ℕ) (ss same : List Linear) (u : Linear) (old new : List Core) (r : Result (Unit {0}) TermFault) → form g ≡ differs f ss u → same ≡ ss
@@ -172,30 +176,29 @@ later_made rs i d old new r made =
     let whole : take (length rs - (i + 1)) (drop (i + 1) rs) ≡ drop (i + 1) rs = take_all (length rs - (i + 1)) (drop (i + 1) rs) (omega (arith, length-drop (i + 1) rs)) in
     subst (λ l. Made (λ (u : Unit {0}). map form new) (onto (map form old) (with_functions (members_of (behind l)) (form (get_or rs i d).now.formula))) r) whole made
 
--- the pairs of a sequent, behind some formulas, looked for among its meetings and the values of functions
-pairs_onto : (ms ds : List Member) (xs : List (Member × Member)) (old : List Form) → xs ≡ meetings ms → ds ≡ among is_differing ms
-    → next (each (λ (y : Member × Member). pair_at (form y.0.formula) (form y.1.formula)) xs old) (λ fs. function_pairs (members_of ds) fs) ≡ onto old (pairs_of (members_of ms))
-pairs_onto ms ds xs old met other =
+-- the pairs of a sequent, behind some formulas, looked for where a predicate is met and among the values of functions
+pairs_onto : (ms ds : List Member) (hs : List (Bor Member)) (xs : List Met) (old : List Form) → meetings_by hs xs ≡ meetings ms → ds ≡ among is_differing ms
+    → next (each (λ x. with_predicates (members_of (behind (drop x.first hs))) (form x.failing.now.formula)) xs old) (λ fs. function_pairs (members_of ds) fs) ≡ onto old (pairs_of (members_of ms))
+pairs_onto ms ds hs xs old met other =
     let all = each (λ m. with_predicates (members_of ms) m.formula) (members_of ms) [] in
-    let pair = λ (y : Member × Member). pair_at (form y.0.formula) (form y.1.formula) in
-    let first : each pair xs old ≡ onto old all = ap (λ l. each pair l old) met ∙ meetings_kept ms old ∙ each_from (λ m. with_predicates (members_of ms) m.formula) (members_of ms) old in
+    let first : each (λ x. with_predicates (members_of (behind (drop x.first hs))) (form x.failing.now.formula)) xs old ≡ onto old all = meetings_kept ms hs xs old met ∙ each_from (λ m. with_predicates (members_of ms) m.formula) (members_of ms) old in
     let second = λ (fs : List Form). ap (λ l. function_pairs (members_of l) fs) other ∙ values_kept ms fs in
     (λ i. next (first i) (λ fs. second fs i)) ∙ onto_next all (λ fs. function_pairs (members_of ms) fs) old
     ∙ (λ i. next all (λ fs. values_behind (members_of ms) old fs i)) ∙ sym (next-assoc all (λ fs. function_pairs (members_of ms) fs) (λ fs. just (old ++ fs)))
 
-pub pairs_cut : (ms ds : List Member) (xs : List (Member × Member)) (old new more : List Core) (r : Result (Unit {0}) TermFault) (e : TermFault) → xs ≡ meetings ms → ds ≡ among is_differing ms → IsErrAnd r (λ x. x ≡ e)
-    → Made (λ (u : Unit {0}). map form more) (each (λ (y : Member × Member). pair_at (form y.0.formula) (form y.1.formula)) xs (map form old)) (Err e) → Made (λ (u : Unit {0}). map form new) (onto (map form old) (pairs_of (members_of ms))) r
-pairs_cut ms ds xs old new more r e met other h made =
-    subst (λ w. Made (λ (u : Unit {0}). map form new) w r) (pairs_onto ms ds xs (map form old) met other)
-    (made_err (λ (u : Unit {0}). map form more) (λ (u : Unit {0}). map form new) (each (λ (y : Member × Member). pair_at (form y.0.formula) (form y.1.formula)) xs (map form old)) (λ fs. function_pairs (members_of ds) fs) r h made)
+pub pairs_cut : (ms ds : List Member) (hs : List (Bor Member)) (xs : List Met) (old new more : List Core) (r : Result (Unit {0}) TermFault) (e : TermFault) → meetings_by hs xs ≡ meetings ms → ds ≡ among is_differing ms → IsErrAnd r (λ x. x ≡ e)
+    → Made (λ (u : Unit {0}). map form more) (each (λ x. with_predicates (members_of (behind (drop x.first hs))) (form x.failing.now.formula)) xs (map form old)) (Err e) → Made (λ (u : Unit {0}). map form new) (onto (map form old) (pairs_of (members_of ms))) r
+pairs_cut ms ds hs xs old new more r e met other h made =
+    subst (λ w. Made (λ (u : Unit {0}). map form new) w r) (pairs_onto ms ds hs xs (map form old) met other)
+    (made_err (λ (u : Unit {0}). map form more) (λ (u : Unit {0}). map form new) (each (λ x. with_predicates (members_of (behind (drop x.first hs))) (form x.failing.now.formula)) xs (map form old)) (λ fs. function_pairs (members_of ds) fs) r h made)
 
-pub pairs_made : (ms ds : List Member) (xs : List (Member × Member)) (old new more : List Core) (r : Result (Unit {0}) TermFault) → xs ≡ meetings ms → ds ≡ among is_differing ms
-    → Made (λ (u : Unit {0}). map form more) (each (λ (y : Member × Member). pair_at (form y.0.formula) (form y.1.formula)) xs (map form old)) (Ok tt)
+pub pairs_made : (ms ds : List Member) (hs : List (Bor Member)) (xs : List Met) (old new more : List Core) (r : Result (Unit {0}) TermFault) → meetings_by hs xs ≡ meetings ms → ds ≡ among is_differing ms
+    → Made (λ (u : Unit {0}). map form more) (each (λ x. with_predicates (members_of (behind (drop x.first hs))) (form x.failing.now.formula)) xs (map form old)) (Ok tt)
     → Made (λ (u : Unit {0}). map form new) (function_pairs (members_of ds) (map form more)) r
     → Made (λ (u : Unit {0}). map form new) (onto (map form old) (pairs_of (members_of ms))) r
-pairs_made ms ds xs old new more r met other first second =
-    subst (λ w. Made (λ (u : Unit {0}). map form new) w r) (pairs_onto ms ds xs (map form old) met other)
-    (made_ok (λ (u : Unit {0}). map form more) (λ (u : Unit {0}). map form new) (each (λ (y : Member × Member). pair_at (form y.0.formula) (form y.1.formula)) xs (map form old)) (λ fs. function_pairs (members_of ds) fs) first second)
+pairs_made ms ds hs xs old new more r met other first second =
+    subst (λ w. Made (λ (u : Unit {0}). map form new) w r) (pairs_onto ms ds hs xs (map form old) met other)
+    (made_ok (λ (u : Unit {0}). map form more) (λ (u : Unit {0}). map form new) (each (λ x. with_predicates (members_of (behind (drop x.first hs))) (form x.failing.now.formula)) xs (map form old)) (λ fs. function_pairs (members_of ds) fs) first second)
 
 -- one of the pure members or of the pairs, put together in one list
 closing_onto : (s : q.Sequent) (gs : List Form) → gs ≡ pures s.count s.members → next (onto gs (pairs_of s.members)) (λ fs. just (disjunction (forms fs))) ≡ closing_of s

@@ -1,5 +1,5 @@
 -- Members of other kinds have no pairs, so they can be left out where pairs are looked for.
-use Rattle.std.proofs.Common.{◌≡◌, ℕ, Bool, true, false, cond, List, [], ◌∷◌, ◌++◌, map, filter, refl, sym, ap, ◌∙◌, append_assoc}
+use Rattle.std.proofs.Common.{◌≡◌, ℕ, Bool, true, false, cond, List, [], ◌∷◌, ◌++◌, drop, map, filter, refl, sym, ap, ◌∙◌, append_assoc}
 use Rattle.std.proofs.lemmas.List.{append-nil}
 use Rattle.linear_term.specs.Linear.{Linear}
 use Rattle.purse.specs.Trace.{Traced, just, next, each}
@@ -10,7 +10,10 @@ use Rattle.sequent.specs.Sequent as q
 use Rattle.sequent.specs.declared.member.Member.{Member}
 use Rattle.sequent.specs.Views.{member_of, members_of}
 use Rattle.pred_unify.specs.Pairs.{same_arguments, predicate_pair, function_pair, with_predicates, with_functions, function_pairs, pures}
-use Rattle.pred_unify.specs.Reading.{among, is_holding, is_differing, meetings, meets, onto, pair_at, partners}
+use Rattle.pred_unify.specs.Reading.{among, behind, is_holding, is_differing, meetings, meetings_by, meets, onto, partners}
+use Rattle.pred_unify.specs.declared.leaf.Met.{Met}
+use Rattle.std.specs.Borrow.{Bor}
+use Rattle.std.proofs.lemmas.Grind.{flat_map-append}
 use Rattle.sequent.specs.Rules.{brought}
 use Rattle.std.specs.List.{AllByRecursion, flat_map}
 
@@ -104,6 +107,19 @@ each_append : {C : Type 0} (f : C → Traced (List Form)) (xs ys : List C) (out 
 each_append f [] ys out = sym (next-just out (λ fs. each f ys fs))
 each_append f (x ∷ xs) ys out = (λ i. next (f x) (λ ds. each_append f xs ys (out ++ ds) i)) ∙ sym (next-assoc (f x) (λ ds. each f xs (out ++ ds)) (λ fs. each f ys fs))
 
+-- the pair of a negated predicate and a predicate
+abbrev pair_at : Form → Form → Traced (List Form)
+pair_at (fails p ss) g = predicate_pair p ss g
+pair_at (equal t) g = just []
+pair_at (unequal t) g = just []
+pair_at (at_least t) g = just []
+pair_at (holds q ts) g = just []
+pair_at (differs q ts u) g = just []
+pair_at (conjunction fs) g = just []
+pair_at (disjunction fs) g = just []
+pair_at (universal f) g = just []
+pair_at (existential f) g = just []
+
 -- the pairs of a negated predicate with those that it meets are its pairs with all
 chosen : (m : Member) (p : ℕ) (ss : List Linear) (ms : List Member) (out : List Form) → form m.formula ≡ fails p ss
     → each (λ (x : Member × Member). pair_at (form x.0.formula) (form x.1.formula)) (map (λ h. (m, h)) (filter (λ h. meets p ss (form h.formula)) ms)) out ≡ each (λ n. predicate_pair p ss n.formula) (members_of ms) out
@@ -134,21 +150,40 @@ partners_pairs m (disjunction fs) ms out is = nothing_onto (just []) out refl
 partners_pairs m (universal f) ms out is = nothing_onto (just []) out refl
 partners_pairs m (existential f) ms out is = nothing_onto (just []) out refl
 
-all_pairs : (ns ms : List Member) (out : List Form)
-    → each (λ (x : Member × Member). pair_at (form x.0.formula) (form x.1.formula)) (flat_map (λ m. partners m (form m.formula) ms) ns) out ≡ each (λ m. with_predicates (members_of ms) m.formula) (members_of ns) out
-all_pairs [] ms out = refl
-all_pairs (n ∷ ns) ms out =
-    let work = λ (x : Member × Member). pair_at (form x.0.formula) (form x.1.formula) in
-    let rest = flat_map (λ m. partners m (form m.formula) ms) ns in
-    let here = with_predicates (members_of ms) (form n.formula) in
-    each_append work (partners n (form n.formula) ms) rest out
-    ∙ ap (λ w. next w (λ fs. each work rest fs)) (partners_pairs n (form n.formula) ms out refl)
-    ∙ onto_next here (λ fs. each work rest fs) out ∙ (λ i. next here (λ ds. all_pairs ns ms (out ++ ds) i))
+all_pairs : {C : Type 0} (one : C → Member) (others : C → List Member) (xs : List C) (out : List Form)
+    → each (λ (x : Member × Member). pair_at (form x.0.formula) (form x.1.formula)) (flat_map (λ x. partners (one x) (form (one x).formula) (others x)) xs) out ≡ each (λ x. with_predicates (members_of (others x)) (form (one x).formula)) xs out
+all_pairs one others [] out = refl
+all_pairs one others (x ∷ xs) out =
+    let work = λ (y : Member × Member). pair_at (form y.0.formula) (form y.1.formula) in
+    let rest = flat_map (λ y. partners (one y) (form (one y).formula) (others y)) xs in
+    let here = with_predicates (members_of (others x)) (form (one x).formula) in
+    each_append work (partners (one x) (form (one x).formula) (others x)) rest out
+    ∙ ap (λ w. next w (λ fs. each work rest fs)) (partners_pairs (one x) (form (one x).formula) (others x) out refl)
+    ∙ onto_next here (λ fs. each work rest fs) out ∙ (λ i. next here (λ ds. all_pairs one others xs (out ++ ds) i))
 
--- the pairs of the meetings are those of each negated predicate with each predicate
-pub meetings_kept : (ms : List Member) (out : List Form)
-    → each (λ (x : Member × Member). pair_at (form x.0.formula) (form x.1.formula)) (meetings ms) out ≡ each (λ m. with_predicates (members_of ms) m.formula) (members_of ms) out
-meetings_kept ms out = all_pairs ms ms out
+each_map : {C D : Type 0} (f : D → Traced (List Form)) (v : C → D) (xs : List C) (out : List Form) → each f (map v xs) out ≡ each (λ x. f (v x)) xs out
+each_map f v [] out = refl
+each_map f v (x ∷ xs) out = λ i. next (f (v x)) (λ ds. each_map f v xs (out ++ ds) i)
+
+-- the pairs of those that are met are those of each negated predicate with each predicate
+pub meetings_kept : (ms : List Member) (hs : List (Bor Member)) (xs : List Met) (out : List Form) → meetings_by hs xs ≡ meetings ms
+    → each (λ x. with_predicates (members_of (behind (drop x.first hs))) (form x.failing.now.formula)) xs out ≡ each (λ m. with_predicates (members_of ms) m.formula) (members_of ms) out
+meetings_kept ms hs xs out is =
+    sym (all_pairs (λ (x : Met). x.failing.now) (λ (x : Met). behind (drop x.first hs)) xs out) ∙ ap (λ l. each (λ (x : Member × Member). pair_at (form x.0.formula) (form x.1.formula)) l out) is
+    ∙ all_pairs (λ (m : Member). m) (λ (m : Member). ms) ms out ∙ sym (each_map (λ m. with_predicates (members_of ms) m.formula) member_of ms out)
+
+-- one more that is met
+pub met_pushed : (hs : List (Bor Member)) (old new : List Met) (x : Met) (p : ℕ) (ss same : List Linear) → new ≡ old ++ x ∷ [] → form x.failing.now.formula ≡ fails p ss → same ≡ ss
+    → filter (λ h. meets p same (form h.formula)) (behind (drop x.first hs)) ≡ filter (λ h. meets p same (form h.formula)) (behind hs)
+    → meetings_by hs new ≡ meetings_by hs old ++ partners x.failing.now (form x.failing.now.formula) (behind hs)
+met_pushed hs old new x p ss same push is slice first =
+    let m = x.failing.now in
+    let all : partners m (fails p ss) (behind (drop x.first hs)) ≡ partners m (fails p ss) (behind hs) =
+    ap (λ l. map (λ (h : Member). (m, h)) (filter (λ h. meets p l (form h.formula)) (behind (drop x.first hs)))) (sym slice) ∙ ap (map (λ (h : Member). (m, h))) first
+    ∙ ap (λ l. map (λ (h : Member). (m, h)) (filter (λ h. meets p l (form h.formula)) (behind hs))) slice in
+    ap (meetings_by hs) push ∙ flat_map-append (λ (y : Met). partners y.failing.now (form y.failing.now.formula) (behind (drop y.first hs))) old (x ∷ [])
+    ∙ ap (λ l. meetings_by hs old ++ l)
+    (append-nil (partners m (form m.formula) (behind (drop x.first hs))) ∙ ap (λ g. partners m g (behind (drop x.first hs))) is ∙ all ∙ ap (λ g. partners m g (behind hs)) (sym is))
 
 -- a predicate meets none of those in which none holds
 no_meeting : (p : ℕ) (ss : List Linear) (g : Form) → is_holding g ≡ false → meets p ss g ≡ false

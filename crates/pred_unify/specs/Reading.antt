@@ -2,16 +2,16 @@
 use Rattle.std.specs.Borrow.{Bor}
 use Rattle.std.specs.Int.RustNames.{bit_and, bit_or}
 use Rattle.std.specs.List.{flat_map}
-use Rattle.std.specs.Prelude.{◌≡◌, ℕ, ◌^◌, ◌%◌, Bool, true, false, List, [], ◌++◌, map, filter}
+use Rattle.std.specs.Prelude.{◌≡◌, ℕ, ◌^◌, ◌%◌, Bool, true, false, List, [], ◌++◌, drop, map, filter}
 use Rattle.formula.specs.Form.{Form, holds, fails, differs, is_pure}
 use Rattle.formula.specs.Tree.{form}
 use Rattle.linear_term.specs.Linear.{Linear}
-use Rattle.pred_unify.specs.Pairs.{alike, predicate_pair}
+use Rattle.pred_unify.specs.Pairs.{alike}
 use Rattle.purse.specs.Trace.{Traced, just, next}
 use Rattle.sequent.specs.declared.member.Member.{Member}
 use Rattle.sequent.specs.declared.member.Sequent.{Sequent}
 use Rattle.pred_unify.specs.declared.leaf.Leaf.{Leaf}
-use Rattle.pred_unify.specs.declared.leaf.Meeting.{Meeting}
+use Rattle.pred_unify.specs.declared.leaf.Met.{Met}
 
 -- what the references lead to
 abbrev pub behind : List (Bor Member) → List Member
@@ -41,14 +41,9 @@ partners m _ hs = []
 abbrev pub meetings : List Member → List (Member × Member)
 meetings ms = flat_map (λ m. partners m (form m.formula) ms) ms
 
--- the members of a meeting
-abbrev pub both : Meeting → Member × Member
-both x = (x.failing.now, x.holding.now)
-
--- the pair of a negated predicate and a predicate
-abbrev pub pair_at : Form → Form → Traced (List Form)
-pair_at (fails p ss) g = predicate_pair p ss g
-pair_at _ g = just []
+-- the meetings of those that are met
+abbrev pub meetings_by : List (Bor Member) → List Met → List (Member × Member)
+meetings_by hs xs = flat_map (λ x. partners x.failing.now (form x.failing.now.formula) (behind (drop x.first hs))) xs
 
 -- a mask with the bit of the predicate that holds
 abbrev pub with_bit : Form → ℕ → ℕ
@@ -73,6 +68,7 @@ sequent_at l = record { members = behind l.members.items; count = l.count }
 
 -- the references to the members of each kind are those, and so are the meetings
 pub record HasKinds (l : Leaf) : Type 0 where
-  pub meetings : map both l.meetings.items ≡ meetings (behind l.members.items)
+  pub holding : behind l.holding.items ≡ among is_holding (behind l.members.items)
+  pub met : meetings_by l.holding.items l.met.items ≡ meetings (behind l.members.items)
   pub differing : behind l.differing.items ≡ among is_differing (behind l.members.items)
   pub pure : behind l.pure.items ≡ among is_pure (behind l.members.items)

@@ -8,5 +8,5 @@ mod pairing;
 mod symbols;
 
 pub use laws::{closing_law, leaf_law, pure_law};
-pub use leaf::{Leaf, Meeting};
+pub use leaf::{Leaf, Met};
 pub use pairing::closing_at;

@@ -1,9 +1,9 @@
 // The pairs of a sequent, each behind the formulas that are there before.
 
-ghost use Rattle.std.specs.Prelude.{◌≡◌, ◌≤◌, ◌<◌, ◌+◌, ◌-◌, ◌^◌, length, [], map, IfOk};
+ghost use Rattle.std.specs.Prelude.{◌≡◌, ◌≤◌, ◌<◌, ◌+◌, ◌-◌, ◌^◌, drop, length, [], map, IfOk};
 ghost use Rattle.std.specs.List.{AllByRecursion};
 ghost use Rattle.pred_unify.specs.Pairs as pair;
-ghost use Rattle.pred_unify.specs.Reading.{HasKinds, behind, both, onto, pair_at, sequent_at};
+ghost use Rattle.pred_unify.specs.Reading.{HasKinds, behind, onto, sequent_at};
 ghost use Rattle.formula.specs.Made.{Made};
 ghost use Rattle.formula.specs.Shifts.{IsBelow};
 ghost use Rattle.formula.specs.Tree.{form};
@@ -11,7 +11,7 @@ ghost use Rattle.sequent.specs.Rules.{brought};
 ghost use Rattle.sequent.specs.Views.{members_of, sequent_of, HasRoom};
 ghost use Rattle.purse.specs.Trace.{each};
 
-use super::leaf::{Leaf, Meeting};
+use super::leaf::{Leaf, Met};
 use super::symbols::alike;
 use formula::{Core, shift};
 use linear_term::{Memory, Term, TermFault};
@@ -104,12 +104,35 @@ fn predicate_pair(
     }
 }
 
-/// The pair of f and g, if f is a negated predicate and g is that predicate.
-fn with_predicate(alloc: Global, f: &Core, g: &Core, out: &mut Items<Core>) -> Result<(), TermFault>
-    ensures { Made (λ u. map form out.new) (onto (map form out.old) (pair_at (form f.now) (form g.now))) result }
+/// The pairs of a negated predicate with each member from the first of these places on.
+fn predicate_pairs(
+    alloc: Global,
+    p: u32,
+    ss: &[Term],
+    members: &[&Member],
+    first: usize,
+    out: &mut Items<Core>,
+) -> Result<(), TermFault>
+    ensures { Made (λ u. map form out.new) (each (λ m. pair.predicate_pair p ss.now m.formula) (members_of (behind (drop first members.now))) (map form out.old)) result }
 {
-    match f {
-        Core::NotPred(p, ss) => predicate_pair(alloc, *p, ss.as_slice(), g, out),
+    for i in first..members.len() {
+        predicate_pair(alloc, p, ss, &members[i].formula, out)?;
+    }
+    Ok(())
+}
+
+/// The pairs of g with each member from the first of these places on, if g is a negated predicate.
+fn with_predicates(
+    alloc: Global,
+    members: &[&Member],
+    first: usize,
+    g: &Core,
+    out: &mut Items<Core>,
+) -> Result<(), TermFault>
+    ensures { Made (λ u. map form out.new) (onto (map form out.old) (pair.with_predicates (members_of (behind (drop first members.now))) (form g.now))) result }
+{
+    match g {
+        Core::NotPred(p, ss) => predicate_pairs(alloc, *p, ss.as_slice(), members, first, out),
         Core::Eq(_) => Ok(()),
         Core::Neq(_) => Ok(()),
         Core::Geq(_) => Ok(()),
@@ -122,16 +145,17 @@ fn with_predicate(alloc: Global, f: &Core, g: &Core, out: &mut Items<Core>) -> R
     }
 }
 
-/// Each negated predicate with each predicate that it meets.
+/// Each negated predicate that is met with each predicate from where it is met on.
 fn all_predicates(
     alloc: Global,
-    meetings: &[Meeting],
+    met: &[Met],
+    holding: &[&Member],
     out: &mut Items<Core>,
 ) -> Result<(), TermFault>
-    ensures { Made (λ u. map form out.new) (each (λ x. pair_at (form x.0.formula) (form x.1.formula)) (map both meetings.now) (map form out.old)) result }
+    ensures { Made (λ u. map form out.new) (each (λ x. pair.with_predicates (members_of (behind (drop x.first holding.now))) (form x.failing.now.formula)) met.now (map form out.old)) result }
 {
-    for x in meetings {
-        with_predicate(alloc, &x.failing.formula, &x.holding.formula, out)?;
+    for x in met {
+        with_predicates(alloc, holding, x.first, &x.failing.formula, out)?;
     }
     Ok(())
 }
@@ -222,7 +246,7 @@ fn put_pairs(alloc: Global, leaf: &Leaf, out: &mut Items<Core>) -> Result<(), Te
     requires { HasKinds leaf.now }
     ensures { Made (λ u. map form out.new) (onto (map form out.old) (pair.pairs_of (members_of (sequent_at leaf.now).members))) result }
 {
-    all_predicates(alloc, leaf.meetings.as_slice(), out)?;
+    all_predicates(alloc, leaf.met.as_slice(), leaf.holding.as_slice(), out)?;
     later_values(alloc, leaf.differing.as_slice(), out)
 }
 
