@@ -4,12 +4,10 @@ ghost use Rattle.formula.specs.Tree.{form};
 ghost use Rattle.node_steps.specs.Pairing as pairing;
 ghost use Rattle.pred_unify.specs.Pairs as pair;
 ghost use Rattle.purse.specs.Trace.{capped};
-ghost use Rattle.sequent.specs.Views.{member_of};
 ghost use Rattle.std.specs.Prelude.{◌≡◌};
 
-use formula::{Core, is_pure, size};
+use formula::Core;
 use linear_term::Term;
-use sequent::Member;
 
 fn alike(p: u32, ss: &[Term], q: u32, ts: &[Term]) -> bool
     ensures { result ≡ pair.alike p ss.now q ts.now }
@@ -62,16 +60,5 @@ pub(crate) fn function_pair_size(f: u32, ss: &[Term], g: &Core) -> u64
         Core::Or(_) => 0,
         Core::Forall(_) => 0,
         Core::Exists(_) => 0,
-    }
-}
-
-/// The size of a member, if it is pure.
-pub(crate) fn pure_size(m: &Member) -> u64
-    ensures { result ≡ capped (pairing.pure_size (member_of m.now)) }
-{
-    if is_pure(&m.formula) {
-        size(&m.formula)
-    } else {
-        0
     }
 }

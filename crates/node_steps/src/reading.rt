@@ -1,6 +1,7 @@
 // The charge of a leaf, which is read where its members lie. It is paid before the numbers of its closing formula are computed,
 // so the size of that is read off the members.
 
+ghost use Rattle.formula.specs.Sizes.{size};
 ghost use Rattle.formula.specs.Tree.{form};
 ghost use Rattle.node_steps.specs.Pairing as pairing;
 ghost use Rattle.node_steps.specs.Pairing.{sum_of};
@@ -9,24 +10,13 @@ ghost use Rattle.proof_tree.specs.Walk as walk;
 ghost use Rattle.purse.specs.Trace.{capped};
 ghost use Rattle.sequent.specs.Views.{members_of, sequent_of};
 ghost use Rattle.sequent.specs.declared.member.Pick.TheVariants as pick;
-ghost use Rattle.std.specs.Prelude.{◌≡◌};
+ghost use Rattle.std.specs.Prelude.{◌≡◌, drop};
 
-use super::fee::{function_pair_size, predicate_pair_size, pure_size};
-use formula::Core;
+use super::fee::{function_pair_size, predicate_pair_size};
+use formula::{Core, size};
 use linear_term::Term;
-use pred_unify::Leaf;
+use pred_unify::{Leaf, Met};
 use sequent::Member;
-
-/// The size of the pairs of a negated predicate with each member.
-fn predicate_sizes(p: u32, ss: &[Term], members: &[&Member]) -> u64
-    ensures { result ≡ capped (sum_of (λ m. pairing.predicate_pair_size p ss.now m.formula) (members_of (behind members.now))) }
-{
-    let mut sum: u64 = 0;
-    for m in members {
-        sum = sum.saturating_add(predicate_pair_size(p, ss, &m.formula));
-    }
-    sum
-}
 
 /// The size of the pairs of a function's value with each member.
 fn function_sizes(f: u32, ss: &[Term], members: &[&Member]) -> u64
@@ -39,12 +29,23 @@ fn function_sizes(f: u32, ss: &[Term], members: &[&Member]) -> u64
     sum
 }
 
-/// The size of the pairs of g with each member, if g is a negated predicate.
-fn with_predicates_size(members: &[&Member], g: &Core) -> u64
-    ensures { result ≡ capped (pairing.with_predicates_size (members_of (behind members.now)) (form g.now)) }
+/// The size of the pairs of a negated predicate with each member from the first of these places on.
+fn predicate_sizes(p: u32, ss: &[Term], members: &[&Member], first: usize) -> u64
+    ensures { result ≡ capped (sum_of (λ m. pairing.predicate_pair_size p ss.now m.formula) (members_of (behind (drop first members.now)))) }
+{
+    let mut sum: u64 = 0;
+    for i in first..members.len() {
+        sum = sum.saturating_add(predicate_pair_size(p, ss, &members[i].formula));
+    }
+    sum
+}
+
+/// The size of the pairs of g with each member from the first of these places on, if g is a negated predicate.
+fn with_predicates_size(members: &[&Member], first: usize, g: &Core) -> u64
+    ensures { result ≡ capped (pairing.with_predicates_size (members_of (behind (drop first members.now))) (form g.now)) }
 {
     match g {
-        Core::NotPred(p, ss) => predicate_sizes(*p, ss.as_slice(), members),
+        Core::NotPred(p, ss) => predicate_sizes(*p, ss.as_slice(), members, first),
         Core::Eq(_) => 0,
         Core::Neq(_) => 0,
         Core::Geq(_) => 0,
@@ -75,13 +76,13 @@ fn with_functions_size(members: &[&Member], g: &Core) -> u64
     }
 }
 
-/// The size of the pairs of each negated predicate with each predicate that holds.
-fn all_predicates_size(members: &[&Member], holding: &[&Member]) -> u64
-    ensures { result ≡ capped (sum_of (λ m. pairing.with_predicates_size (members_of (behind holding.now)) m.formula) (members_of (behind members.now))) }
+/// The size of the pairs of each negated predicate that is met with each predicate from where it is met on.
+fn all_predicates_size(met: &[Met], holding: &[&Member]) -> u64
+    ensures { result ≡ capped (sum_of (λ x. pairing.with_predicates_size (members_of (behind (drop x.first holding.now))) (form x.failing.now.formula)) met.now) }
 {
     let mut sum: u64 = 0;
-    for m in members {
-        sum = sum.saturating_add(with_predicates_size(holding, &m.formula));
+    for x in met {
+        sum = sum.saturating_add(with_predicates_size(holding, x.first, &x.failing.formula));
     }
     sum
 }
@@ -97,13 +98,13 @@ fn later_values_size(members: &[&Member]) -> u64
     sum
 }
 
-/// The size of the pure members.
-fn pure_sizes(members: &[&Member]) -> u64
-    ensures { result ≡ capped (sum_of pairing.pure_size (members_of (behind members.now))) }
+/// The size of the members.
+fn sizes(members: &[&Member]) -> u64
+    ensures { result ≡ capped (sum_of (λ m. size m.formula) (members_of (behind members.now))) }
 {
     let mut sum: u64 = 0;
     for m in members {
-        sum = sum.saturating_add(pure_size(m));
+        sum = sum.saturating_add(size(&m.formula));
     }
     sum
 }
@@ -113,9 +114,9 @@ fn closing_size(leaf: &Leaf) -> u64
     requires { HasKinds leaf.now }
     ensures { result ≡ capped (pairing.closing_size (sequent_of (sequent_at leaf.now))) }
 {
-    let predicates = all_predicates_size(leaf.members.as_slice(), leaf.holding.as_slice());
+    let predicates = all_predicates_size(leaf.met.as_slice(), leaf.holding.as_slice());
     let pairs = predicates.saturating_add(later_values_size(leaf.differing.as_slice()));
-    pure_sizes(leaf.members.as_slice())
+    sizes(leaf.pure.as_slice())
         .saturating_add(pairs)
         .saturating_add(1)
 }

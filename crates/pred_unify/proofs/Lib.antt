@@ -1,4 +1,5 @@
 pub mod Clashes
+pub mod Sorting
 pub mod Partners
 pub mod Pures
 pub mod Making

@@ -5,7 +5,8 @@
 mod laws;
 mod leaf;
 mod pairing;
+mod symbols;
 
 pub use laws::{closing_law, leaf_law, pure_law};
-pub use leaf::Leaf;
+pub use leaf::{Leaf, Met};
 pub use pairing::closing_at;

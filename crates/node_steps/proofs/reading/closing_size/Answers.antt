@@ -1,22 +1,17 @@
-use Rattle.std.proofs.Common.{◌∙◌, List, ap}
-use Rattle.std.specs.Borrow.{Bor}
+use Rattle.std.proofs.Common.{◌∙◌, ap}
 use Rattle.purse.specs.Trace.{capped}
-use Rattle.sequent.specs.declared.member.Member.{Member}
 use Rattle.sequent.specs.Views.{members_of}
-use Rattle.pred_unify.specs.Reading.{behind}
+use Rattle.pred_unify.specs.Reading.{behind, meetings_by}
 use Rattle.node_steps.specs.Pairing.{sum_of, pure_size, with_predicates_size, function_pairs_size}
-use Rattle.node_steps.proofs.Kept.{predicates_kept, values_kept}
+use Rattle.node_steps.proofs.Kept.{meetings_kept, pures_kept, values_kept}
 use Rattle.node_steps.proofs.Pairings.{capped_sum}
 use Rattle.node_steps.proofs.reading.closing_size.Goals as goal
 
 pub returns : goal.returns
 returns c =
     let ms = behind c.args.leaf.now.members.items in
-    let hs = behind c.as_slice-2.result.now in
-    let pures = λ (rs : List (Bor Member)). capped (sum_of pure_size (members_of (behind rs))) in
-    let sizes = λ (rs : List (Bor Member)). capped (sum_of (λ m. with_predicates_size (members_of hs) m.formula) (members_of (behind rs))) in
     capped_sum (sum_of pure_size (members_of ms)) (sum_of (λ m. with_predicates_size (members_of ms) m.formula) (members_of ms)) (function_pairs_size (members_of ms)) _ _ _ _ _ _
-    (c.pure_sizes.ensures ∙ ap pures c.as_slice-4.ensures.value)
-    (c.all_predicates_size-predicates.ensures ∙ ap sizes c.as_slice.ensures.value ∙ ap capped (predicates_kept ms hs (ap behind c.as_slice-2.ensures.value ∙ c.requires.holding)))
+    (c.sizes.ensures ∙ ap capped (pures_kept ms (behind c.as_slice-4.result.now) (ap behind c.as_slice-4.ensures.value ∙ c.requires.pure)))
+    (c.all_predicates_size-predicates.ensures ∙ ap capped (meetings_kept ms c.as_slice-2.result.now c.as_slice.result.now ((λ i. meetings_by (c.as_slice-2.ensures.value i) (c.as_slice.ensures.value i)) ∙ c.requires.met)))
     (c.later_values_size.ensures ∙ ap capped (values_kept ms (behind c.as_slice-3.result.now) (ap behind c.as_slice-3.ensures.value ∙ c.requires.differing)))
     c.saturating_add-pairs.ensures c.saturating_add.ensures c.saturating_add-2.ensures

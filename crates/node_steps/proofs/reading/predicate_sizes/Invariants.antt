@@ -6,5 +6,5 @@ use Rattle.node_steps.specs.Pairing as pairing
 use Rattle.node_steps.specs.Pairing.{sum_of}
 use Rattle.node_steps.proofs.reading.predicate_sizes.Given as goal
 
-abbrev pub invariant-loop-m : goal.invariant-loop-m
-invariant-loop-m l = (l.sum < 2 ^ 64) × (capped (l.sum + sum_of (λ m. pairing.predicate_pair_size l.p l.ss m.formula) (members_of (behind (drop l.m-index l.members)))) ≡ capped (sum_of (λ m. pairing.predicate_pair_size l.p l.ss m.formula) (members_of (behind l.members))))
+abbrev pub invariant-loop-i : goal.invariant-loop-i
+invariant-loop-i l = (l.sum < 2 ^ 64) × (capped (l.sum + sum_of (λ m. pairing.predicate_pair_size l.p l.ss m.formula) (members_of (behind (drop l.i l.members)))) ≡ capped (sum_of (λ m. pairing.predicate_pair_size l.p l.ss m.formula) (members_of (behind (drop l.first l.members)))))

@@ -1,4 +1,4 @@
-use Rattle.std.proofs.Common.{[], map, drop}
+use Rattle.std.proofs.Common.{map, drop}
 use Rattle.purse.proofs.Charging.{Left}
 use Rattle.purse.specs.Trace.{each}
 use Rattle.pred_unify.specs.Pairs.{function_pair}
@@ -8,4 +8,4 @@ use Rattle.pred_unify.specs.Reading.{behind}
 use Rattle.pred_unify.proofs.pairing.function_values.Given as goal
 
 abbrev pub invariant-loop-m : goal.invariant-loop-m
-invariant-loop-m l = Left (each (λ m. function_pair l.f l.ss l.u m.formula) (members_of (behind (drop l.m-index l.members))) (map form l.out)) (each (λ m. function_pair l.f l.ss l.u m.formula) (members_of (behind l.members)) [])
+invariant-loop-m l = Left (each (λ m. function_pair l.f l.ss l.u m.formula) (members_of (behind (drop l.m-index l.members))) (map form l.out)) (each (λ m. function_pair l.f l.ss l.u m.formula) (members_of (behind l.members)) (map form l.fn.out))

@@ -7,4 +7,4 @@ use Rattle.pred_unify.specs.Reading.{behind}
 use Rattle.pred_unify.proofs.pairing.later_values.Given as goal
 
 abbrev pub invariant-loop-i : goal.invariant-loop-i
-invariant-loop-i l = Left (function_pairs (members_of (behind (drop l.i l.members))) (map form l.out)) (function_pairs (members_of (behind l.members)) (map form l.fn.before))
+invariant-loop-i l = Left (function_pairs (members_of (behind (drop l.i l.members))) (map form l.out)) (function_pairs (members_of (behind l.members)) (map form l.fn.out))

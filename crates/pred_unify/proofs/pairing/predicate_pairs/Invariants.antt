@@ -1,4 +1,4 @@
-use Rattle.std.proofs.Common.{[], map, drop}
+use Rattle.std.proofs.Common.{map, drop}
 use Rattle.purse.proofs.Charging.{Left}
 use Rattle.purse.specs.Trace.{each}
 use Rattle.pred_unify.specs.Pairs.{predicate_pair}
@@ -7,5 +7,5 @@ use Rattle.sequent.specs.Views.{members_of}
 use Rattle.pred_unify.specs.Reading.{behind}
 use Rattle.pred_unify.proofs.pairing.predicate_pairs.Given as goal
 
-abbrev pub invariant-loop-m : goal.invariant-loop-m
-invariant-loop-m l = Left (each (λ m. predicate_pair l.p l.ss m.formula) (members_of (behind (drop l.m-index l.members))) (map form l.out)) (each (λ m. predicate_pair l.p l.ss m.formula) (members_of (behind l.members)) [])
+abbrev pub invariant-loop-i : goal.invariant-loop-i
+invariant-loop-i l = Left (each (λ m. predicate_pair l.p l.ss m.formula) (members_of (behind (drop l.i l.members))) (map form l.out)) (each (λ m. predicate_pair l.p l.ss m.formula) (members_of (behind (drop l.first l.members))) (map form l.fn.out))

@@ -2,7 +2,7 @@ use Rattle.std.proofs.Common.{◌≤◌, ◌<◌, ◌+◌, ◌-◌, ◌^◌, ari
 use Rattle.formula.specs.Shifts.{IsBelow}
 use Rattle.formula.specs.Tree.{form}
 use Rattle.pred_unify.proofs.Making.{all_behind}
-use Rattle.pred_unify.proofs.pairing.pures.Goals as goal
+use Rattle.pred_unify.proofs.pairing.all_brought.Goals as goal
 
 pub shift-requires-clause-rising : goal.shift-requires-clause-rising
 shift-requires-clause-rising c =
