@@ -2,7 +2,7 @@
 
 ghost use Rattle.given_line.specs.Text.{AreClauses, gives_text};
 ghost use Rattle.proof_tokens.specs.Reading.{Cuts, RefusesProof};
-ghost use Rattle.std.specs.Prelude.{◌≡◌, ◌∷◌, [], IfErr, IfOk, IfSome};
+ghost use Rattle.std.specs.Prelude.{◌≡◌, ◌∷◌, ◌++◌, [], IfErr, IfOk, IfSome, List, MatchOption, ℕ, codes};
 
 use crate::draft::Draft;
 use crate::machine::step;
@@ -25,7 +25,8 @@ fn one_true(alloc: Global) -> Result<Items<Items<Literal>>, Memory>
 
 /// The text behind the line `gives true`; none where another line comes.
 pub fn given_true(text: &[u8]) -> Option<&[u8]>
-    ensures { IfSome result (λ rest. Cuts (gives_text ([] ∷ [])) text.now rest.now) }
+    ensures bytes { MatchOption result ((rest : List ℕ) → text.now ≡ codes "gives true\n" ++ rest → ⊥) (λ rest. text.now ≡ codes "gives true\n" ++ rest.now) }
+    ensures tokens { IfSome result (λ rest. Cuts (gives_text ([] ∷ [])) text.now rest.now) }
 {
     let rest = behind_bytes(text, b"gives true\n".as_slice())?;
     Some(rest)
