@@ -33,6 +33,14 @@ def run(program, words, out=None, folder=None, said=os.devnull):
         return Run(child.returncode, file.read().decode(), seconds, usage.ru_maxrss)
 
 
+def prints_proof(program, words, out):
+    """Whether a run is answered VALID or INVALID and prints a proof into the file `out`: an answer with a counterexample has none."""
+    if run(program, words, out).status > 1:
+        return False
+    with open(out, 'rb') as file:
+        return b'\nproof:\n' in file.read(65_536)
+
+
 def best(program, words, times=3):
     """The shortest of some runs, with the least peak of memory of all."""
     runs = [run(program, words) for _ in range(times)]
