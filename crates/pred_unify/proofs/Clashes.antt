@@ -36,11 +36,11 @@ both_true false b h = absurd (cc)
 pub same_number : (m n : ℕ) → nat_eq m n ≡ true → m ≡ n
 same_number m n h = grind arith
 
-forms_true : (w : Meaning) (fs : List Form) (e : List ℤ) → AreFormsTrue w (forms fs) e → AllByRecursion (λ f. FormTruth w f e) fs
+pub forms_true : (w : Meaning) (fs : List Form) (e : List ℤ) → AreFormsTrue w (forms fs) e → AllByRecursion (λ f. FormTruth w f e) fs
 forms_true w [] e h = tt
 forms_true w (f ∷ fs) e h = (h.0, forms_true w fs e h.1)
 
-forms_false : (w : Meaning) (fs : List Form) (e : List ℤ) → AllByRecursion (λ f. ¬ (FormTruth w f e)) fs → AreFormsFalse w (forms fs) e
+pub forms_false : (w : Meaning) (fs : List Form) (e : List ℤ) → AllByRecursion (λ f. ¬ (FormTruth w f e)) fs → AreFormsFalse w (forms fs) e
 forms_false w [] e h = tt
 forms_false w (f ∷ fs) e h = (h.0, forms_false w fs e h.1)
 
@@ -90,7 +90,7 @@ same_false w e p ss ts len hit miss = (
   tt,
 )
 
-predicate_false : (w : Meaning) (n : ℕ) (e : List ℤ) (p a b : ℕ) (ss : List Linear) (g : Form) → length e ≡ n → a ≤ n → b ≤ n → All (IsOver a) ss → IsFormOver b g
+pub predicate_false : (w : Meaning) (n : ℕ) (e : List ℤ) (p a b : ℕ) (ss : List Linear) (g : Form) → length e ≡ n → a ≤ n → b ≤ n → All (IsOver a) ss → IsFormOver b g
     → ¬ (¬ (w.truth p (values_of ss (take a e)) ≡ true)) → ¬ (FormTruth w g (take b e)) → AllByRecursion (Fails w e) (predicate_pair p ss g).value
 unfolding just
 predicate_false w n e p a b ss (holds q ts) len ale ble over_s over_t hit miss =
@@ -139,7 +139,7 @@ other_false w e f ss ts u v len one two =
       tt,
     )
 
-function_false : (w : Meaning) (n : ℕ) (e : List ℤ) (f a b : ℕ) (ss : List Linear) (u : Linear) (g : Form) → length e ≡ n → a ≤ n → b ≤ n → All (IsOver a) ss → IsOver a u → IsFormOver b g
+pub function_false : (w : Meaning) (n : ℕ) (e : List ℤ) (f a b : ℕ) (ss : List Linear) (u : Linear) (g : Form) → length e ≡ n → a ≤ n → b ≤ n → All (IsOver a) ss → IsOver a u → IsFormOver b g
     → ¬ (¬ (w.value f (values_of ss (take a e)) ≡ value_of u (take a e))) → ¬ (FormTruth w g (take b e)) → AllByRecursion (Fails w e) (function_pair f ss u g).value
 unfolding just
 function_false w n e f a b ss u (differs g ts v) len ale ble over_s over_u over_t hit miss =

@@ -9,4 +9,4 @@ mod symbols;
 
 pub use laws::{closing_law, leaf_law, pure_law};
 pub use leaf::{Leaf, Met};
-pub use pairing::closing_at;
+pub use pairing::{closing_at, function_pair, predicate_pair};

@@ -75,7 +75,7 @@ fn other_values(
 }
 
 /// The pair of a negated predicate with g, if g is that predicate.
-fn predicate_pair(
+pub fn predicate_pair(
     alloc: Global,
     p: u32,
     ss: &[Term],
@@ -161,7 +161,7 @@ fn all_predicates(
 }
 
 /// The pair of a function's value with g, if g is another value of it.
-fn function_pair(
+pub fn function_pair(
     alloc: Global,
     f: u32,
     ss: &[Term],

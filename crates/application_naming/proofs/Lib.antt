@@ -1,0 +1,4 @@
+pub mod Naming
+pub mod Keeping
+pub mod Comparing
+pub mod Members

@@ -1,0 +1,46 @@
+-- Conjunctions and disjunctions of one formula.
+use Rattle.std.proofs.Common.{◌≡◌, ◌≢◌, ℕ, zero, suc, List, [], ◌∷◌, length, Option, Some, None, refl, sym, ap, ◌∙◌, subst, arith}
+use Rattle.std.specs.Borrow.{Bor}
+use Rattle.std.specs.List.{slice_get}
+use Rattle.std.specs.Option.{option_copied}
+use Rattle.formula.specs.Form.{Form, conjunction, disjunction}
+use Rattle.formula.specs.Tree.{form, forms_of}
+use Rattle.formula.specs.declared.calculus.Core.{Core}
+use Rattle.clause_proof.specs.Atoms.{inner_form}
+
+first_alone : (fs : List Core) (o : Option (Bor Core)) (b : Bor Core) → length fs ≡ 1 → option_copied o ≡ slice_get fs 0 → o ≡ Some b → fs ≡ b.now ∷ []
+first_alone [] o b len is at = absurd (cc)
+first_alone (f ∷ []) o b len is at = let same : Some f ≡ Some b.now = sym is ∙ ap option_copied at in let one : f ≡ b.now = cc in ap (λ x. x ∷ []) one
+first_alone (f ∷ h ∷ fs) o b len is at = absurd (omega (arith, len))
+
+first_there : (fs : List Core) (o : Option (Bor Core)) → option_copied o ≡ slice_get fs 0 → o ≡ None → length fs ≡ 1 → ⊥
+first_there [] o is at len = absurd (cc)
+first_there (f ∷ fs) o is at len = let bad : Some f ≡ None = sym is ∙ ap option_copied at in absurd (cc)
+
+pub all_single : (f : Form) (fs : List Core) (o : Option (Bor Core)) (b : Bor Core) → f ≡ conjunction (forms_of fs) → length fs ≡ 1 → option_copied o ≡ slice_get fs 0 → o ≡ Some b → inner_form f ≡ inner_form (form b.now)
+all_single f fs o b is len at some = ap inner_form is ∙ ap (λ l. inner_form (conjunction (forms_of l))) (first_alone fs o b len at some)
+
+pub any_single : (f : Form) (fs : List Core) (o : Option (Bor Core)) (b : Bor Core) → f ≡ disjunction (forms_of fs) → length fs ≡ 1 → option_copied o ≡ slice_get fs 0 → o ≡ Some b → inner_form f ≡ inner_form (form b.now)
+any_single f fs o b is len at some = ap inner_form is ∙ ap (λ l. inner_form (disjunction (forms_of l))) (first_alone fs o b len at some)
+
+pub all_many : (f : Form) (fs : List Core) → f ≡ conjunction (forms_of fs) → length fs ≢ 1 → inner_form f ≡ f
+all_many f fs is n = ap inner_form is ∙ go fs n ∙ sym is
+  where
+    go : (fs : List Core) → length fs ≢ 1 → inner_form (conjunction (forms_of fs)) ≡ conjunction (forms_of fs)
+    go [] n = refl
+    go (g ∷ []) n = absurd (n refl)
+    go (g ∷ h ∷ fs) n = refl
+
+pub any_many : (f : Form) (fs : List Core) → f ≡ disjunction (forms_of fs) → length fs ≢ 1 → inner_form f ≡ f
+any_many f fs is n = ap inner_form is ∙ go fs n ∙ sym is
+  where
+    go : (fs : List Core) → length fs ≢ 1 → inner_form (disjunction (forms_of fs)) ≡ disjunction (forms_of fs)
+    go [] n = refl
+    go (g ∷ []) n = absurd (n refl)
+    go (g ∷ h ∷ fs) n = refl
+
+pub one_lacks : (f : Form) (fs : List Core) (o : Option (Bor Core)) → length fs ≡ 1 → option_copied o ≡ slice_get fs 0 → o ≡ None → inner_form f ≡ f
+one_lacks f fs o len is at = absurd (first_there fs o is at len)
+
+pub ruleset alls = (all_single, all_many, one_lacks)
+pub ruleset anys = (any_single, any_many, one_lacks)

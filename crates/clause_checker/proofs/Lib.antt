@@ -1,0 +1,12 @@
+pub mod Doing
+pub mod Puts
+pub mod Quotients
+pub mod Stands
+pub mod Opens
+pub mod Readings
+pub mod Sums
+pub mod Lefts
+pub mod Checks
+pub mod Atoms
+pub mod Pairs
+pub mod Inner

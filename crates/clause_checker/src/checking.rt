@@ -1,0 +1,187 @@
+// A check of a whole proof, line by line.
+
+ghost use Rattle.std.specs.Prelude.{◌≡◌, ℤ, List, Some, map, OnOk, IfOk, IfErr};
+ghost use Rattle.typed_formula.specs.Truth.{Meaning};
+ghost use Rattle.formula.specs.Form.{FormTruth};
+ghost use Rattle.linear_term.specs.Linear as linear;
+ghost use Rattle.formula.specs.Tree.{form};
+ghost use Rattle.clause_proof.specs.Lines as lines;
+ghost use Rattle.clause_proof.specs.Proofs as proofs;
+ghost use Rattle.clause_checker.specs.Answers.{Does, IsOther};
+ghost use Rattle.clause_checker.specs.Views.{state_of};
+ghost use Rattle.clause_checker.specs.declared.fault.Fault.TheVariants.{Refused};
+
+use crate::canonical::literal_of;
+use crate::congruence::{pair, predicate_pair};
+use crate::fault::Fault;
+use crate::opening::{apply, one, open, opposite, positive};
+use crate::pairing::{divide, equation, inequality, predicate, split};
+use crate::reading::{instance, read};
+use crate::resolving::{delete, resolve};
+use crate::standing::stand_one;
+use crate::state::{Definition, State};
+use crate::summing::sum;
+use clause_marks::Marks;
+use clause_proof::{Line, Literal};
+use formula::{Core, Shared};
+use linear_term::{Term, in_range};
+use purse::Purse;
+use sqlite_items::{Items, at};
+use std::alloc::Global;
+
+/// The state with what the line adds.
+#[tactic(auto, using(crate::proofs::Checks::putting))]
+fn put<'a>(
+    alloc: Global,
+    purse: &mut Purse,
+    marks: &mut Marks,
+    state: &mut State<'a>,
+    line: &Line,
+) -> Result<(), Fault>
+    ensures { Does (λ u. state_of state.new) (lines.found (lines.added (state_of state.old) line.now) (lines.extended (state_of state.old))) result }
+{
+    match line {
+        Line::Open(i, ms) => open(alloc, purse, state, *i, ms.as_slice()),
+        Line::Apply(f, ts) => apply(alloc, purse, state, *f, ts.as_slice()),
+        Line::Read(i, bs, m) => read(alloc, purse, state, *i, bs.as_slice(), *m),
+        Line::Instance(i, us, m) => instance(alloc, purse, state, *i, us.as_slice(), *m),
+        Line::Inequality(t) => inequality(alloc, purse, state, t),
+        Line::Equation(t) => equation(alloc, purse, state, t),
+        Line::Predicate(p, ts) => predicate(alloc, purse, state, *p, ts.as_slice()),
+        Line::Split(i, g, h) => split(alloc, purse, state, *i, *g, *h),
+        Line::Sum(factors) => sum(alloc, purse, state, factors.as_slice()),
+        Line::Pair(a, b, es, r) => pair(alloc, purse, state, *a, *b, es.as_slice(), *r),
+        Line::PredicatePair(i, j, es) => predicate_pair(alloc, purse, state, *i, *j, es.as_slice()),
+        Line::Divide(d, t, g, h) => divide(alloc, purse, state, *d, t, *g, *h),
+        Line::Resolve(clause, hints) => resolve(
+            alloc,
+            purse,
+            marks,
+            state,
+            clause.as_slice(),
+            hints.as_slice(),
+        ),
+        Line::Delete(_) => Err(Fault::Refused),
+    }
+}
+
+/// The state after the line. After a fault the state is not to be used again.
+#[tactic(auto, using(crate::proofs::Checks::stepping))]
+pub fn step<'a>(
+    alloc: Global,
+    purse: &mut Purse,
+    marks: &mut Marks,
+    state: &mut State<'a>,
+    line: &Line,
+) -> Result<(), Fault>
+    ensures { Does (λ u. state_of state.new) (lines.after (state_of state.old) line.now) result }
+{
+    purse.charge(1)?;
+    match line {
+        Line::Delete(hints) => {
+            purse.charge(hints.len() as u64)?;
+            delete(&mut state.clauses, hints.as_slice());
+            Ok(())
+        }
+        _ => put(alloc, purse, marks, state, line),
+    }
+}
+
+/// The state after the lines.
+#[tactic(auto, using(crate::proofs::Checks::running))]
+fn run<'a>(
+    alloc: Global,
+    purse: &mut Purse,
+    marks: &mut Marks,
+    state: &mut State<'a>,
+    lines: &[Line],
+) -> Result<(), Fault>
+    ensures { Does (λ u. state_of state.new) (proofs.run (state_of state.old) lines.now) result }
+{
+    for line in lines {
+        step(alloc, purse, marks, state, line)?;
+    }
+    Ok(())
+}
+
+/// The numbers as terms.
+fn number_terms(alloc: Global, ks: &[i128]) -> Result<Items<Term>, Fault>
+    ensures ok { IfOk result (λ ts. ts ≡ map linear.number ks.now) }
+    ensures err { IfErr result IsOther }
+{
+    let mut out = Items::new(alloc);
+    for k in ks {
+        if !in_range(*k) {
+            return Err(Fault::Overflow);
+        }
+        out.push(Term::number(alloc, *k))?;
+    }
+    Ok(out)
+}
+
+/// The start: the root at the numbers is false. The literal stands for it.
+#[tactic(auto, using(crate::proofs::Checks::beginning))]
+pub fn begin<'a>(
+    alloc: Global,
+    purse: &mut Purse,
+    root: &'a Core,
+    ks: &[i128],
+    m: Literal,
+) -> Result<State<'a>, Fault>
+    ensures { Does state_of (proofs.start (form root.now) ks.now m) result }
+{
+    purse.charge((ks.len() as u64).saturating_add(1))?;
+    let terms = Shared::new(alloc, number_terms(alloc, ks)?)?;
+    let x = literal_of(alloc, purse, root, &terms)?;
+    let mut definitions = Items::new(alloc);
+    definitions.push(Definition::Always)?;
+    let mut clauses = one(alloc, Items::from_slice(alloc, &[positive(0)])?)?;
+    clauses.push(Some(Items::from_slice(alloc, &[opposite(m)])?))?;
+    stand_one(&mut definitions, x, m)?;
+    Ok(State {
+        definitions,
+        clauses,
+        applications: Items::new(alloc),
+        count: 0,
+    })
+}
+
+/// Whether the last clause is empty.
+#[tactic(auto, using(crate::proofs::Checks::ending))]
+fn ends_empty(clauses: &[Option<Items<Literal>>]) -> bool
+    ensures { result ≡ proofs.ends_empty clauses.now }
+{
+    if clauses.is_empty() {
+        return false;
+    }
+    match at(clauses, clauses.len() - 1) {
+        Some(Some(clause)) => clause.is_empty(),
+        Some(None) => false,
+        None => false,
+    }
+}
+
+/// Whether the lines are a proof of the root at the numbers ks for its names, for which the literal stands. Then it is true
+/// there in every interpretation.
+#[tactic(auto, using(crate::proofs::Checks::checking))]
+pub fn check(
+    alloc: Global,
+    purse: &mut Purse,
+    root: &Core,
+    ks: &[i128],
+    m: Literal,
+    lines: &[Line],
+) -> Result<(), Fault>
+    ensures proof { OnOk result (proofs.IsClauseProof (form root.now) ks.now m lines.now) }
+    ensures truth { OnOk result ((w : Meaning) → FormTruth w (form root.now) ks.now) }
+    ensures none { result ≡ Err Refused → ¬ (proofs.IsClauseProof (form root.now) ks.now m lines.now) }
+{
+    let mut marks = Marks::new(alloc);
+    let mut state = begin(alloc, purse, root, ks, m)?;
+    run(alloc, purse, &mut marks, &mut state, lines)?;
+    if ends_empty(state.clauses.as_slice()) {
+        Ok(())
+    } else {
+        Err(Fault::Refused)
+    }
+}

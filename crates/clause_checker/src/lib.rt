@@ -1,0 +1,18 @@
+#![tactic(auto)]
+
+mod canonical;
+mod checking;
+mod congruence;
+mod fault;
+mod opening;
+mod pairing;
+mod putting;
+mod reading;
+mod resolving;
+mod standing;
+mod state;
+mod summing;
+
+pub use checking::{begin, check, step};
+pub use fault::Fault;
+pub use state::{Definition, State};

@@ -1,0 +1,189 @@
+// Sum: a weighted sum of what the falsities of literals say is absurd. Atoms and split.
+
+ghost use Rattle.std.specs.Prelude.{◌≡◌, ◌∷◌, [], map, pos, true, IfOk, IfErr};
+ghost use Rattle.std.specs.List.{slice_get};
+ghost use Rattle.linear_term.specs.Linear as linear;
+ghost use Rattle.clause_proof.specs.Clauses as q;
+ghost use Rattle.clause_proof.specs.Atoms as atoms;
+ghost use Rattle.clause_proof.specs.Lines as lines;
+ghost use Rattle.clause_checker.specs.Answers.{Does, IsOther};
+ghost use Rattle.clause_checker.specs.Views.{definition_of, definitions_of, signed_of, state_of};
+
+use crate::canonical::{equation_literal, inequality_literal, opposite_less_one};
+use crate::fault::Fault;
+use crate::opening::one;
+use crate::putting::{combine, copy};
+use crate::standing::same_definition;
+use crate::state::{Definition, Signed, State};
+use clause_proof::{Factor, Literal};
+use linear_term::{Term, in_range};
+use purse::Purse;
+use sqlite_items::{Items, at};
+use std::alloc::Global;
+
+/// What the falsity of the definition, or of its negation, says of a term: it is 0, or at least 0.
+#[tactic(auto, using(crate::proofs::Doing::doing))]
+fn fact_of(
+    alloc: Global,
+    purse: &mut Purse,
+    d: &Definition,
+    positive: bool,
+) -> Result<(Term, bool), Fault>
+    ensures { Does (λ x. x) (lines.fact_of (definition_of d.now) positive) result }
+{
+    match d {
+        Definition::AtLeastZero(t) => {
+            if positive {
+                let opposite = opposite_less_one(alloc, purse, t)?;
+                Ok((opposite, false))
+            } else {
+                let same = copy(purse, t)?;
+                Ok((same, false))
+            }
+        }
+        Definition::IsZero(t) => {
+            if positive {
+                Err(Fault::Refused)
+            } else {
+                let same = copy(purse, t)?;
+                Ok((same, true))
+            }
+        }
+        Definition::Always => Err(Fault::Refused),
+        Definition::Predicate(_, _) => Err(Fault::Refused),
+        Definition::Closure(_, _) => Err(Fault::Refused),
+    }
+}
+
+/// What the falsity of the literal says.
+#[tactic(auto, using(crate::proofs::Opens::found_ones))]
+fn fact_at(
+    alloc: Global,
+    purse: &mut Purse,
+    definitions: &[Definition],
+    l: Literal,
+) -> Result<(Term, bool), Fault>
+    ensures { Does (λ x. x) (lines.fact_at (definitions_of definitions.now) l) result }
+{
+    match at(definitions, l.variable as usize) {
+        None => Err(Fault::Refused),
+        Some(d) => fact_of(alloc, purse, d, l.positive),
+    }
+}
+
+/// u, and k times the fact. An inequality has no negative multiplier.
+#[tactic(auto, using(crate::proofs::Doing::doing))]
+fn with_fact(
+    purse: &mut Purse,
+    k: i128,
+    u: &(Term, bool),
+    fact: &(Term, bool),
+) -> Result<(Term, bool), Fault>
+    ensures { Does (λ x. x) (lines.with_fact k u.now fact.now) result }
+{
+    if !fact.1 && k < 0 {
+        return Err(Fault::Refused);
+    }
+    if !in_range(k) {
+        return Err(Fault::Overflow);
+    }
+    let sum = combine(purse, 1, &u.0, k, &fact.0)?;
+    Ok((sum, u.1 && fact.1))
+}
+
+/// u, and the weighted fact of the literal.
+#[tactic(auto, using(crate::proofs::Doing::doing))]
+fn with_factor(
+    alloc: Global,
+    purse: &mut Purse,
+    definitions: &[Definition],
+    u: &(Term, bool),
+    x: Factor,
+) -> Result<(Term, bool), Fault>
+    ensures { Does (λ x. x) (lines.found (lines.fact_at (definitions_of definitions.now) x.literal) (lines.with_fact x.by u.now)) result }
+{
+    purse.charge(1)?;
+    let fact = fact_at(alloc, purse, definitions, x.literal)?;
+    with_fact(purse, x.by, u, &fact)
+}
+
+/// The weighted sum of the facts.
+#[tactic(auto, using(crate::proofs::Sums::sums, crate::proofs::Doing::does_cut))]
+fn sum_of(
+    alloc: Global,
+    purse: &mut Purse,
+    definitions: &[Definition],
+    factors: &[Factor],
+) -> Result<(Term, bool), Fault>
+    ensures { Does (λ x. x) (lines.sum_of (definitions_of definitions.now) factors.now (linear.number (pos 0), true)) result }
+{
+    let mut sum = (Term::number(alloc, 0), true);
+    for x in factors {
+        sum = with_factor(alloc, purse, definitions, &sum, *x)?;
+    }
+    Ok(sum)
+}
+
+/// Whether the literal is false.
+fn is_absurd(x: &Signed) -> bool
+    ensures { result ≡ lines.is_absurd (signed_of x.now) }
+{
+    !x.positive && same_definition(&x.definition, &Definition::Always)
+}
+
+/// The literal of a fact.
+fn literal_of_fact<'a>(
+    alloc: Global,
+    purse: &mut Purse,
+    u: (Term, bool),
+) -> Result<Signed<'a>, Fault>
+    ensures ok { IfOk result (λ x. signed_of x ≡ lines.literal_of_fact u) }
+    ensures err { IfErr result IsOther }
+{
+    let (t, exact) = u;
+    if exact {
+        equation_literal(alloc, purse, t)
+    } else {
+        inequality_literal(alloc, purse, t)
+    }
+}
+
+/// The literals of the factors.
+fn literals(alloc: Global, factors: &[Factor]) -> Result<Items<Literal>, Fault>
+    ensures ok { IfOk result (λ c. c ≡ map (λ x. x.literal) factors.now) }
+    ensures err { IfErr result IsOther }
+{
+    let mut out = Items::new(alloc);
+    for x in factors {
+        out.push(x.literal)?;
+    }
+    Ok(out)
+}
+
+/// One more clause.
+#[tactic(auto, using(crate::proofs::Sums::clause_added, crate::proofs::Doing::does_cut))]
+pub(crate) fn add_clause(state: &mut State, clause: Items<Literal>) -> Result<(), Fault>
+    ensures { Does (λ u. state_of state.new) (lines.extended (state_of state.old) (lines.clauses_of (state_of state.old) (clause ∷ []))) result }
+{
+    state.clauses.push(Some(clause))?;
+    Ok(())
+}
+
+/// What a sum adds.
+#[tactic(auto, using(crate::proofs::Sums::summing))]
+pub(crate) fn sum(
+    alloc: Global,
+    purse: &mut Purse,
+    state: &mut State,
+    factors: &[Factor],
+) -> Result<(), Fault>
+    ensures { Does (λ u. state_of state.new) (lines.found (lines.summed (state_of state.old) factors.now) (lines.extended (state_of state.old))) result }
+{
+    let total = sum_of(alloc, purse, state.definitions.as_slice(), factors)?;
+    let x = literal_of_fact(alloc, purse, total)?;
+    if !is_absurd(&x) {
+        return Err(Fault::Refused);
+    }
+    let clause = literals(alloc, factors)?;
+    add_clause(state, clause)
+}

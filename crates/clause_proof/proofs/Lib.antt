@@ -1,0 +1,13 @@
+pub mod Contents
+pub mod Putting
+pub mod Canonical
+pub mod Equality
+pub mod Keeping
+pub mod Over
+pub mod Opening
+pub mod Reading
+pub mod Summing
+pub mod Clashing
+pub mod Pairing
+pub mod Dividing
+pub mod Sound

@@ -1,0 +1,4 @@
+pub mod Atoms
+pub mod Clauses
+pub mod Lines
+pub mod Proofs

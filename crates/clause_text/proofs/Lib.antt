@@ -1,0 +1,10 @@
+pub mod Written
+pub mod Words
+pub mod SpelledLiterals
+pub mod Shapes
+pub mod ExactLines
+pub mod Steps
+pub mod Labels
+pub mod ExactHead
+pub mod ExactFiles
+pub mod HeadSteps

@@ -1,0 +1,27 @@
+use Rattle.std.specs.Prelude.{codes}
+use Rattle.std.proofs.lemmas.Result.{err_from_is_err_and}
+use Rattle.text_words.specs.Tokens.{tokens}
+use Rattle.text_words.specs.Numbers.{index_of, integer_of}
+use Rattle.text_words.specs.Reading.{fields, word_as}
+use Rattle.clause_text.specs.HeadWords.{charge_of, format_word, is_label}
+use Rattle.clause_text.specs.Literals.{literal_of}
+use Rattle.clause_text.proofs.HeadSteps.{both_done, both_first, both_second, one_done, one_label_fails, one_field_fails, one_end_fails, word_field, blank_field, wrong_field}
+use Rattle.clause_text.proofs.head.prepared.Goals as goal
+
+pub returns-in_err-inner : goal.returns-in_err-inner
+returns-in_err-inner c =
+    let p = err_from_is_err_and c.from_residual.result c.from_residual.ensures.1 in
+    rw (p.1, p.2) (one_label_fails (codes "prepared") index_of (tokens c.args.text.now) c.in_err-inner.field-0.0 c.in_err-inner.ensures)
+
+pub returns-in_err-steps : goal.returns-in_err-steps
+returns-in_err-steps c =
+    let p = err_from_is_err_and c.from_residual-in_err-steps.result c.from_residual-in_err-steps.ensures.1 in
+    rw (p.1, p.2) (one_field_fails (codes "prepared") index_of (tokens c.args.text.now) (tokens c.in_ok-inner.inner.now) c.in_err-steps.field-0.0 c.in_ok-inner.ensures c.in_err-steps.ensures)
+
+pub returns-in_err-rest : goal.returns-in_err-rest
+returns-in_err-rest c =
+    let p = err_from_is_err_and c.from_residual-in_err-rest.result c.from_residual-in_err-rest.ensures.1 in
+    rw (p.1, p.2) (one_end_fails (codes "prepared") index_of (tokens c.args.text.now) (tokens c.in_ok-inner.inner.now) (tokens c.in_ok-steps.rest.now) c.in_ok-steps.steps c.in_err-rest.field-0.0 c.in_ok-inner.ensures c.in_ok-steps.ensures c.in_err-rest.ensures.exact)
+
+pub returns : goal.returns
+returns c = one_done (codes "prepared") index_of (tokens c.args.text.now) (tokens c.in_ok-inner.inner.now) (tokens c.in_ok-steps.rest.now) (tokens c.in_ok-rest.rest.now) c.in_ok-steps.steps c.in_ok-inner.ensures c.in_ok-steps.ensures c.in_ok-rest.ensures.exact

@@ -1,0 +1,8 @@
+use Rattle.std.proofs.Common.{◌≡◌, ◌++◌, drop}
+use Rattle.text_words.specs.Terms.{term_text}
+use Rattle.text_words.specs.Texts.{list_text}
+use Rattle.text_words.specs.Tokens.{spelled}
+use Rattle.clause_text.proofs.printing.terms.Given as goal
+
+abbrev pub invariant-loop-t : goal.invariant-loop-t
+invariant-loop-t l = l.out.items ++ spelled (list_text term_text (drop l.t-index l.ts)) ≡ l.fn.out.items ++ spelled (list_text term_text l.ts)

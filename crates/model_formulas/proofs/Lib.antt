@@ -1,0 +1,13 @@
+pub mod Values
+pub mod Puts
+pub mod Told
+pub mod Members
+pub mod Matching
+pub mod Chosen
+pub mod Firsts
+pub mod Bound
+pub mod Readings
+pub mod Placed
+pub mod Arms
+pub mod Lists
+pub mod Rests

@@ -1,0 +1,6 @@
+use Rattle.std.proofs.Common.{◌≡◌, map, take}
+use Rattle.model_formulas.specs.Terms as terms
+use Rattle.model_formulas.proofs.putting.put_all.Given as goal
+
+abbrev pub invariant-loop-u : goal.invariant-loop-u
+invariant-loop-u l = l.out ≡ map (terms.put_in l.ts) (take l.u-index l.us)

@@ -1,0 +1,5 @@
+pub mod Terms
+pub mod Expansions
+pub mod Choices
+pub mod Rows
+pub mod Expanded

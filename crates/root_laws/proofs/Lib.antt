@@ -1,0 +1,2 @@
+pub mod Clausal
+pub mod Prepared

@@ -1,0 +1,9 @@
+pub mod Splitting
+pub mod Lists
+pub mod Summing
+pub mod Written
+pub mod Exact
+pub mod Unless
+pub mod Spelled
+pub mod Runs
+pub mod SpelledTerms
