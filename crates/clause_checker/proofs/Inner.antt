@@ -43,4 +43,5 @@ pub one_lacks : (f : Form) (fs : List Core) (o : Option (Bor Core)) → length f
 one_lacks f fs o len is at = absurd (first_there fs o is at len)
 
 pub ruleset alls = (all_single, all_many, one_lacks)
+
 pub ruleset anys = (any_single, any_many, one_lacks)

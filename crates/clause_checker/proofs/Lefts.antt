@@ -3,7 +3,7 @@ use Rattle.std.proofs.Common.{◌≡◌, ℕ, zero, suc, ◌<◌, ◌≤◌, ◌
 use Rattle.std.specs.List.{list_any, slice_get}
 use Rattle.std.proofs.lemmas.List.{append-nil, take_all}
 use Rattle.std.proofs.lemmas.List.Elements.{filter-append}
-use Rattle.purse.proofs.Charging.{drop-item, drop_all}
+use Rattle.base_budget.proofs.Charging.{drop-item, drop_all}
 use Rattle.clause_proof.specs.declared.line.Literal.{Literal}
 use Rattle.clause_proof.specs.Lines.{is_literal, opposite, left_of, clashes, clause_passes, unit_passes, without_clauses}
 use Rattle.clause_checker.specs.declared.resolving.Left.{Left}

@@ -3,7 +3,7 @@ use Rattle.std.proofs.Common.{◌≡◌, ◌≢◌, ℕ, zero, suc, ◌+◌, ◌
 use Rattle.std.specs.Borrow.{Bor}
 use Rattle.std.specs.List.{slice_get}
 use Rattle.std.proofs.lemmas.Bool.Decides.{nat_tests}
-use Rattle.purse.proofs.Charging.{drop_all}
+use Rattle.base_budget.proofs.Charging.{drop_all}
 use Rattle.linear_term.specs.Linear.{Linear, name}
 use Rattle.linear_term.specs.Combination.{combination}
 use Rattle.clause_proof.specs.declared.line.Application.{Application}

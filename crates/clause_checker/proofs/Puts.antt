@@ -3,7 +3,7 @@ use Rattle.std.proofs.Common.{◌≡◌, ℕ, zero, suc, ◌+◌, ◌<◌, ◌�
 use Rattle.std.specs.Borrow.{Bor}
 use Rattle.std.specs.List.{slice_get}
 use Rattle.std.specs.Option.{option_copied}
-use Rattle.purse.proofs.Charging.{drop-item, drop_all}
+use Rattle.base_budget.proofs.Charging.{drop-item, drop_all}
 use Rattle.linear_term.specs.Linear.{Linear, number}
 use Rattle.linear_term.specs.Combination.{combination}
 use Rattle.clause_proof.specs.Atoms.{term_at, put_from, put_in, same_term, same_terms}

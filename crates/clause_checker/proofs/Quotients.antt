@@ -10,7 +10,7 @@ use Rattle.std.specs.List.{AllByRecursion}
 use Rattle.std.proofs.lemmas.Int.{ints}
 use Rattle.std.proofs.Math.Nat.{div-le_self}
 use Rattle.std.proofs.lemmas.List.Elements.{All-from_recursion, recursion_from_All, All-weaker}
-use Rattle.integers.specs.Divides.{Divides, divides}
+use Rattle.base_integers.specs.Divides.{Divides, divides}
 use Rattle.linear_term.specs.Linear.{Linear, IsRisingFrom, IsCoefficient, IsNormal}
 use Rattle.linear_term.specs.Range.{InRange}
 use Rattle.linear_term.proofs.Totals.{by_test}

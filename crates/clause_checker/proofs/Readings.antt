@@ -3,7 +3,7 @@ use Rattle.std.proofs.Common.{◌≡◌, ◌≢◌, ℕ, zero, suc, ◌+◌, ◌
 use Rattle.std.specs.Borrow.{Bor}
 use Rattle.std.specs.List.{slice_get}
 use Rattle.std.specs.Option.{option_copied}
-use Rattle.purse.proofs.Charging.{drop-item, drop_all}
+use Rattle.base_budget.proofs.Charging.{drop-item, drop_all}
 use Rattle.linear_term.specs.Linear.{Linear, name}
 use Rattle.formula.specs.Form.{Form, Forms, equal, unequal, at_least, holds, fails, differs, conjunction, disjunction, universal, existential, no_form, and_form}
 use Rattle.formula.specs.Tree.{form, forms_of}

@@ -1,7 +1,7 @@
 // The literal that a formula with a term for each of its names is, in canonical form.
 
 ghost use Rattle.std.specs.Prelude.{◌≡◌, ◌<ℤ◌, pos, unsigned_abs, map, All, None, IfOk, IfErr, IfSome};
-ghost use Rattle.integers.specs.Divides.{divides, Divides};
+ghost use Rattle.base_integers.specs.Divides.{divides, Divides};
 ghost use Rattle.linear_term.specs.Range.{InRange};
 ghost use Rattle.formula.specs.Form.{conjunction, disjunction};
 ghost use Rattle.formula.specs.Tree.{form, forms_of};
@@ -13,9 +13,9 @@ ghost use Rattle.clause_checker.specs.Views.{signed_of};
 use crate::fault::Fault;
 use crate::putting::{combine, put_all, put_in};
 use crate::state::{Definition, Signed};
+use base_budget::Purse;
 use formula::{Core, Shared};
 use linear_term::{Memory, Term, floor_div, gcd};
-use purse::Purse;
 use sqlite_items::{Items, at};
 use std::alloc::Global;
 

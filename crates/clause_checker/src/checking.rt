@@ -1,7 +1,7 @@
 // A check of a whole proof, line by line.
 
 ghost use Rattle.std.specs.Prelude.{◌≡◌, ℤ, List, Some, map, OnOk, IfOk, IfErr};
-ghost use Rattle.typed_formula.specs.Truth.{Meaning};
+ghost use Rattle.form_typed.specs.Truth.{Meaning};
 ghost use Rattle.formula.specs.Form.{FormTruth};
 ghost use Rattle.linear_term.specs.Linear as linear;
 ghost use Rattle.formula.specs.Tree.{form};
@@ -21,11 +21,11 @@ use crate::resolving::{delete, resolve};
 use crate::standing::stand_one;
 use crate::state::{Definition, State};
 use crate::summing::sum;
+use base_budget::Purse;
 use clause_marks::Marks;
 use clause_proof::{Line, Literal};
 use formula::{Core, Shared};
 use linear_term::{Term, in_range};
-use purse::Purse;
 use sqlite_items::{Items, at};
 use std::alloc::Global;
 

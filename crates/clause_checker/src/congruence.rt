@@ -17,9 +17,9 @@ use crate::putting::{combine, copied};
 use crate::reading::application_at;
 use crate::standing::stand;
 use crate::state::{Definition, State};
+use base_budget::Purse;
 use clause_proof::{Application, Literal};
 use linear_term::Term;
-use purse::Purse;
 use sqlite_items::{Items, at};
 use std::alloc::Global;
 
@@ -104,7 +104,14 @@ fn stand_pair<'a>(
     let c = Term::name(alloc, x.constant);
     let d = Term::name(alloc, y.constant);
     stand_equation(alloc, purse, definitions, &c, &d, r)?;
-    stand_equations(alloc, purse, definitions, x.terms.as_slice(), y.terms.as_slice(), es)
+    stand_equations(
+        alloc,
+        purse,
+        definitions,
+        x.terms.as_slice(),
+        y.terms.as_slice(),
+        es,
+    )
 }
 
 /// What two applications of one function add.

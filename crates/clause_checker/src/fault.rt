@@ -2,8 +2,8 @@
 
 ghost use Rattle.clause_checker.specs.Answers.{IsOther};
 
+use base_budget::Spent;
 use linear_term::{Memory, TermFault};
-use purse::Spent;
 use std::alloc::{AllocError, AllocFailed};
 
 /// What ends a check.

@@ -15,10 +15,10 @@ use crate::fault::Fault;
 use crate::putting::{are_over, copied};
 use crate::standing::{stand, stand_members, stand_one};
 use crate::state::{Definition, Signed, State};
+use base_budget::Purse;
 use clause_proof::{Application, Literal};
 use formula::{Core, Shared};
 use linear_term::Term;
-use purse::Purse;
 use sqlite_items::{Items, at};
 use std::alloc::Global;
 
@@ -219,7 +219,12 @@ fn open_body<'a>(
         return Err(Fault::Room);
     }
     let clauses = each_false(alloc, purse, i, ms)?;
-    let terms = with_term(alloc, purse, ts.get().as_slice(), Term::name(alloc, state.count))?;
+    let terms = with_term(
+        alloc,
+        purse,
+        ts.get().as_slice(),
+        Term::name(alloc, state.count),
+    )?;
     let x = literal_of(alloc, purse, body, &terms)?;
     stand_alone(&mut state.definitions, x, ms)?;
     state.clauses.append(clauses)?;

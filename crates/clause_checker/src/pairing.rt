@@ -15,9 +15,9 @@ use crate::opening::{one, positive};
 use crate::putting::{are_over, combine, copied, copy, is_over};
 use crate::standing::{stand_one, stand_two};
 use crate::state::{Definition, Signed, State};
+use base_budget::Purse;
 use clause_proof::Literal;
 use linear_term::{Term, in_range};
-use purse::Purse;
 use sqlite_items::{Items, at};
 use std::alloc::Global;
 

@@ -8,19 +8,29 @@ ghost use Rattle.clause_proof.specs.Lines as lines;
 ghost use Rattle.clause_checker.specs.Answers.{IsOther};
 
 use crate::fault::Fault;
+use base_budget::Purse;
 use linear_term::{Term, in_range};
-use purse::Purse;
 use sqlite_items::{Items, at};
 use std::alloc::Global;
 
 /// m·s + n·t, charged by the names of both.
-pub(crate) fn combine(purse: &mut Purse, m: i128, s: &Term, n: i128, t: &Term) -> Result<Term, Fault>
+pub(crate) fn combine(
+    purse: &mut Purse,
+    m: i128,
+    s: &Term,
+    n: i128,
+    t: &Term,
+) -> Result<Term, Fault>
     requires m_in_range { InRange m }
     requires n_in_range { InRange n }
     ensures ok { IfOk result (λ r. r ≡ combination m s.now n t.now) }
     ensures err { IfErr result IsOther }
 {
-    purse.charge((s.len() as u64).saturating_add(t.len() as u64).saturating_add(1))?;
+    purse.charge(
+        (s.len() as u64)
+            .saturating_add(t.len() as u64)
+            .saturating_add(1),
+    )?;
     Ok(Term::combine(m, s, n, t)?)
 }
 
@@ -54,12 +64,7 @@ fn put_one(
 
 /// The term with the terms ts for its names.
 #[tactic(auto, using(crate::proofs::Puts::puts))]
-pub(crate) fn put_in(
-    alloc: Global,
-    purse: &mut Purse,
-    ts: &[Term],
-    t: &Term,
-) -> Result<Term, Fault>
+pub(crate) fn put_in(alloc: Global, purse: &mut Purse, ts: &[Term], t: &Term) -> Result<Term, Fault>
     ensures ok { IfOk result (λ r. r ≡ atoms.put_in ts.now t.now) }
     ensures err { IfErr result IsOther }
 {

@@ -13,10 +13,10 @@ use crate::fault::Fault;
 use crate::opening::{closure_at, implied_by, with_term};
 use crate::putting::{are_over, copy, put_all, same_term, same_terms};
 use crate::state::State;
+use base_budget::Purse;
 use clause_proof::{Application, Literal};
 use formula::{Core, Shared};
 use linear_term::Term;
-use purse::Purse;
 use sqlite_items::{Items, at};
 use std::alloc::Global;
 
@@ -113,7 +113,11 @@ fn reads(
 {
     let args = put_all(alloc, purse, ts, ss)?;
     let name = Term::name(alloc, n);
-    Ok(x.function == f && (are_over(n, ss) && (same_terms(args.as_slice(), x.terms.as_slice()) && same_term(u, &name))))
+    Ok(
+        x.function == f
+            && (are_over(n, ss)
+                && (same_terms(args.as_slice(), x.terms.as_slice()) && same_term(u, &name))),
+    )
 }
 
 /// Whether the formula says that the function of the application has another value than the next name.
@@ -247,7 +251,12 @@ fn read_step<'a>(
 {
     let x = application_at(applications, b)?;
     let g = read_one(alloc, purse, x, ts.get().as_slice(), f)?;
-    let terms = with_term(alloc, purse, ts.get().as_slice(), Term::name(alloc, x.constant))?;
+    let terms = with_term(
+        alloc,
+        purse,
+        ts.get().as_slice(),
+        Term::name(alloc, x.constant),
+    )?;
     Ok((g, terms))
 }
 

@@ -10,13 +10,13 @@ ghost use Rattle.clause_checker.specs.Answers.{Does, IsOther};
 ghost use Rattle.clause_checker.specs.Marking.{IsMarking};
 ghost use Rattle.clause_checker.specs.Views.{left_at, left_view, state_of};
 
-use crate::opening::opposite;
-use crate::summing::add_clause;
 use crate::fault::Fault;
+use crate::opening::opposite;
 use crate::state::State;
+use crate::summing::add_clause;
+use base_budget::Purse;
 use clause_marks::Marks;
 use clause_proof::Literal;
-use purse::Purse;
 use sqlite_items::{Items, at};
 use std::alloc::Global;
 

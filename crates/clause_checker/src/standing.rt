@@ -12,10 +12,10 @@ use crate::canonical::literal_of;
 use crate::fault::Fault;
 use crate::putting::{same_term, same_terms};
 use crate::state::{Definition, Signed};
+use base_budget::Purse;
 use clause_proof::Literal;
 use formula::{Core, Shared};
 use linear_term::Term;
-use purse::Purse;
 use sqlite_items::{Items, at};
 use std::alloc::Global;
 
@@ -92,7 +92,6 @@ pub(crate) fn stand<'a>(
     }
     Err(Fault::Refused)
 }
-
 
 /// The same of one literal alone, as a list.
 #[tactic(auto, using(crate::proofs::Stands::one))]

@@ -15,9 +15,9 @@ use crate::opening::one;
 use crate::putting::{combine, copy};
 use crate::standing::same_definition;
 use crate::state::{Definition, Signed, State};
+use base_budget::Purse;
 use clause_proof::{Factor, Literal};
 use linear_term::{Term, in_range};
-use purse::Purse;
 use sqlite_items::{Items, at};
 use std::alloc::Global;
 

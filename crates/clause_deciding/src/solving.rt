@@ -2,12 +2,12 @@
 
 ghost use Rattle.std.specs.Prelude.{◌<◌, ◌^◌};
 
+use base_budget::{ElimFault, Purse};
 use clause_fuel::{Fault, Fuel};
 use clause_models::{Decider, Solution, plain};
 use clause_set::Dnf;
 use formula::{Core, depth};
 use parameter_solver::{Solved, is_over};
-use purse::{ElimFault, Purse};
 use quant_elim::eliminate;
 use std::alloc::Global;
 

@@ -81,7 +81,11 @@ pub(crate) fn equation(terms: &mut Terms, t: Term) -> Result<Signed, Fault> {
         linear: terms.primitive(t.linear)?,
         constant: t.constant.checked_div(by).ok_or(Fault::Overflow)?,
     };
-    let t = if terms.leads_positive(t.linear)? { t } else { terms.minus(t)? };
+    let t = if terms.leads_positive(t.linear)? {
+        t
+    } else {
+        terms.minus(t)?
+    };
     Ok(Signed {
         definition: Definition::IsZero(t),
         positive: true,
@@ -108,7 +112,12 @@ fn inner(tree: &Tree, node: u32) -> Result<u32, Fault> {
 }
 
 /// The literal of a formula with the terms of a list for its names.
-pub(crate) fn literal_of(terms: &mut Terms, tree: &Tree, node: u32, list: List) -> Result<Signed, Fault> {
+pub(crate) fn literal_of(
+    terms: &mut Terms,
+    tree: &Tree,
+    node: u32,
+    list: List,
+) -> Result<Signed, Fault> {
     let node = inner(tree, node)?;
     match tree.node(node)? {
         Node::Equation(t) => {
@@ -141,7 +150,11 @@ pub(crate) fn literal_of(terms: &mut Terms, tree: &Tree, node: u32, list: List) 
 }
 
 /// What a definition that is true, or one that is false, says of a term; None where it says nothing linear.
-pub(crate) fn fact_of(terms: &mut Terms, definition: Definition, truth: bool) -> Result<Option<Fact>, Fault> {
+pub(crate) fn fact_of(
+    terms: &mut Terms,
+    definition: Definition,
+    truth: bool,
+) -> Result<Option<Fact>, Fault> {
     match definition {
         Definition::AtLeastZero(t) => {
             let term = if truth { t } else { other_side(terms, t)? };

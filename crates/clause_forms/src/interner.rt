@@ -126,7 +126,12 @@ impl<T: Letter + Drop> Interner<T> {
 
     /// A table of twice the size.
     fn grow(&mut self) -> Result<(), Fault> {
-        let size = self.slots.len().max(32).checked_mul(2).ok_or(Fault::Overflow)?;
+        let size = self
+            .slots
+            .len()
+            .max(32)
+            .checked_mul(2)
+            .ok_or(Fault::Overflow)?;
         let mut slots: Vec<u32> = Vec::with_capacity(self.alloc, size)?;
         for _ in 0..size {
             slots.push(FREE)?;

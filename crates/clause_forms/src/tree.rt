@@ -91,11 +91,24 @@ impl Tree {
     }
 
     fn atom(&mut self, node: Node, depth: u32, is_pure: bool) -> Result<u32, Fault> {
-        self.add(node, Info { depth, size: 1, is_pure })
+        self.add(
+            node,
+            Info {
+                depth,
+                size: 1,
+                is_pure,
+            },
+        )
     }
 
     /// The number of a formula over so many names, in which there is room for so many levels.
-    fn take(&mut self, terms: &mut Terms, core: &Core, depth: u32, room: u32) -> Result<u32, Fault> {
+    fn take(
+        &mut self,
+        terms: &mut Terms,
+        core: &Core,
+        depth: u32,
+        room: u32,
+    ) -> Result<u32, Fault> {
         if room == 0 {
             return Err(Fault::Overflow);
         }
@@ -114,7 +127,14 @@ impl Tree {
                     place = place.saturating_add(1);
                     info = with_part(info, self.info(n)?);
                 }
-                self.add(if is_and { Node::And(span) } else { Node::Or(span) }, info)
+                self.add(
+                    if is_and {
+                        Node::And(span)
+                    } else {
+                        Node::Or(span)
+                    },
+                    info,
+                )
             }
             Shape::Quantified(g, is_forall) => {
                 let below = depth.checked_add(1).ok_or(Fault::Overflow)?;
@@ -167,7 +187,13 @@ impl Tree {
         })
     }
 
-    fn quantified(&mut self, terms: &Terms, body: u32, is_forall: bool, depth: u32) -> Result<u32, Fault> {
+    fn quantified(
+        &mut self,
+        terms: &Terms,
+        body: u32,
+        is_forall: bool,
+        depth: u32,
+    ) -> Result<u32, Fault> {
         let part = self.info(body)?;
         let info = Info {
             depth,
@@ -204,7 +230,11 @@ impl Tree {
             }
         }
         let rest = self.member(span, 1)?;
-        Ok(if own { Some(Node::Read(f, list, rest)) } else { None })
+        Ok(if own {
+            Some(Node::Read(f, list, rest))
+        } else {
+            None
+        })
     }
 }
 

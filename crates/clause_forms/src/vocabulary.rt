@@ -206,7 +206,9 @@ impl Vocabulary {
 
     /// The application of a function to terms, which is new, with a new constant, if there is none.
     pub fn apply(&mut self, function: u32, arguments: List) -> Result<Known, Fault> {
-        let number = self.readings.intern(&[u64::from(function), u64::from(arguments)])?;
+        let number = self
+            .readings
+            .intern(&[u64::from(function), u64::from(arguments)])?;
         if (number as usize) < self.applications.len() {
             return Ok(Known {
                 number,
@@ -229,7 +231,8 @@ impl Vocabulary {
 
     /// The application of a function to terms, if there is one.
     pub fn applied(&self, function: u32, arguments: List) -> Result<Option<u32>, Fault> {
-        self.readings.find(&[u64::from(function), u64::from(arguments)])
+        self.readings
+            .find(&[u64::from(function), u64::from(arguments)])
     }
 
     /// What t >= 0 is.

@@ -46,6 +46,7 @@ pub none_yet : (s : ℕ) (ps ns : List ℕ) (l : Literal) → ps ≡ [] → ns �
 none_yet s ps ns l p n = (λ i. has_stamp s (slice_get (cond l.positive (p i) (n i)) l.variable)) ∙ empty_table l.positive s l.variable
 
 pub ruleset starts = (none_yet)
+
 pub ruleset clears = (none_marked)
 
 -- ---- a literal is looked up

@@ -5,16 +5,16 @@ use Rattle.std.specs.Int.{int_div_euclid}
 use Rattle.std.specs.Ordering.{int_eq}
 use Rattle.std.proofs.lemmas.Int.{ints}
 use Rattle.std.proofs.lemmas.List.Elements.{All-from_recursion, recursion_from_All}
-use Rattle.integers.specs.Divides.{Divides, divides}
-use Rattle.integers.proofs.Divisors.{Divides_from_test, test_from_Divides}
-use Rattle.integers.proofs.Floors.{floor-shifted, floor-shifted_back}
-use Rattle.integers.proofs.Order.{mul_cancel}
-use Rattle.integers.proofs.Ring.{add-mul, neg-mul}
+use Rattle.base_integers.specs.Divides.{Divides, divides}
+use Rattle.base_integers.proofs.Divisors.{Divides_from_test, test_from_Divides}
+use Rattle.base_integers.proofs.Floors.{floor-shifted, floor-shifted_back}
+use Rattle.base_integers.proofs.Order.{mul_cancel}
+use Rattle.base_integers.proofs.Ring.{add-mul, neg-mul}
 use Rattle.linear_term.specs.Linear.{Linear, value_of, total, value_at, number, IsOver}
 use Rattle.linear_term.specs.Combination.{combination}
 use Rattle.linear_term.proofs.Totals.{value_of-combination, value_of-number, by_test}
 use Rattle.linear_term.proofs.Names.{combination-over}
-use Rattle.typed_formula.specs.Truth.{Meaning}
+use Rattle.form_typed.specs.Truth.{Meaning}
 use Rattle.formula.specs.Form.{Form, FormTruth, equal, unequal, at_least, holds, fails, differs, conjunction, disjunction, universal, existential, no_form, and_form, values_of}
 use Rattle.formula.proofs.Stability.{form_stable}
 use Rattle.formula.proofs.Extending.{over_number}

@@ -3,13 +3,13 @@ use Rattle.std.proofs.Common.{◌≡◌, ◌≢◌, ℕ, ℤ, pos, ◌+ℤ◌, �
 use Rattle.std.specs.List.{AllByRecursion}
 use Rattle.std.specs.Int.{int_div_euclid}
 use Rattle.std.proofs.lemmas.Int.{ints, by_lt_z}
-use Rattle.integers.specs.Divides.{Divides}
-use Rattle.integers.specs.Floor.{IsFloor}
-use Rattle.integers.specs.Gcd.{nat_gcd, gcd}
-use Rattle.integers.proofs.Ring.{add-mul, mul_assoc}
-use Rattle.integers.proofs.Divisors.{Divides-trans, Divides-refl, Divides_from_dvd}
-use Rattle.integers.proofs.Divisor.{nat_gcd-is, gcd-is}
-use Rattle.integers.proofs.Floors.{floor-is, floor-only}
+use Rattle.base_integers.specs.Divides.{Divides}
+use Rattle.base_integers.specs.Floor.{IsFloor}
+use Rattle.base_integers.specs.Gcd.{nat_gcd, gcd}
+use Rattle.base_integers.proofs.Ring.{add-mul, mul_assoc}
+use Rattle.base_integers.proofs.Divisors.{Divides-trans, Divides-refl, Divides_from_dvd}
+use Rattle.base_integers.proofs.Divisor.{nat_gcd-is, gcd-is}
+use Rattle.base_integers.proofs.Floors.{floor-is, floor-only}
 use Rattle.linear_term.specs.Linear.{Linear, total, value_at, value_of}
 use Rattle.linear_term.proofs.Totals.{by_test}
 use Rattle.clause_proof.specs.Atoms.{gcd_with, positive_one, content, divided, quotient}

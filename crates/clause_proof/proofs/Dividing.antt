@@ -4,13 +4,13 @@ use Rattle.std.specs.Int.{int_div_euclid}
 use Rattle.std.specs.List.{AllByRecursion}
 use Rattle.std.proofs.lemmas.Int.{ints}
 use Rattle.std.proofs.lemmas.Bool.{and_parts}
-use Rattle.integers.proofs.Floors.{floor-is}
-use Rattle.integers.proofs.Ring.{neg-mul}
+use Rattle.base_integers.proofs.Floors.{floor-is}
+use Rattle.base_integers.proofs.Ring.{neg-mul}
 use lib.IntN.{*ℤ_comm}
 use Rattle.linear_term.specs.Linear.{Linear, value_of, name, number, IsOver}
 use Rattle.linear_term.proofs.Totals.{value_of-combination, value_of-name, value_of-number, by_test}
 use Rattle.linear_term.proofs.Names.{combination-over}
-use Rattle.typed_formula.specs.Truth.{Meaning}
+use Rattle.form_typed.specs.Truth.{Meaning}
 use Rattle.formula.proofs.Extending.{value_extends, extends_more, entry_last, over_more, over_name, over_number}
 use Rattle.clause_proof.specs.declared.line.Literal.{Literal}
 use Rattle.clause_proof.specs.Clauses.{State, IsFormedState}

@@ -5,7 +5,7 @@ use Rattle.std.specs.List.{AllByRecursion, slice_get}
 use Rattle.std.proofs.lemmas.List.Elements.{All-from_recursion}
 use Rattle.linear_term.specs.Linear.{Linear, value_of, name, IsOver}
 use Rattle.linear_term.proofs.Totals.{by_test}
-use Rattle.typed_formula.specs.Truth.{Meaning}
+use Rattle.form_typed.specs.Truth.{Meaning}
 use Rattle.formula.specs.Form.{FormTruth, values_of}
 use Rattle.formula.proofs.Extending.{Extends, extends_refl, value_extends, values_extend, over_more, over_name}
 use Rattle.pred_unify.proofs.Clashes.{same_number}

@@ -4,7 +4,7 @@ use Rattle.std.specs.List.{AllByRecursion, slice_get}
 use Rattle.std.proofs.lemmas.List.{map-append}
 use Rattle.linear_term.specs.Linear.{Linear, value_of, name, IsOver}
 use Rattle.linear_term.proofs.Totals.{value_of-name}
-use Rattle.typed_formula.specs.Truth.{Meaning}
+use Rattle.form_typed.specs.Truth.{Meaning}
 use Rattle.formula.specs.Form.{Form, FormTruth, Forms, equal, unequal, at_least, holds, fails, differs, conjunction, disjunction, universal, existential, no_form, and_form, AreFormsTrue, AreFormsFalse, values_of}
 use Rattle.formula.proofs.Stability.{form_stable}
 use Rattle.formula.proofs.Extending.{Extends, extends_more, entry_last, over_name, over_more}
@@ -90,9 +90,11 @@ open_gives w s i ms (disjunction fs) ts formed over is =
     (λ ds g st e len t. each_clause w e ds i (members fs ts) ms st
     (λ n. members_false w e fs ts (old_false w e s.definitions ds i (closure (disjunction fs) ts) g is n)))
 open_gives w s i ms (universal f) ts formed over is =
-    adds_all w s (adding (literal_of f (ts ++ name s.count ∷ []) ∷ []) ms (each_false i ms) (suc s.count)) formed (omega arith)
-    (literal_over (suc s.count) f (ts ++ name s.count ∷ [])
-    (terms_with (suc s.count) ts (name s.count) (all_same (IsOver s.count) (IsOver (suc s.count)) ts (λ t k. over_more s.count (suc s.count) t (omega arith) k) over) (over_name (suc s.count) s.count (omega arith))), tt)
+    adds_all w s (adding (literal_of f (ts ++ name s.count ∷ []) ∷ []) ms (each_false i ms) (suc s.count)) formed (omega arith) (
+      literal_over (suc s.count) f (ts ++ name s.count ∷ [])
+          (terms_with (suc s.count) ts (name s.count) (all_same (IsOver s.count) (IsOver (suc s.count)) ts (λ t k. over_more s.count (suc s.count) t (omega arith) k) over) (over_name (suc s.count) s.count (omega arith))),
+      tt,
+    )
     tt (universal_keeps w s i ms f ts formed over is)
 open_gives w s i ms (existential f) ts formed over is = tt
 open_gives w s i ms (equal t) ts formed over is = tt

@@ -7,7 +7,7 @@ use Rattle.linear_term.specs.Linear.{Linear, value_of, name, IsOver}
 use Rattle.linear_term.specs.Combination.{combination}
 use Rattle.linear_term.proofs.Totals.{value_of-combination, by_test}
 use Rattle.linear_term.proofs.Names.{combination-over}
-use Rattle.typed_formula.specs.Truth.{Meaning}
+use Rattle.form_typed.specs.Truth.{Meaning}
 use Rattle.formula.specs.Form.{equal, values_of}
 use Rattle.formula.proofs.Stability.{form_stable}
 use Rattle.formula.proofs.Extending.{over_name}
@@ -57,9 +57,10 @@ pair_gives w s a b es r x y formed xa yb =
     by_test (Adds w s) (nat_eq x.function y.function && nat_eq (length x.terms) (length y.terms)) _ _
     (λ test.
     let two = and_parts (nat_eq x.function y.function) (nat_eq (length x.terms) (length y.terms)) test in
-    adds_plain w s (equation_literal d ∷ equations x.terms y.terms) (r ∷ es) ((r ∷ map opposite es) ∷ []) formed
-    (equation_over s.count d (combination-over s.count (pos 1) (negsuc 0) (name x.constant) (name y.constant) (over_name s.count x.constant xo.constant) (over_name s.count y.constant yo.constant)),
-      equations_over s.count x.terms y.terms xo.terms yo.terms)
+    adds_plain w s (equation_literal d ∷ equations x.terms y.terms) (r ∷ es) ((r ∷ map opposite es) ∷ []) formed (
+      equation_over s.count d (combination-over s.count (pos 1) (negsuc 0) (name x.constant) (name y.constant) (over_name s.count x.constant xo.constant) (over_name s.count y.constant yo.constant)),
+      equations_over s.count x.terms y.terms xo.terms yo.terms,
+    )
     (λ ds g st e len t. (
       (λ none.
           let args : values_of x.terms e ≡ values_of y.terms e = arguments_equal w e ds x.terms y.terms es (same_number (length x.terms) (length y.terms) two.1) st.1 none.1 in

@@ -5,7 +5,7 @@ use Rattle.std.proofs.lemmas.Bool.{and_parts}
 use Rattle.std.proofs.lemmas.List.Elements.{All-from_recursion}
 use Rattle.linear_term.specs.Linear.{Linear, value_of, name, IsOver}
 use Rattle.linear_term.proofs.Totals.{by_test, value_of-name}
-use Rattle.typed_formula.specs.Truth.{Meaning}
+use Rattle.form_typed.specs.Truth.{Meaning}
 use Rattle.formula.specs.Form.{Form, FormTruth, Forms, equal, unequal, at_least, holds, fails, differs, conjunction, disjunction, universal, existential, no_form, and_form, values_of}
 use Rattle.formula.proofs.Extending.{extends_more, entry_last, values_extend, over_name}
 use Rattle.pred_unify.proofs.Clashes.{same_number}

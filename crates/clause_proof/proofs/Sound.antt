@@ -5,7 +5,7 @@ use Rattle.std.proofs.lemmas.Bool.{and_parts}
 use Rattle.std.proofs.lemmas.Int.{ints}
 use Rattle.linear_term.specs.Linear.{Linear, value_of, name, number, IsOver}
 use Rattle.linear_term.proofs.Totals.{value_of-combination, value_of-number, value_of-name, by_test}
-use Rattle.typed_formula.specs.Truth.{Meaning}
+use Rattle.form_typed.specs.Truth.{Meaning}
 use Rattle.formula.specs.Form.{Form, FormTruth, values_of}
 use Rattle.formula.proofs.Stability.{form_stable}
 use Rattle.formula.proofs.Extending.{extends_refl, extends_more, values_extend, value_extends, entry_last, over_more, over_number}
@@ -149,9 +149,10 @@ after_gives w s (line.Pair a b es r) formed = put_gives w s (added s (line.Pair 
 after_gives w s (line.PredicatePair i j es) formed = put_gives w s (added s (line.PredicatePair i j es)) (added_gives w s (line.PredicatePair i j es) formed)
 after_gives w s (line.Divide d t g h) formed = put_gives w s (added s (line.Divide d t g h)) (added_gives w s (line.Divide d t g h) formed)
 after_gives w s (line.Resolve c hints) formed = put_gives w s (added s (line.Resolve c hints)) (added_gives w s (line.Resolve c hints) formed)
-after_gives w s (line.Delete hints) formed =
-    (record { definitions = formed.definitions; applications = formed.applications },
-      λ absent e len h. absent e len (record { applications = h.applications; clauses = deleted_true w e s.definitions s.clauses hints h.clauses }))
+after_gives w s (line.Delete hints) formed = (
+  record { definitions = formed.definitions; applications = formed.applications },
+  λ absent e len h. absent e len (record { applications = h.applications; clauses = deleted_true w e s.definitions s.clauses hints h.clauses }),
+)
 
 -- ---- the end: the empty clause is true nowhere
 no_empty : (w : Meaning) (e : List ℤ) (ds : List Definition) (c : Option (List Literal)) → is_empty c ≡ true → IsKeptTrue w e ds c → ⊥

@@ -6,7 +6,7 @@ use Rattle.std.proofs.lemmas.Bool.{and_parts}
 use Rattle.linear_term.specs.Linear.{Linear, value_of, number}
 use Rattle.linear_term.specs.Combination.{combination}
 use Rattle.linear_term.proofs.Totals.{value_of-combination, value_of-number, by_test}
-use Rattle.typed_formula.specs.Truth.{Meaning}
+use Rattle.form_typed.specs.Truth.{Meaning}
 use Rattle.clause_proof.specs.declared.line.Factor.{Factor}
 use Rattle.clause_proof.specs.Clauses.{Definition, always, at_least_zero, is_zero, predicate, closure, DefinitionTruth, IsSo, IsFoundSo, AreLiteralsFalse, ClauseTruth}
 use Rattle.clause_proof.specs.Atoms.{Signed, opposite_less_one, inequality_literal, equation_literal, same_definition}

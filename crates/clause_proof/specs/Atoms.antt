@@ -4,8 +4,8 @@ use Rattle.std.specs.Prelude.{ℕ, zero, suc, ℤ, pos, negsuc, Bool, true, fals
 use Rattle.std.specs.Int.{int_div_euclid}
 use Rattle.std.specs.Ordering.{int_eq, is_eq}
 use Rattle.std.specs.Cmp.Lexicographic.{pointwise}
-use Rattle.integers.specs.Divides.{divides}
-use Rattle.integers.specs.Gcd.{gcd}
+use Rattle.base_integers.specs.Divides.{divides}
+use Rattle.base_integers.specs.Gcd.{gcd}
 use Rattle.linear_term.specs.Linear.{Linear, number}
 use Rattle.linear_term.specs.Combination.{combination}
 use Rattle.linear_term.specs.Order.{linear_cmp}

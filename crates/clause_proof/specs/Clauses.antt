@@ -2,7 +2,7 @@
 use Rattle.std.specs.Prelude.{◌≡◌, ℕ, ◌<◌, ℤ, pos, ◌≤ℤ◌, Bool, true, false, List, length, Option, None, Some}
 use Rattle.std.specs.List.{AllByRecursion, slice_get}
 use Rattle.linear_term.specs.Linear.{Linear, value_of, name, IsOver}
-use Rattle.typed_formula.specs.Truth.{Meaning}
+use Rattle.form_typed.specs.Truth.{Meaning}
 use Rattle.formula.specs.Form.{Form, FormTruth, values_of}
 use Rattle.clause_proof.specs.declared.line.Application.{Application}
 use Rattle.clause_proof.specs.declared.line.Literal.{Literal}

@@ -1,6 +1,6 @@
 -- What a clause proof of a formula is.
 use Rattle.std.specs.Prelude.{◌≡◌, ℕ, ℤ, Bool, true, false, List, [], ◌∷◌, map, Option, None, Some}
-use Rattle.typed_formula.specs.Truth.{Meaning}
+use Rattle.form_typed.specs.Truth.{Meaning}
 use Rattle.linear_term.specs.Linear.{number}
 use Rattle.formula.specs.Form.{Form}
 use Rattle.clause_proof.specs.declared.line.Literal.{Literal}

@@ -1,7 +1,7 @@
 // What clause proofs mean, each law by a function with nothing to do.
 
 ghost use Rattle.std.specs.Prelude.{◌≡◌, ℕ, ℤ, List};
-ghost use Rattle.typed_formula.specs.Truth.{Meaning};
+ghost use Rattle.form_typed.specs.Truth.{Meaning};
 ghost use Rattle.formula.specs.Form.{Form, FormTruth};
 ghost use Rattle.clause_proof.specs.declared.line.Line.{Line};
 ghost use Rattle.clause_proof.specs.declared.line.Literal.{Literal};

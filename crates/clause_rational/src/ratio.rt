@@ -26,7 +26,10 @@ impl Ratio {
             return Ok(Ratio { n, d });
         }
         if d == -1 {
-            return Ok(Ratio { n: n.checked_neg().ok_or(Fault::Overflow)?, d: 1 });
+            return Ok(Ratio {
+                n: n.checked_neg().ok_or(Fault::Overflow)?,
+                d: 1,
+            });
         }
         if let Ok(x) = i64::try_from(n)
             && let Ok(y) = i64::try_from(d)
@@ -34,7 +37,11 @@ impl Ratio {
             return Ratio::reduced_words(x, y);
         }
         let g = gcd(n, d)?;
-        let g = if d < 0 { g.checked_neg().ok_or(Fault::Overflow)? } else { g };
+        let g = if d < 0 {
+            g.checked_neg().ok_or(Fault::Overflow)?
+        } else {
+            g
+        };
         let n = n.checked_div(g).ok_or(Fault::Broken)?;
         let d = d.checked_div(g).ok_or(Fault::Broken)?;
         Ok(Ratio { n, d })
@@ -42,8 +49,14 @@ impl Ratio {
 
     /// The same of numbers of 64 bits, which are divided much faster.
     fn reduced_words(n: i64, d: i64) -> Result<Ratio, Fault> {
-        let g = i64::try_from(gcd_of_words(n.unsigned_abs(), d.unsigned_abs())).map_err(|_| Fault::Overflow)?;
-        let g = if d < 0 { g.checked_neg().ok_or(Fault::Overflow)? } else { g };
+        let g = i64::try_from(gcd_of_words(n.unsigned_abs(), d.unsigned_abs())).map_err(
+            |_| Fault::Overflow,
+        )?;
+        let g = if d < 0 {
+            g.checked_neg().ok_or(Fault::Overflow)?
+        } else {
+            g
+        };
         let n = n.checked_div(g).ok_or(Fault::Overflow)?;
         let d = d.checked_div(g).ok_or(Fault::Overflow)?;
         Ok(Ratio {
@@ -60,7 +73,10 @@ impl Ratio {
     #[inline(always)]
     pub fn plus(self, o: Ratio) -> Result<Ratio, Fault> {
         if self.d == 1 && o.d == 1 {
-            return Ok(Ratio { n: add(self.n, o.n)?, d: 1 });
+            return Ok(Ratio {
+                n: add(self.n, o.n)?,
+                d: 1,
+            });
         }
         if self.d == o.d {
             return Ratio::reduced(add(self.n, o.n)?, self.d);
@@ -77,7 +93,10 @@ impl Ratio {
             return Ok(Ratio { n, d: 1 });
         }
         if q == -1 && self.d == 1 {
-            return Ok(Ratio { n: n.checked_neg().ok_or(Fault::Overflow)?, d: 1 });
+            return Ok(Ratio {
+                n: n.checked_neg().ok_or(Fault::Overflow)?,
+                d: 1,
+            });
         }
         Ratio::reduced(n, mul(self.d, i128::from(q))?)
     }

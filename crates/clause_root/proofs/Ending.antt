@@ -1,14 +1,14 @@
 -- What an elimination that ended made of its formula.
 use Rattle.std.proofs.Common.{◌≡◌, ℕ, ◌-◌, List, [], Ok, Err, refl, sym, ap, ◌∙◌, subst}
-use Rattle.purse.specs.declared.fault.StepFault.TheVariants.{Steps, Overflow}
+use Rattle.base_budget.specs.declared.fault.StepFault.TheVariants.{Steps, Overflow}
 use Rattle.linear_term.specs.declared.range.Place.{Place}
-use Rattle.purse.specs.Trace.{Funds, Mark, at}
-use Rattle.purse.specs.Work.{ChargedAt}
+use Rattle.base_budget.specs.Trace.{Funds, Mark, at}
+use Rattle.base_budget.specs.Work.{ChargedAt}
 use Rattle.clause_set.specs.declared.literal.Literal.{Literal}
 use Rattle.formula.specs.Form.{Form}
 use Rattle.elim_laws.specs.Whole.{eliminating}
-use Rattle.root_laws.specs.Clausal.{dnf_form}
-use Rattle.root_laws.specs.Prepared.{share, by_end, attempted}
+use Rattle.clause_root_laws.specs.Clausal.{dnf_form}
+use Rattle.clause_root_laws.specs.Prepared.{share, by_end, attempted}
 
 -- the purse of an elimination, where so many steps are left
 abbrev pub fresh : ℕ → Funds

@@ -11,9 +11,9 @@ use Rattle.formula.specs.Sizes.{depth, depths}
 use Rattle.formula.specs.Tree.{form, forms_of}
 use Rattle.formula.proofs.Sameness.{depth_shifted}
 use Rattle.formula.specs.Shifts.{shifted}
-use Rattle.application_naming.specs.Naming.{application, is_above, is_pure_but, less_name, named, all_named, renamed, reading, same_terms}
-use Rattle.application_naming.proofs.Keeping.{renamed_over}
-use Rattle.root_laws.specs.Prepared.{attempted_pure, by_application, before_rest, most_names, under, unquantified, prepared, all_prepared}
+use Rattle.form_naming.specs.Naming.{application, is_above, is_pure_but, less_name, named, all_named, renamed, reading, same_terms}
+use Rattle.form_naming.proofs.Keeping.{renamed_over}
+use Rattle.clause_root_laws.specs.Prepared.{attempted_pure, by_application, before_rest, most_names, under, unquantified, prepared, all_prepared}
 
 -- formulas before others
 abbrev pub before : List Form → Forms → Forms

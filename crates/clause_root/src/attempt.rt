@@ -3,13 +3,13 @@
 ghost use Rattle.formula.specs.Form.{IsFormOver, is_pure};
 ghost use Rattle.formula.specs.Sizes.{depth};
 ghost use Rattle.formula.specs.Tree.{form};
-ghost use Rattle.root_laws.specs.Prepared.{attempted, share};
+ghost use Rattle.clause_root_laws.specs.Prepared.{attempted, share};
 ghost use Rattle.std.specs.Prelude.{◌≡◌, ◌+◌, ◌-◌, ◌≤◌, ◌^◌, IfOk, true};
 
 use super::clausal::dnf_form;
+use base_budget::{ElimFault, Purse};
 use formula::Core;
 use linear_term::Memory;
-use purse::{ElimFault, Purse};
 use quant_elim::eliminate;
 use std::alloc::Global;
 

@@ -4,7 +4,7 @@ ghost use Rattle.clause_set.specs.Literals.{HasDivisor, IsDivisor, term_of};
 ghost use Rattle.elim_laws.specs.Whole.{AreOver};
 ghost use Rattle.formula.specs.Tree.{form};
 ghost use Rattle.linear_term.specs.Linear.{IsOver};
-ghost use Rattle.root_laws.specs.Clausal.{AreTermsOver, clause_form, dnf_form, literal_form, remainder};
+ghost use Rattle.clause_root_laws.specs.Clausal.{AreTermsOver, clause_form, dnf_form, literal_form, remainder};
 ghost use Rattle.std.specs.Prelude.{◌≡◌, All, IfOk, map};
 
 use clause_set::{Clause, Dnf, Literal};

@@ -1,15 +1,15 @@
 // A formula prepared: its quantified subformulas that are pure but for applications are eliminated, from left to right.
 
-ghost use Rattle.application_naming.specs.Naming.{is_pure_but as is_pure_for};
+ghost use Rattle.form_naming.specs.Naming.{is_pure_but as is_pure_for};
 ghost use Rattle.formula.specs.Form.{AreFormsOver, FormTruth, IsFormOver};
 ghost use Rattle.formula.specs.Sizes.{depth, depths};
 ghost use Rattle.formula.specs.Tree.{form, forms_of};
-ghost use Rattle.root_laws.specs.Prepared.{all_prepared, attempted_pure, most_names, prepared, unquantified};
+ghost use Rattle.clause_root_laws.specs.Prepared.{all_prepared, attempted_pure, most_names, prepared, unquantified};
 ghost use Rattle.std.specs.Prelude.{◌≡◌, ◌+◌, ◌≤◌, ◌^◌, ◌↔◌, ◌&&◌, IfOk, List, ℤ, false, length, true};
-ghost use Rattle.typed_formula.specs.Truth.{Meaning};
+ghost use Rattle.form_typed.specs.Truth.{Meaning};
 
 use super::attempt::attempt;
-use application_naming::{application, is_pure_but, reading, renamed};
+use form_naming::{application, is_pure_but, reading, renamed};
 use formula::{Core, Shared, is_pure};
 use linear_term::Memory;
 use sqlite_items::Items;

@@ -3,15 +3,15 @@
 ghost use Rattle.formula.specs.Form.{FormTruth, IsFormOver};
 ghost use Rattle.formula.specs.Sizes.{depth};
 ghost use Rattle.formula.specs.Tree.{form};
-ghost use Rattle.miniscope.specs.Miniscope.{miniscoped};
-ghost use Rattle.root_laws.specs.Prepared.{prepared};
+ghost use Rattle.form_miniscope.specs.Miniscope.{miniscoped};
+ghost use Rattle.clause_root_laws.specs.Prepared.{prepared};
 ghost use Rattle.std.specs.Prelude.{◌≡◌, ◌+◌, ◌*◌, ◌≤◌, ◌^◌, ◌↔◌, IfOk, List, ℤ, false, length};
-ghost use Rattle.typed_formula.specs.Truth.{Meaning};
+ghost use Rattle.form_typed.specs.Truth.{Meaning};
 
 use super::preparing::prepare;
+use form_miniscope::miniscoped;
 use formula::Core;
 use linear_term::Memory;
-use miniscope::miniscoped;
 use std::alloc::Global;
 
 /// The root over `count` names, miniscoped and then prepared with so many steps: true exactly where the root is. The same

@@ -1,11 +1,11 @@
 // Formulas, lines and proofs, read from numbers.
 
 use crate::numbers::Numbers;
+use base_budget::Purse;
 use clause_checker::{Fault, check};
 use clause_proof::{Factor, Line, Literal};
 use formula::{Core, Shared};
 use linear_term::{Term, in_range};
-use purse::Purse;
 use sqlite_items::Items;
 use std::alloc::Global;
 

@@ -101,7 +101,11 @@ impl Sat {
         }
         let worth = saturating_f64_to_u64(cl.activity * scale);
         let l = at(&cl.lits, 0)?;
-        Ok(if self.is_reason(c, l)? { None } else { Some(worth) })
+        Ok(if self.is_reason(c, l)? {
+            None
+        } else {
+            Some(worth)
+        })
     }
 
     /// Whether the clause is the reason of a literal.

@@ -16,7 +16,12 @@ pub enum Advice {
 
 pub trait Advisor {
     /// A for-some closure was opened.
-    fn register(&mut self, words: &mut Vocabulary, variable: u32, fuel: &mut Fuel) -> Result<(), Fault>;
+    fn register(
+        &mut self,
+        words: &mut Vocabulary,
+        variable: u32,
+        fuel: &mut Fuel,
+    ) -> Result<(), Fault>;
 
     /// What to do where all clauses hold in the present model, whose values are whole. New instances are put behind `out`.
     fn advise(

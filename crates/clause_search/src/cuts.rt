@@ -26,7 +26,11 @@ impl<Q: Advisor + Drop> Search<Q> {
             } else {
                 x.times.checked_abs().ok_or(Fault::Overflow)?
             };
-            sum = self.knowledge.words.terms.combine(1, sum, times, fact.term)?;
+            sum = self
+                .knowledge
+                .words
+                .terms
+                .combine(1, sum, times, fact.term)?;
             self.factors.push((negated(x.lit), times))?;
         }
         let width = self.knowledge.words.terms.pairs(sum.linear)?.len();

@@ -75,7 +75,9 @@ impl<Q: Advisor + Drop> Search<Q> {
         };
         let mut found: Vec<Instance> = Vec::new(self.alloc);
         let words = &mut self.knowledge.words;
-        let advice = self.advisor.advise(words, present, &mut self.fuel, &mut found)?;
+        let advice = self
+            .advisor
+            .advise(words, present, &mut self.fuel, &mut found)?;
         for x in found.as_slice() {
             self.knowledge.words.generation = x.generation;
             self.instance(x.variable, x.terms)?;

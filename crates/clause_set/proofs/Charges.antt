@@ -1,7 +1,7 @@
 -- The lemmas of charged work for operations on clauses.
 use Rattle.std.proofs.Common.{◌≡◌, List, [], ◌∷◌, ◌++◌, refl, ap}
 use Rattle.std.proofs.lemmas.List.{append-nil}
-use Rattle.purse.proofs.Charging.{charging, working, looping}
+use Rattle.base_budget.proofs.Charging.{charging, working, looping}
 use Rattle.clause_set.specs.declared.literal.Literal.{Literal}
 use Rattle.clause_set.specs.Order.{sorted_once}
 use Rattle.clause_set.specs.Clauses.{compact, clause_of, found, clauses_of}

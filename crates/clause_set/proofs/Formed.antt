@@ -8,10 +8,10 @@ use Rattle.std.specs.Ordering.{int_eq}
 use Rattle.std.proofs.lemmas.Int.{ints}
 use Rattle.std.proofs.lemmas.Bool.Decides.{Decides-int_eq}
 use Rattle.std.proofs.lemmas.List.Elements.{recursion_from_All, All-from_recursion}
-use Rattle.integers.specs.Divides.{Divides, divides}
-use Rattle.integers.specs.Gcd.{gcd}
-use Rattle.integers.proofs.Order.{lt_of_mul_lt}
-use Rattle.integers.proofs.Residues.{rem-bounds}
+use Rattle.base_integers.specs.Divides.{Divides, divides}
+use Rattle.base_integers.specs.Gcd.{gcd}
+use Rattle.base_integers.proofs.Order.{lt_of_mul_lt}
+use Rattle.base_integers.proofs.Residues.{rem-bounds}
 use Rattle.linear_term.specs.Linear.{Linear, IsRisingFrom, IsReduced}
 use Rattle.linear_term.proofs.Normal.{rising_weaker}
 use Rattle.linear_term.proofs.Totals.{by_test}

@@ -5,8 +5,8 @@ use Rattle.std.specs.List.{AllByRecursion, list_any, flat_map}
 use Rattle.std.proofs.lemmas.List.Elements.{recursion_from_All, All-from_recursion}
 use Rattle.linear_term.specs.Linear.{Linear}
 use Rattle.linear_term.proofs.Totals.{by_test}
-use Rattle.purse.specs.Trace.{just, step, next}
-use Rattle.purse.proofs.Tracing.{each-value}
+use Rattle.base_budget.specs.Trace.{just, step, next}
+use Rattle.base_budget.proofs.Tracing.{each-value}
 use Rattle.clause_set.specs.declared.literal.Literal.{Literal}
 use Rattle.clause_set.specs.declared.literal.Literal.TheVariants.{Eq, Geq, Div, NDiv}
 use Rattle.clause_set.specs.Normal.{normal_of}

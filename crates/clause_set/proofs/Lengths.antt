@@ -1,7 +1,7 @@
 -- The length of two lists together, and squares that stop at the greatest u64.
 use Rattle.std.proofs.Common.{◌≡◌, ◌+◌, ◌*◌, ℕ, List, ◌++◌, length, length-append, sym, ◌∙◌, ap}
 use Rattle.std.proofs.Math.Nat.{mul_comm}
-use Rattle.purse.specs.Trace.{capped}
+use Rattle.base_budget.specs.Trace.{capped}
 use Rattle.clause_set.proofs.Weights.{capped_product}
 
 -- a square of a capped number, capped again

@@ -8,7 +8,7 @@ use Rattle.std.specs.declared.cmp.Ordering.{Ordering}
 use Rattle.std.specs.declared.cmp.Ordering.TheVariants.{Less, Equal, Greater}
 use Rattle.std.proofs.lemmas.List.Folds.{list_any-append}
 use Rattle.std.proofs.lemmas.List.Sums.{sum_by-cons, sum_by-append}
-use Rattle.integers.specs.Divides.{divides}
+use Rattle.base_integers.specs.Divides.{divides}
 use Rattle.linear_term.specs.Linear.{Linear, mentions, has_name}
 use Rattle.linear_term.proofs.Totals.{by_test}
 use Rattle.clause_set.specs.declared.literal.Literal.{Literal}

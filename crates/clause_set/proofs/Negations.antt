@@ -6,13 +6,13 @@ use Rattle.std.specs.Ordering.{int_eq}
 use Rattle.std.proofs.lemmas.Int.{ints}
 use Rattle.std.proofs.lemmas.List.Folds.{list_any-append}
 use Rattle.std.proofs.lemmas.List.Elements.{All-from_recursion, recursion_from_All}
-use Rattle.integers.specs.Divides.{divides}
+use Rattle.base_integers.specs.Divides.{divides}
 use Rattle.linear_term.specs.Linear.{Linear, IsReduced, number, value_of}
 use Rattle.linear_term.specs.Combination.{combination}
 use Rattle.linear_term.proofs.Totals.{value_of-combination, value_of-number}
 use Rattle.linear_term.proofs.Names.{reduced-combination}
-use Rattle.purse.specs.Trace.{just, step, next}
-use Rattle.purse.proofs.Tracing.{each-value}
+use Rattle.base_budget.specs.Trace.{just, step, next}
+use Rattle.base_budget.proofs.Tracing.{each-value}
 use Rattle.clause_set.specs.declared.literal.Literal.{Literal}
 use Rattle.clause_set.specs.declared.literal.Literal.TheVariants.{Eq, Geq, Div, NDiv}
 use Rattle.clause_set.specs.Literals.{literal_truth, clause_truth, dnf_truth, IsLiteral}

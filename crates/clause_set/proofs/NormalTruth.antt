@@ -8,12 +8,12 @@ use Rattle.std.proofs.lemmas.Int.{ints, by_lt_z}
 use Rattle.std.proofs.lemmas.Nat.{div-add-mod'}
 use Rattle.std.proofs.lemmas.Bool.Decides.{Decides-int_eq, same_from_decides}
 use Rattle.std.proofs.lemmas.List.Elements.{recursion_from_All}
-use Rattle.integers.specs.Divides.{Divides, divides}
-use Rattle.integers.specs.Gcd.{gcd}
-use Rattle.integers.proofs.Ring.{add-mul, mul_assoc, neg-mul}
-use Rattle.integers.proofs.Order.{mul_cancel, mul_le_right}
-use Rattle.integers.proofs.Divisors.{Divides-sum, Divides-difference, Divides-trans, Divides-product, Divides_from_test, test_from_Divides}
-use Rattle.integers.proofs.Floors.{floor-below, floor-above}
+use Rattle.base_integers.specs.Divides.{Divides, divides}
+use Rattle.base_integers.specs.Gcd.{gcd}
+use Rattle.base_integers.proofs.Ring.{add-mul, mul_assoc, neg-mul}
+use Rattle.base_integers.proofs.Order.{mul_cancel, mul_le_right}
+use Rattle.base_integers.proofs.Divisors.{Divides-sum, Divides-difference, Divides-trans, Divides-product, Divides_from_test, test_from_Divides}
+use Rattle.base_integers.proofs.Floors.{floor-below, floor-above}
 use Rattle.linear_term.specs.Linear.{Linear, total, value_at, value_of}
 use Rattle.linear_term.proofs.Totals.{by_test}
 use Rattle.clause_set.specs.declared.literal.Literal.{Literal}

@@ -3,7 +3,7 @@ use Rattle.std.proofs.Common.{◌≡◌, ℤ, Bool, true, false, ◌&&◌, ◌||
 use Rattle.std.specs.Prelude.{All}
 use Rattle.std.proofs.lemmas.List.Folds.{list_any-append, list_all-append}
 use Rattle.std.proofs.lemmas.List.Elements.{All-from_recursion, recursion_from_All}
-use Rattle.purse.specs.Trace.{just, step, next}
+use Rattle.base_budget.specs.Trace.{just, step, next}
 use Rattle.clause_set.specs.declared.literal.Literal.{Literal}
 use Rattle.clause_set.specs.Literals.{literal_truth, clause_truth, answer_truth, dnf_truth, IsLiteral, AreLiterals}
 use Rattle.clause_set.specs.Clauses.{clause_of, found, clauses_of}

@@ -7,10 +7,10 @@ use Rattle.std.specs.Int.{int_div_euclid, int_rem_euclid}
 use Rattle.std.specs.Ordering.{int_eq}
 use Rattle.std.proofs.lemmas.Int.{ints}
 use Rattle.std.proofs.lemmas.List.Elements.{recursion_from_All, All-from_recursion}
-use Rattle.integers.specs.Divides.{Divides, divides}
-use Rattle.integers.specs.Gcd.{gcd}
-use Rattle.integers.proofs.Divisors.{Divides-zero, test_from_Divides}
-use Rattle.integers.proofs.Residues.{residue-is, residue-only}
+use Rattle.base_integers.specs.Divides.{Divides, divides}
+use Rattle.base_integers.specs.Gcd.{gcd}
+use Rattle.base_integers.proofs.Divisors.{Divides-zero, test_from_Divides}
+use Rattle.base_integers.proofs.Residues.{residue-is, residue-only}
 use Rattle.linear_term.specs.Linear.{Linear}
 use Rattle.clause_set.specs.declared.literal.Literal.{Literal}
 use Rattle.clause_set.specs.declared.literal.Literal.TheVariants.{Eq, Geq, Div, NDiv}

@@ -6,13 +6,13 @@ use Rattle.std.specs.Ordering.{int_eq}
 use Rattle.std.proofs.lemmas.Int.{ints, by_lt_z}
 use Rattle.std.proofs.lemmas.Bool.Decides.{Decides-int_eq}
 use Rattle.std.proofs.lemmas.List.Elements.{recursion_from_All, All-from_recursion}
-use Rattle.integers.specs.Divides.{Divides, divides}
-use Rattle.integers.specs.Gcd.{gcd}
-use Rattle.integers.proofs.Ring.{mul_assoc}
-use Rattle.integers.proofs.Order.{mul_le_right, mul_lt_right, lt_of_mul_lt, mul_cancel}
-use Rattle.integers.proofs.Divisors.{Divides-zero, Divides-neg, Divides-product, Divides_from_test}
-use Rattle.integers.proofs.Divisor.{gcd-greatest}
-use Rattle.integers.proofs.Residues.{rem-bounds}
+use Rattle.base_integers.specs.Divides.{Divides, divides}
+use Rattle.base_integers.specs.Gcd.{gcd}
+use Rattle.base_integers.proofs.Ring.{mul_assoc}
+use Rattle.base_integers.proofs.Order.{mul_le_right, mul_lt_right, lt_of_mul_lt, mul_cancel}
+use Rattle.base_integers.proofs.Divisors.{Divides-zero, Divides-neg, Divides-product, Divides_from_test}
+use Rattle.base_integers.proofs.Divisor.{gcd-greatest}
+use Rattle.base_integers.proofs.Residues.{rem-bounds}
 use Rattle.linear_term.specs.Linear.{Linear, IsReduced}
 use Rattle.linear_term.proofs.Totals.{by_test}
 use Rattle.clause_set.specs.declared.literal.Literal.{Literal}

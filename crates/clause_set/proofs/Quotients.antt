@@ -12,7 +12,7 @@ use Rattle.std.proofs.lemmas.Int.{ints}
 use Rattle.std.proofs.Math.Nat.{div-le_self}
 use Rattle.std.proofs.lemmas.Bool.Decides.{Decides-int_eq}
 use Rattle.std.proofs.lemmas.List.Elements.{All-from_recursion, recursion_from_All}
-use Rattle.integers.specs.Divides.{Divides}
+use Rattle.base_integers.specs.Divides.{Divides}
 use Rattle.linear_term.specs.Linear.{Linear, IsRisingFrom, IsCoefficient, IsNormal}
 use Rattle.linear_term.specs.Range.{InRange}
 use Rattle.linear_term.proofs.Totals.{by_test}
@@ -24,7 +24,7 @@ use Rattle.clause_set.specs.declared.literal.Norm.TheVariants.{Lit}
 use Rattle.clause_set.specs.Normal.{gcd_with, divided, quotient, residues, residue, decided, normal_equation, reduced_equation, normal_inequality}
 use Rattle.clause_set.proofs.Contents.{quotient_exact, gcd_with-positive, gcd_with-divides_all, gcd_positive_right}
 use Rattle.clause_set.proofs.Terms.{in_range-coefficients}
-use Rattle.integers.specs.Gcd.{gcd}
+use Rattle.base_integers.specs.Gcd.{gcd}
 
 pub div_in_range : (a g : ℤ) → pos 0 <ℤ g → InRange a → InRange (int_div_euclid a g)
 div_in_range (pos a) (pos g) h r = let s : a / g ≤ a = div-le_self a g in omega (arith, ints)

@@ -1,10 +1,10 @@
 -- Tidying, disjunctions and conjunctions compute no raw number, so their work never leaves the range.
 use Rattle.std.proofs.Common.{◌≡◌, ◌≢◌, Result, Err, [], Bool, true, false, cond, List}
 use Rattle.linear_term.specs.declared.range.Place.{Place}
-use Rattle.purse.specs.Trace.{Funds, Traced, At, at, End, done, refused, out_of_range, cut, just, next, step}
-use Rattle.purse.specs.Work.{Charged}
-use Rattle.purse.specs.declared.fault.StepFault.{StepFault}
-use Rattle.purse.specs.declared.fault.StepFault.TheVariants.{Overflow}
+use Rattle.base_budget.specs.Trace.{Funds, Traced, At, at, End, done, refused, out_of_range, cut, just, next, step}
+use Rattle.base_budget.specs.Work.{Charged}
+use Rattle.base_budget.specs.declared.fault.StepFault.{StepFault}
+use Rattle.base_budget.specs.declared.fault.StepFault.TheVariants.{Overflow}
 use Rattle.clause_set.specs.declared.literal.Literal.{Literal}
 use Rattle.clause_set.specs.Dnfs.{tidying, conjunction, disjunction}
 

@@ -2,7 +2,7 @@
 use Rattle.std.proofs.Common.{◌≡◌, Bool, true, false, not, ◌&&◌, ◌||◌, ℤ, List, [], ◌∷◌, refl, sym, ◌∙◌, ap}
 use Rattle.std.specs.Prelude.{All}
 use Rattle.std.proofs.lemmas.List.Elements.{All-from_recursion, recursion_from_All}
-use Rattle.purse.specs.Trace.{just, next}
+use Rattle.base_budget.specs.Trace.{just, next}
 use Rattle.clause_set.specs.declared.literal.Literal.{Literal}
 use Rattle.clause_set.specs.Literals.{IsLiteral, AreLiterals, clause_truth, dnf_truth}
 use Rattle.clause_set.specs.Dnfs.{conjunction, negated_clause, negated_clauses, negation, top}

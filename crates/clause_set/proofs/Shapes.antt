@@ -6,10 +6,10 @@ use Rattle.std.specs.Int.{int_div_euclid, int_rem_euclid}
 use Rattle.std.specs.Ordering.{int_eq}
 use Rattle.std.proofs.lemmas.Int.{ints}
 use Rattle.std.proofs.lemmas.List.Elements.{recursion_from_All, All-from_recursion}
-use Rattle.integers.specs.Divides.{Divides, divides}
-use Rattle.integers.specs.Gcd.{gcd}
-use Rattle.integers.proofs.Divisors.{Divides-zero, Divides-refl}
-use Rattle.integers.proofs.Divisor.{gcd-divides_left, gcd-divides_right, gcd-positive, gcd-zero}
+use Rattle.base_integers.specs.Divides.{Divides, divides}
+use Rattle.base_integers.specs.Gcd.{gcd}
+use Rattle.base_integers.proofs.Divisors.{Divides-zero, Divides-refl}
+use Rattle.base_integers.proofs.Divisor.{gcd-divides_left, gcd-divides_right, gcd-positive, gcd-zero}
 use Rattle.linear_term.specs.Linear.{Linear, has_name, mentions, number}
 use Rattle.linear_term.proofs.Totals.{by_test}
 use Rattle.linear_term.proofs.Names.{combination-unmentioned}

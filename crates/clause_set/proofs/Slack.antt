@@ -12,7 +12,7 @@ use Rattle.clause_set.proofs.Terms.{negated-negated}
 use Rattle.linear_term.specs.Linear.{Linear}
 use Rattle.linear_term.proofs.Totals.{by_test}
 use Rattle.std.specs.List.{list_any}
-use Rattle.purse.proofs.Charging.{drop-item}
+use Rattle.base_budget.proofs.Charging.{drop-item}
 
 min_assoc : (a b c : ℤ) → int_min (int_min a b) c ≡ int_min a (int_min b c)
 min_assoc a b c = grind (arith, ints)

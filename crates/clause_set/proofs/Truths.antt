@@ -1,9 +1,9 @@
 -- The answers of charged operations on disjunctions are true where the definitions of their work say so.
 use Rattle.std.proofs.Common.{◌≡◌, ℤ, Bool, not, ◌&&◌, ◌||◌, List, Result, Ok, Err, IfOk, ◌∙◌, ap}
-use Rattle.purse.specs.declared.fault.StepFault.{StepFault}
-use Rattle.purse.specs.Trace.{At, Traced, just, step, next}
-use Rattle.purse.specs.Work.{ChargedAt}
-use Rattle.purse.proofs.Charging.{charged_value}
+use Rattle.base_budget.specs.declared.fault.StepFault.{StepFault}
+use Rattle.base_budget.specs.Trace.{At, Traced, just, step, next}
+use Rattle.base_budget.specs.Work.{ChargedAt}
+use Rattle.base_budget.proofs.Charging.{charged_value}
 use Rattle.clause_set.specs.declared.literal.Literal.{Literal}
 use Rattle.clause_set.specs.Literals.{AreLiterals, dnf_truth}
 use Rattle.clause_set.specs.Dnfs.{conjunction, disjunction, negation, tidied, tidying}

@@ -6,7 +6,7 @@ use Rattle.linear_term.proofs.Totals.{by_test}
 use Rattle.std.proofs.lemmas.Grind.{flat_map-append}
 use Rattle.std.proofs.Math.ListN.{drop_of_length-le}
 use Rattle.clause_set.proofs.Sorting.{take-item}
-use Rattle.purse.proofs.Charging.{drop-item}
+use Rattle.base_budget.proofs.Charging.{drop-item}
 
 -- the items before i fail the test
 pub record Fails {X : Type 0} (test : X → Bool) (xs : List X) (i : ℕ) : Type 0 where

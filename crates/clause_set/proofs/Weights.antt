@@ -5,8 +5,8 @@ use Rattle.std.proofs.Common.{Bool, true, false, nat_le}
 use Rattle.std.proofs.lemmas.Bool.{leb-true, leb-false}
 use Rattle.linear_term.proofs.Totals.{by_test}
 use Rattle.std.proofs.lemmas.List.Sums.{sum_by-cons}
-use Rattle.purse.specs.Trace.{capped}
-use Rattle.purse.proofs.Charging.{drop-item, drop_all}
+use Rattle.base_budget.specs.Trace.{capped}
+use Rattle.base_budget.proofs.Charging.{drop-item, drop_all}
 
 -- the capped sum so far, with what is left
 pub record Sums {X : Type 0} (f : X → ℕ) (xs : List X) (i sum : ℕ) : Type 0 where

@@ -1,7 +1,7 @@
 -- The coefficients of Bézout.
 use Rattle.std.specs.Prelude.{ℕ, zero, suc, ◌/◌, ◌%◌, ℤ, pos, ◌-ℤ◌, ◌*ℤ◌, unsigned_abs, cond, nat_eq}
 use Rattle.std.specs.Int.{int_div_euclid, int_rem_euclid}
-use Rattle.integers.specs.Gcd.{gcd}
+use Rattle.base_integers.specs.Gcd.{gcd}
 
 -- (p, q) with gcd(a, b) = p·a + q·b, by Euclid's algorithm in at most n steps
 abbrev pub cofactors_within : ℕ → ℕ → ℕ → ℤ × ℤ

@@ -3,11 +3,11 @@
 use Rattle.std.specs.Prelude.{ℕ, zero, suc, ◌+◌, ◌-◌, ◌*◌, ℤ, pos, neg_ℤ, ◌*ℤ◌, unsigned_abs, cond, List, [], ◌∷◌, length, remove, slice_set, slice_get, Option, Some, None}
 use Rattle.linear_term.specs.Linear.{Linear, number, name, coef_of, without}
 use Rattle.linear_term.specs.Combination.{combination}
-use Rattle.purse.specs.Trace.{Traced, just, next, pay, compute, each}
+use Rattle.base_budget.specs.Trace.{Traced, just, next, pay, compute, each}
 use Rattle.clause_set.specs.declared.literal.Literal.{Literal}
 use Rattle.clause_set.specs.declared.literal.Literal.TheVariants.{Eq, Geq, Div, NDiv}
 use Rattle.clause_set.specs.Clauses.{clauses_of}
-use Rattle.purse.specs.Trace.{combining}
+use Rattle.base_budget.specs.Trace.{combining}
 use Rattle.clause_set.specs.Names.{has, area, product}
 use Rattle.clause_set.specs.Bezout.{Bezout, bezout}
 

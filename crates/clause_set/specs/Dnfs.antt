@@ -2,7 +2,7 @@
 use Rattle.std.specs.Prelude.{◌+◌, ◌*◌, ℤ, pos, negsuc, Bool, false, not, ◌&&◌, ◌||◌, int_le, List, [], ◌∷◌, ◌++◌, length, filter, Option, Some, None}
 use Rattle.std.specs.List.{list_all, list_any, flat_map}
 use Rattle.linear_term.specs.Linear.{number}
-use Rattle.purse.specs.Trace.{Traced, just, next, pay, combining, each}
+use Rattle.base_budget.specs.Trace.{Traced, just, next, pay, combining, each}
 use Rattle.clause_set.specs.declared.literal.Literal.{Literal}
 use Rattle.clause_set.specs.declared.literal.Literal.TheVariants.{Eq, Geq, Div, NDiv}
 use Rattle.clause_set.specs.Order.{is_literal, clause_cmp, sorted_once}

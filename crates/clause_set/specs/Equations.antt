@@ -2,11 +2,11 @@
 -- |a|·x = −σ·s with the sign σ of a.
 use Rattle.std.specs.Prelude.{ℕ, ◌+◌, ℤ, pos, negsuc, neg_ℤ, ◌*ℤ◌, unsigned_abs, cond, int_lt, List, [], ◌∷◌, length, remove, Option, Some, None, slice_get}
 use Rattle.linear_term.specs.Linear.{Linear, coef_of, without}
-use Rattle.purse.specs.Trace.{Traced, just, next, pay, compute, each}
+use Rattle.base_budget.specs.Trace.{Traced, just, next, pay, compute, each}
 use Rattle.clause_set.specs.declared.literal.Literal.{Literal}
 use Rattle.clause_set.specs.declared.literal.Literal.TheVariants.{Eq, Geq, Div, NDiv}
 use Rattle.clause_set.specs.Clauses.{clauses_of}
-use Rattle.purse.specs.Trace.{combining}
+use Rattle.base_budget.specs.Trace.{combining}
 use Rattle.clause_set.specs.Names.{has, coefficient, remainder, area, product}
 
 -- the sign σ of a, as 1 or −1

@@ -3,7 +3,7 @@ use Rattle.std.specs.Prelude.{ℤ, pos, ◌<ℤ◌, Bool, true, false, not, unsi
 use Rattle.std.specs.List.{AllByRecursion, list_all, list_any}
 use Rattle.std.specs.Prelude.{All}
 use Rattle.std.specs.Ordering.{int_eq}
-use Rattle.integers.specs.Divides.{divides}
+use Rattle.base_integers.specs.Divides.{divides}
 use Rattle.linear_term.specs.Range.{InRange}
 use Rattle.linear_term.specs.Linear.{Linear, IsReduced, value_of}
 use Rattle.clause_set.specs.declared.literal.Literal.{Literal}

@@ -1,6 +1,6 @@
 -- Some value of a name makes a disjunction of clauses true.
 use Rattle.std.specs.Prelude.{ℕ, ℤ, ◌≡◌, true, List}
-use Rattle.integers.specs.Entry.{put}
+use Rattle.base_integers.specs.Entry.{put}
 use Rattle.clause_set.specs.declared.literal.Literal.{Literal}
 use Rattle.clause_set.specs.Literals.{dnf_truth}
 

@@ -2,8 +2,8 @@
 use Rattle.std.specs.Prelude.{ℕ, ℤ, pos, neg_ℤ, Bool, true, false, not, ◌&&◌, cond, int_le, int_lt, unsigned_abs, List, [], ◌∷◌, map, filter}
 use Rattle.std.specs.Int.{int_div_euclid, int_rem_euclid}
 use Rattle.std.specs.Ordering.{int_eq}
-use Rattle.integers.specs.Divides.{divides}
-use Rattle.integers.specs.Gcd.{gcd}
+use Rattle.base_integers.specs.Divides.{divides}
+use Rattle.base_integers.specs.Gcd.{gcd}
 use Rattle.linear_term.specs.Linear.{Linear}
 use Rattle.clause_set.specs.declared.literal.Literal.{Literal}
 use Rattle.clause_set.specs.declared.literal.Literal.TheVariants.{Eq, Geq, Div, NDiv}

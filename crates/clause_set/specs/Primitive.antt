@@ -1,8 +1,8 @@
 -- Literals in lowest terms, as normal forms have them.
 use Rattle.std.specs.Prelude.{◌≡◌, ◌⊎◌, ℕ, ℤ, pos, negsuc, ◌+ℤ◌, ◌≤ℤ◌, ◌<ℤ◌, List, [], ◌∷◌, All, Some}
 use Rattle.std.specs.List.{flat_map}
-use Rattle.integers.specs.Divides.{Divides}
-use Rattle.integers.specs.Gcd.{gcd}
+use Rattle.base_integers.specs.Divides.{Divides}
+use Rattle.base_integers.specs.Gcd.{gcd}
 use Rattle.linear_term.specs.Linear.{Linear}
 use Rattle.clause_set.specs.declared.literal.Literal.{Literal}
 use Rattle.clause_set.specs.declared.literal.Literal.TheVariants.{Eq, Geq, Div, NDiv}

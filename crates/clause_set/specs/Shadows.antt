@@ -4,12 +4,12 @@ use Rattle.std.specs.Prelude.{ℕ, ◌+◌, ◌*◌, ℤ, pos, negsuc, ◌+ℤ�
 use Rattle.std.specs.Int.{int_div_euclid}
 use Rattle.linear_term.specs.declared.range.Place.{Place}
 use Rattle.linear_term.specs.Linear.{Linear, number}
-use Rattle.purse.specs.Trace.{Traced, just, next, pay, compute, each}
+use Rattle.base_budget.specs.Trace.{Traced, just, next, pay, compute, each}
 use Rattle.clause_set.specs.declared.literal.Literal.{Literal}
 use Rattle.clause_set.specs.declared.literal.Literal.TheVariants.{Eq, Geq}
 use Rattle.clause_set.specs.Literals.{term_of}
 use Rattle.clause_set.specs.Clauses.{clauses_of}
-use Rattle.purse.specs.Trace.{combining}
+use Rattle.base_budget.specs.Trace.{combining}
 use Rattle.clause_set.specs.Names.{others, coefficient, remainder, area, is_lower, is_upper, product}
 use Rattle.clause_set.specs.Divisibilities.{numbers_from}
 

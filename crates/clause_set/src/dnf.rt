@@ -4,7 +4,7 @@ ghost use Rattle.clause_set.specs.Clause.{IsDnf};
 ghost use Rattle.clause_set.specs.Dnfs.{conjunction, disjunction, joined, tidied, tidying, top};
 ghost use Rattle.linear_term.specs.declared.range.Place.{Place};
 ghost use Rattle.clause_set.specs.Literals.{dnf_truth};
-ghost use Rattle.purse.specs.Work.{Charged};
+ghost use Rattle.base_budget.specs.Work.{Charged};
 ghost use Rattle.std.specs.Prelude.{◌≡◌, ◌≢◌, ◌<◌, ◌++◌, ◌&&◌, ◌||◌, [], IfOk, length, List, slice_get, Some, ℤ};
 
 use super::clause::Clause;
@@ -14,8 +14,8 @@ use super::order::sort_once;
 use super::weight::{
     conjunction_charge, disjunction_charge, tidying_charge, tidying_charge_of_both,
 };
+use base_budget::{Purse, StepFault};
 use linear_term::Memory;
-use purse::{Purse, StepFault};
 use sqlite_items::Items;
 use std::alloc::Global;
 use std::marker::Model;

@@ -13,7 +13,7 @@ ghost use Rattle.clause_set.specs.Normal.{negated, normal_of};
 ghost use Rattle.clause_set.specs.Order.{clause_cmp, is_clause, is_literal, literal_cmp};
 ghost use Rattle.linear_term.specs.declared.range.Place.{Place};
 ghost use Rattle.linear_term.specs.Linear.{Linear};
-ghost use Rattle.purse.specs.Trace.{At, cut, out_of_range};
+ghost use Rattle.base_budget.specs.Trace.{At, cut, out_of_range};
 ghost use Rattle.std.specs.List.{AllByRecursion, list_all, list_any};
 ghost use Rattle.std.specs.List.Sorted.{IsStrictlySortedBy};
 ghost use Rattle.std.specs.Prelude.{◌≡◌, ◌↔◌, ◌⊎◌, ◌&&◌, ◌||◌, ◌<ℤ◌, ◌+ℤ◌, All, Bool, false, List, None, not, pos, Some, true, ℕ, ℤ};

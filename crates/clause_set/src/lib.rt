@@ -20,6 +20,7 @@ mod order;
 mod table;
 pub mod weight;
 
+pub use base_budget::{ElimFault, ElimLog, Entry, Purse, Spent, StepFault};
 pub use clause::{Clause, copy_literals, normal};
 pub use dnf::{Dnf, and, or, or_into};
 pub use laws::{
@@ -29,4 +30,3 @@ pub use laws::{
 pub use literal::{Literal, Norm};
 pub use negation::{literal_clauses, negated_literal, not};
 pub use order::{Ordered, sort_once};
-pub use purse::{ElimFault, ElimLog, Entry, Purse, Spent, StepFault};

@@ -4,8 +4,8 @@ ghost use Rattle.clause_set.specs.Clauses.{clauses_of};
 ghost use Rattle.clause_set.specs.Dnfs.{conjunction, denied_clauses, denied_literal, joined, negated_clause, negated_literal, negation, tidying};
 ghost use Rattle.clause_set.specs.Literals.{dnf_truth, HasDivisor};
 ghost use Rattle.linear_term.specs.Linear.{number};
-ghost use Rattle.purse.specs.Trace.{combining};
-ghost use Rattle.purse.specs.Work.{Charged, Worked};
+ghost use Rattle.base_budget.specs.Trace.{combining};
+ghost use Rattle.base_budget.specs.Work.{Charged, Worked};
 ghost use Rattle.std.specs.Prelude.{◌≡◌, [], ◌∷◌, pos, negsuc, IfOk, List, not, ℤ};
 
 use super::clause::Clause;
@@ -13,13 +13,13 @@ use super::clauses::{found, is_top, joined, know_clauses, know_forms};
 use super::dnf::{Dnf, charged_tidied};
 use super::literal::Literal;
 use super::weight::{conjunction_charge, negation_charge};
+use base_budget::{Purse, StepFault};
 use linear_term::{Memory, Term};
-use purse::{Purse, StepFault};
 use sqlite_items::Items;
 use std::alloc::Global;
 
 /// −t − 1.
-#[tactic(auto, using(purse::proofs::Charging::combinations))]
+#[tactic(auto, using(base_budget::proofs::Charging::combinations))]
 fn below(alloc: Global, t: &Term) -> Result<Term, StepFault>
     ensures { Worked (combining (negsuc 0) t.now (pos 1) (number (negsuc 0))) result }
 {
@@ -30,7 +30,7 @@ fn below(alloc: Global, t: &Term) -> Result<Term, StepFault>
 }
 
 /// t − 1.
-#[tactic(auto, using(purse::proofs::Charging::combinations))]
+#[tactic(auto, using(base_budget::proofs::Charging::combinations))]
 fn above(alloc: Global, t: &Term) -> Result<Term, StepFault>
     ensures { Worked (combining (pos 1) t.now (pos 1) (number (negsuc 0))) result }
 {

@@ -3,7 +3,7 @@
 ghost use Rattle.clause_set.specs.Literals.{literal_truth, norm_truth, HasDivisor, HasDivisorNorm, IsDivisor};
 ghost use Rattle.clause_set.specs.Content.{HasContent};
 ghost use Rattle.clause_set.specs.Normal.{decided, denied, divided, gcd_with, is_residue, normal_divisibility, normal_equation, normal_inequality, normal_of, quotient, reduced_divisibility, reduced_equation, residue, residues, turned};
-ghost use Rattle.integers.specs.Divides.{divides, Divides};
+ghost use Rattle.base_integers.specs.Divides.{divides, Divides};
 ghost use Rattle.linear_term.specs.Linear.{IsNormal};
 ghost use Rattle.linear_term.specs.Range.{InRange};
 ghost use Rattle.std.specs.Int.{int_rem_euclid};

@@ -2,7 +2,7 @@
 
 ghost use Rattle.clause_set.specs.Literals.{term_of};
 ghost use Rattle.clause_set.specs.Weight.{clause_weight, weight};
-ghost use Rattle.purse.specs.Trace.{capped};
+ghost use Rattle.base_budget.specs.Trace.{capped};
 ghost use Rattle.std.specs.Prelude.{◌≡◌, ◌+◌, ◌*◌, length};
 
 use super::clause::Clause;

@@ -168,7 +168,13 @@ impl Simplex {
     }
 
     /// Adds d to what follows from a variable but for row `but`.
-    pub(crate) fn spread(&mut self, x: u32, d: Ratio, but: u32, fuel: &mut Fuel) -> Result<(), Fault> {
+    pub(crate) fn spread(
+        &mut self,
+        x: u32,
+        d: Ratio,
+        but: u32,
+        fuel: &mut Fuel,
+    ) -> Result<(), Fault> {
         let n = near(&self.table.columns, x as usize)?.len();
         fuel.spend(n as u64)?;
         for k in 0..n {
@@ -209,7 +215,11 @@ impl Simplex {
         let v = new.v;
         let lower = at(&self.lower, i)?;
         let upper = at(&self.upper, i)?;
-        let (same, other) = if is_upper { (upper, lower) } else { (lower, upper) };
+        let (same, other) = if is_upper {
+            (upper, lower)
+        } else {
+            (lower, upper)
+        };
         if let Some(b) = same
             && (if is_upper { b.v <= v } else { b.v >= v })
         {

@@ -64,7 +64,11 @@ impl Simplex {
             if e.x == b || !self.is_free(e.x, rises == low)? {
                 continue;
             }
-            let cost = if bland { 0 } else { near(&self.table.columns, e.x as usize)?.len() };
+            let cost = if bland {
+                0
+            } else {
+                near(&self.table.columns, e.x as usize)?.len()
+            };
             let better = match best {
                 Some(old) => cost < least || cost == least && e.x < old.x,
                 None => true,
@@ -86,14 +90,29 @@ impl Simplex {
         let row = near(&self.table.rows, r as usize)?;
         let own = at(&row.entries, row.own as usize)?.c;
         for e in row.entries.as_slice() {
-            let upper = if e.x == b { !low } else { ((e.c > 0) != (own > 0)) == low };
+            let upper = if e.x == b {
+                !low
+            } else {
+                ((e.c > 0) != (own > 0)) == low
+            };
             let times = i128::from(e.c).checked_abs().ok_or(Fault::Overflow)?;
-            let bound = if upper { at(&self.upper, e.x as usize)? } else { at(&self.lower, e.x as usize)? };
+            let bound = if upper {
+                at(&self.upper, e.x as usize)?
+            } else {
+                at(&self.lower, e.x as usize)?
+            };
             let Some(held) = bound else {
                 return Err(Fault::Broken);
             };
-            let times = if upper { times.checked_neg().ok_or(Fault::Overflow)? } else { times };
-            conflict.push(Share { lit: held.lit, times })?;
+            let times = if upper {
+                times.checked_neg().ok_or(Fault::Overflow)?
+            } else {
+                times
+            };
+            conflict.push(Share {
+                lit: held.lit,
+                times,
+            })?;
         }
         Ok(())
     }
@@ -126,8 +145,19 @@ impl Simplex {
     }
 
     /// Moves b to its bound by the entry, and makes that one basic.
-    fn repair(&mut self, r: u32, b: u32, low: bool, found: Entering, fuel: &mut Fuel) -> Result<(), Fault> {
-        let bound = if low { at(&self.lower, b as usize)? } else { at(&self.upper, b as usize)? };
+    fn repair(
+        &mut self,
+        r: u32,
+        b: u32,
+        low: bool,
+        found: Entering,
+        fuel: &mut Fuel,
+    ) -> Result<(), Fault> {
+        let bound = if low {
+            at(&self.lower, b as usize)?
+        } else {
+            at(&self.upper, b as usize)?
+        };
         let Some(held) = bound else {
             return Err(Fault::Broken);
         };

@@ -82,7 +82,10 @@ impl Tableau {
         for p in sum {
             let b = at(&self.row_of, p.0 as usize)?;
             if b != NOWHERE {
-                let found = near(&self.rows, r as usize)?.entries.iter().position(|e| e.x == p.0);
+                let found = near(&self.rows, r as usize)?
+                    .entries
+                    .iter()
+                    .position(|e| e.x == p.0);
                 if let Some(i) = found {
                     self.eliminate(r, i, b, fuel)?;
                 }
@@ -152,7 +155,11 @@ impl Tableau {
         let g = gcd_of_words(a.unsigned_abs(), b.unsigned_abs());
         let g = i64::try_from(g).map_err(|_| Fault::Overflow)?;
         let m = a.checked_div(g).ok_or(Fault::Broken)?;
-        let n = b.checked_div(g).ok_or(Fault::Broken)?.checked_neg().ok_or(Fault::Overflow)?;
+        let n = b
+            .checked_div(g)
+            .ok_or(Fault::Broken)?
+            .checked_neg()
+            .ok_or(Fault::Overflow)?;
         let source = near_mut(&mut self.rows, r as usize)?;
         let entries = mem::replace(&mut source.entries, Vec::new(self.alloc));
         fuel.spend(entries.len() as u64)?;

@@ -6,11 +6,11 @@ use Rattle.clause_text.specs.declared.head.Head.{Head}
 use Rattle.clause_text.specs.Head.{head_text, head_of, IsHead}
 use Rattle.clause_text.specs.Lines.{line_text, line_of, IsLine}
 use Rattle.clause_text.specs.Files.{ProofText, lines_text, proof_text, IsProofText, IsProofRefusedAt}
-use Rattle.text_words.specs.Tokens.{size}
-use Rattle.text_words.specs.Places.{Begins, IsRefusedAt}
-use Rattle.text_words.specs.Reading.{Token, Read, done}
-use Rattle.text_words.proofs.Lists.{done_is}
-use Rattle.text_words.proofs.Exact.{Reads, IsStuck, IsFault}
+use Rattle.clause_words.specs.Tokens.{size}
+use Rattle.clause_words.specs.Places.{Begins, IsRefusedAt}
+use Rattle.clause_words.specs.Reading.{Token, Read, done}
+use Rattle.clause_words.proofs.Lists.{done_is}
+use Rattle.clause_words.proofs.Exact.{Reads, IsStuck, IsFault}
 use Rattle.clause_text.proofs.ExactLines.{line_reads}
 use Rattle.clause_text.proofs.ExactHead.{head_reads}
 
@@ -82,15 +82,15 @@ line_refused h ls rest n i j some e =
         parts = ap (λ z. head_text h ++ z) (lines_append ls v ∙ ap (λ z. lines_text ls ++ z) s.begins.parts ∙ sym (append_assoc (lines_text ls) s.front s.begins.more)) ∙ sym (append_assoc (head_text h) (lines_text ls ++ s.front) s.begins.more);
       };
       none = λ x r p b.
-        let tail = s.front ++ x ∷ b.more in
-        let text : head_text b.value.0 ++ lines_text b.value.1 ≡ head_text h ++ (lines_text ls ++ tail) =
-            b.parts ∙ append_assoc (head_text h ++ (lines_text ls ++ s.front)) (x ∷ []) b.more ∙ append_assoc (head_text h) (lines_text ls ++ s.front) (x ∷ b.more) ∙ ap (λ z. head_text h ++ z) (append_assoc (lines_text ls) s.front (x ∷ b.more)) in
-        let q = same_value IsHead head_text head_of head_reads b.value.0 h (lines_text b.value.1) (lines_text ls ++ tail) b.is_value.0 i text in
-        lines_none b.value.1 ls tail b.is_value.1 j (λ l y f. fault_or (line_of tail) (l, y) (s.stuck x r b.more p) f) (λ f. no_middle s.front x b.more (sym f)) q.1;
+          let tail = s.front ++ x ∷ b.more in
+          let text : head_text b.value.0 ++ lines_text b.value.1 ≡ head_text h ++ (lines_text ls ++ tail) =
+          b.parts ∙ append_assoc (head_text h ++ (lines_text ls ++ s.front)) (x ∷ []) b.more ∙ append_assoc (head_text h) (lines_text ls ++ s.front) (x ∷ b.more) ∙ ap (λ z. head_text h ++ z) (append_assoc (lines_text ls) s.front (x ∷ b.more)) in
+          let q = same_value IsHead head_text head_of head_reads b.value.0 h (lines_text b.value.1) (lines_text ls ++ tail) b.is_value.0 i text in
+          lines_none b.value.1 ls tail b.is_value.1 j (λ l y f. fault_or (line_of tail) (l, y) (s.stuck x r b.more p) f) (λ f. no_middle s.front x b.more (sym f)) q.1;
       ends = λ nothing p k f.
-        let rest_is : rest ≡ s.front = s.whole ∙ ap (λ z. s.front ++ z) nothing ∙ append-nil s.front in
-        let q = same_value IsHead head_text head_of head_reads p.0 h (lines_text p.1) (lines_text ls ++ s.front) k.0 i f in
-        lines_none p.1 ls rest k.1 j (λ l y g. ok_or_err (line_of rest) (l, y) n g e) some (q.1 ∙ ap (λ z. lines_text ls ++ z) (sym rest_is));
+          let rest_is : rest ≡ s.front = s.whole ∙ ap (λ z. s.front ++ z) nothing ∙ append-nil s.front in
+          let q = same_value IsHead head_text head_of head_reads p.0 h (lines_text p.1) (lines_text ls ++ s.front) k.0 i f in
+          lines_none p.1 ls rest k.1 j (λ l y g. ok_or_err (line_of rest) (l, y) n g e) some (q.1 ∙ ap (λ z. lines_text ls ++ z) (sym rest_is));
       place = s.place;
     }
 
@@ -104,10 +104,10 @@ head_refused ts n e =
       whole = s.whole;
       begins = record { value = (s.begins.value, []); is_value = (s.begins.is_value, tt); more = s.begins.more; parts = append-nil (head_text s.begins.value) ∙ s.begins.parts };
       none = λ x r p b.
-        let text : head_text b.value.0 ++ lines_text b.value.1 ≡ s.front ++ x ∷ b.more = b.parts ∙ append_assoc s.front (x ∷ []) b.more in
-        fault_or (head_of (s.front ++ x ∷ b.more)) (b.value.0, lines_text b.value.1) (s.stuck x r b.more p) (ap head_of (sym text) ∙ head_reads.again b.value.0 (lines_text b.value.1) b.is_value.0);
+          let text : head_text b.value.0 ++ lines_text b.value.1 ≡ s.front ++ x ∷ b.more = b.parts ∙ append_assoc s.front (x ∷ []) b.more in
+          fault_or (head_of (s.front ++ x ∷ b.more)) (b.value.0, lines_text b.value.1) (s.stuck x r b.more p) (ap head_of (sym text) ∙ head_reads.again b.value.0 (lines_text b.value.1) b.is_value.0);
       ends = λ nothing p k f.
-        let ts_is : ts ≡ head_text p.0 ++ lines_text p.1 = s.whole ∙ ap (λ z. s.front ++ z) nothing ∙ append-nil s.front ∙ sym f in
-        ok_or_err (head_of ts) (p.0, lines_text p.1) n (ap head_of ts_is ∙ head_reads.again p.0 (lines_text p.1) k.0) e;
+          let ts_is : ts ≡ head_text p.0 ++ lines_text p.1 = s.whole ∙ ap (λ z. s.front ++ z) nothing ∙ append-nil s.front ∙ sym f in
+          ok_or_err (head_of ts) (p.0, lines_text p.1) n (ap head_of ts_is ∙ head_reads.again p.0 (lines_text p.1) k.0) e;
       place = s.place;
     }

@@ -13,16 +13,16 @@ use Rattle.clause_text.specs.declared.head.Head.{Head}
 use Rattle.clause_text.specs.HeadWords.{charge_of, charge_text, format_word, is_label, IsCharge}
 use Rattle.clause_text.specs.Literals.{literal_of, literal_text, IsLiteral}
 use Rattle.clause_text.specs.Head.{label_text, One, one_of_line, one_text, IsOne, HeadValues, AreHeadValues, head_values_text, head_values, head_with, values_of_head, head_text, IsHead, head_of, RefusesHead}
-use Rattle.text_words.specs.Numbers.{index_of, integer_of}
-use Rattle.text_words.specs.Tokens.{tokens, spelled, size, with_word, is_separator, stops}
-use Rattle.text_words.specs.Spelling.{integer_text, is_plain, IsSpelling}
-use Rattle.text_words.specs.Texts.{both_text, Both, Always, end_text, field_text, list_text}
-use Rattle.text_words.specs.Places.{Begins, IsRefusedAt}
-use Rattle.text_words.specs.Reading.{Token, Read, ◌>>=◌, Gives, said, done, word_as, both, ends, field, fields}
-use Rattle.text_words.proofs.Lists.{word_some, word_none, done_is}
-use Rattle.text_words.proofs.Splitting.{spelled_is, empty_word, no_value, one_value}
-use Rattle.text_words.proofs.Spelled.{index_spelling, integer_spelling}
-use Rattle.text_words.proofs.Exact.{Reads, IsStuck, IsFault, fault_bind, both_reads, ends_reads, field_reads, fields_reads, bind_ok, bind_err, said_some, said_value, word_is, word_not, refused}
+use Rattle.clause_words.specs.Numbers.{index_of, integer_of}
+use Rattle.clause_words.specs.Tokens.{tokens, spelled, size, with_word, is_separator, stops}
+use Rattle.clause_words.specs.Spelling.{integer_text, is_plain, IsSpelling}
+use Rattle.clause_words.specs.Texts.{both_text, Both, Always, end_text, field_text, list_text}
+use Rattle.clause_words.specs.Places.{Begins, IsRefusedAt}
+use Rattle.clause_words.specs.Reading.{Token, Read, ◌>>=◌, Gives, said, done, word_as, both, ends, field, fields}
+use Rattle.clause_words.proofs.Lists.{word_some, word_none, done_is}
+use Rattle.clause_words.proofs.Splitting.{spelled_is, empty_word, no_value, one_value}
+use Rattle.clause_words.proofs.Spelled.{index_spelling, integer_spelling}
+use Rattle.clause_words.proofs.Exact.{Reads, IsStuck, IsFault, fault_bind, both_reads, ends_reads, field_reads, fields_reads, bind_ok, bind_err, said_some, said_value, word_is, word_not, refused}
 use Rattle.clause_text.proofs.Labels.{charge_spelling, label_spelling}
 use Rattle.clause_text.proofs.SpelledLiterals.{literal_spelling}
 use Rattle.clause_text.proofs.Shapes.{word_spaced, feed_spaced, word_back, IsSpaced}
@@ -51,9 +51,9 @@ word_first P spell f s ts n (inr a) = record {
 word_reads : {V : Type 0} (P : V → Type 0) (spell : V → List ℕ) (f : List ℕ → Option V) → IsSpelling P spell f → Reads P (λ v. spell v ∷ []) (word_as f)
 word_reads P spell f s = record {
   found = λ ts v rest e.
-    let w = word_some f ts v rest e in
-    let g = s.found w.0 v (said_some f w.0 v w.2) in
-    (g.0, w.1 ∙ ap (λ z. z ∷ rest) g.1);
+      let w = word_some f ts v rest e in
+      let g = s.found w.0 v (said_some f w.0 v w.2) in
+      (g.0, w.1 ∙ ap (λ z. z ∷ rest) g.1);
   again = λ v rest i. word_is f (spell v) rest v (said_value P spell f s v i);
   first = λ ts n e. word_first P spell f s ts n (word_none f ts n e);
   some = s.some;
@@ -78,22 +78,22 @@ mapped_reads : {A B : Type 0} (P : A → Type 0) (text : A → List Token) (read
     → Reads P text read → Reads (λ b. P (g b)) (λ b. text (g b)) (λ ts. read ts >>= λ p. done (f p.0) p.1)
 mapped_reads {A} {B} P text read f g fg gf r = record {
   found = λ ts b rest e.
-    let o = bind_ok (read ts) (λ p. done (f p.0) p.1) (b, rest) e in
-    let d = done_is (f o.0.0) b o.0.1 rest o.2 in
-    let same : o.0.0 ≡ g b = sym (gf o.0.0) ∙ ap g d.0 in
-    let h = r.found ts o.0.0 o.0.1 o.1 in
-    (subst P same h.0, h.1 ∙ ap (λ z. text z ++ o.0.1) same ∙ ap (λ z. text (g b) ++ z) d.1);
+      let o = bind_ok (read ts) (λ p. done (f p.0) p.1) (b, rest) e in
+      let d = done_is (f o.0.0) b o.0.1 rest o.2 in
+      let same : o.0.0 ≡ g b = sym (gf o.0.0) ∙ ap g d.0 in
+      let h = r.found ts o.0.0 o.0.1 o.1 in
+      (subst P same h.0, h.1 ∙ ap (λ z. text z ++ o.0.1) same ∙ ap (λ z. text (g b) ++ z) d.1);
   again = λ b rest i. ap (λ z. z >>= λ p. done (f p.0) p.1) (r.again (g b) rest i) ∙ ap (λ z. done z rest) (fg b);
   first = λ ts n e.
-    let s = r.first ts n (mapped_err f (read ts) n e) in
-    record {
-      front = s.front;
-      back = s.back;
-      whole = s.whole;
-      begins = record { value = f s.begins.value; is_value = subst P (sym (gf s.begins.value)) s.begins.is_value; more = s.begins.more; parts = ap text (gf s.begins.value) ∙ s.begins.parts };
-      stuck = λ x rest more h. fault_bind (read (s.front ++ x ∷ more)) (λ p. done (f p.0) p.1) (s.stuck x rest more h);
-      place = s.place;
-    };
+      let s = r.first ts n (mapped_err f (read ts) n e) in
+      record {
+        front = s.front;
+        back = s.back;
+        whole = s.whole;
+        begins = record { value = f s.begins.value; is_value = subst P (sym (gf s.begins.value)) s.begins.is_value; more = s.begins.more; parts = ap text (gf s.begins.value) ∙ s.begins.parts };
+        stuck = λ x rest more h. fault_bind (read (s.front ++ x ∷ more)) (λ p. done (f p.0) p.1) (s.stuck x rest more h);
+        place = s.place;
+      };
   some = f r.some;
   some_is = subst P (sym (gf r.some)) r.some_is;
 }

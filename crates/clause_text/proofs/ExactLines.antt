@@ -10,12 +10,12 @@ use Rattle.clause_text.specs.declared.line_word.LineWord.TheVariants as w
 use Rattle.clause_text.specs.Words.{word_text, word_of}
 use Rattle.clause_text.specs.Shapes.{Values, AreSaid, shape_of, shape_text, reading}
 use Rattle.clause_text.specs.Lines.{line_with, word_for, values_of, line_text, IsLine, line_behind, line_of, RefusesLine}
-use Rattle.text_words.specs.Tokens.{tokens, spelled, size}
-use Rattle.text_words.specs.Places.{Begins, IsRefusedAt}
-use Rattle.text_words.specs.Reading.{Token, Read, ◌>>=◌, Gives, Fails, said, done, word_as}
-use Rattle.text_words.proofs.Lists.{word_some, word_none, done_is}
-use Rattle.text_words.proofs.Splitting.{spelled_is}
-use Rattle.text_words.proofs.Exact.{Reads, IsStuck, IsFault, fault_bind, bind_ok, bind_err, said_some, said_value, word_is, word_not, refused}
+use Rattle.clause_words.specs.Tokens.{tokens, spelled, size}
+use Rattle.clause_words.specs.Places.{Begins, IsRefusedAt}
+use Rattle.clause_words.specs.Reading.{Token, Read, ◌>>=◌, Gives, Fails, said, done, word_as}
+use Rattle.clause_words.proofs.Lists.{word_some, word_none, done_is}
+use Rattle.clause_words.proofs.Splitting.{spelled_is}
+use Rattle.clause_words.proofs.Exact.{Reads, IsStuck, IsFault, fault_bind, bind_ok, bind_err, said_some, said_value, word_is, word_not, refused}
 use Rattle.clause_text.proofs.Words.{Any, word_spelling}
 use Rattle.clause_text.proofs.Shapes.{shape_reads, shape_spaced, word_back}
 

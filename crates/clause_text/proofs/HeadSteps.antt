@@ -6,7 +6,7 @@ use Rattle.clause_proof.specs.declared.line.Literal.{Literal}
 use Rattle.clause_text.specs.declared.charge.Charge.{Charge}
 use Rattle.clause_text.specs.Head.{One, one_of_line, charges_line, prepared_line, values_line, root_line, HeadValues, head_values, head_with, head_of}
 use Rattle.clause_text.specs.HeadWords.{is_label}
-use Rattle.text_words.specs.Reading.{Token, Read, ◌>>=◌, Fails, done, paired, both, ends, blank_first, feed_first, field, word_as}
+use Rattle.clause_words.specs.Reading.{Token, Read, ◌>>=◌, Fails, done, paired, both, ends, blank_first, feed_first, field, word_as}
 
 fails_by : {A B : Type 0} (fault : Refusal) (r : Result A ℕ) (f : A → Result B ℕ) → Fails fault r → Fails fault (r >>= f)
 fails_by e.Memory r f h = tt

@@ -5,13 +5,13 @@ use Rattle.std.specs.Str.{bytes_eq}
 use Rattle.std.specs.Fmt.{decimal}
 use Rattle.std.proofs.lemmas.Slice.Eq.{bytes_eq-Decides}
 use Rattle.std.proofs.lemmas.Bool.Decides.{nat_tests}
-use Rattle.limits.specs.Limits.{most_budget}
+use Rattle.base_limits.specs.Limits.{most_budget}
 use Rattle.clause_text.specs.declared.charge.Charge.{Charge}
 use Rattle.clause_text.specs.HeadWords.{charge_if, charge_of, charge_text, is_label, IsCharge}
-use Rattle.text_words.specs.Numbers.{index_of}
-use Rattle.text_words.specs.Spelling.{is_plain, IsSpelling}
-use Rattle.text_words.specs.Texts.{Always}
-use Rattle.text_words.proofs.Spelled.{index_spelling, decimal_plain}
+use Rattle.clause_words.specs.Numbers.{index_of}
+use Rattle.clause_words.specs.Spelling.{is_plain, IsSpelling}
+use Rattle.clause_words.specs.Texts.{Always}
+use Rattle.clause_words.proofs.Spelled.{index_spelling, decimal_plain}
 
 label_found : (w x : List ℕ) (v : Unit {0}) → is_label w x ≡ Some v → x ≡ w
 label_found w x v e = by (bytes_eq x w) refl e
@@ -28,7 +28,6 @@ label_spelling w h = record {
   some = tt;
   some_is = tt;
 }
-
 
 charge_found_by : (x : List ℕ) (v : Charge) (o : Option ℕ) → index_of x ≡ o → charge_if o ≡ Some v → IsCharge v × (x ≡ decimal v.count)
 charge_found_by x v None p e = absurd cc

@@ -3,15 +3,15 @@ use Rattle.std.proofs.Common.{ℕ, ◌≡◌, ◌<◌, ◌^◌, ℤ, pos, Bool, 
 use Rattle.std.specs.List.{AllByRecursion, list_all}
 use Rattle.clause_text.specs.Shapes.{Kind, number, integer, literal, term, factor, Shape, nothing, one, many, many_by, Said, IsSaid, spelling, meaning, by, Values, AreSaid, shape_text, reading}
 use Rattle.clause_text.proofs.SpelledLiterals.{literal_spelling, factor_spelling}
-use Rattle.text_words.specs.Spelling.{is_plain, IsSpelling}
-use Rattle.text_words.specs.Texts.{field_text, list_text, list_to_text}
-use Rattle.text_words.specs.Tokens.{tokens, spelled, stops, blank, line_feed, in_word, with_word}
-use Rattle.text_words.specs.Reading.{Token, field, fields, fields_to, unless}
-use Rattle.text_words.proofs.Exact.{Reads, both_reads, ends_reads, field_reads, fields_reads}
-use Rattle.text_words.proofs.Unless.{IsEndWord, fields_to_reads}
-use Rattle.text_words.proofs.Spelled.{index_spelling, integer_spelling}
-use Rattle.text_words.proofs.Splitting.{word_before}
-use Rattle.text_words.proofs.SpelledTerms.{term_spelling}
+use Rattle.clause_words.specs.Spelling.{is_plain, IsSpelling}
+use Rattle.clause_words.specs.Texts.{field_text, list_text, list_to_text}
+use Rattle.clause_words.specs.Tokens.{tokens, spelled, stops, blank, line_feed, in_word, with_word}
+use Rattle.clause_words.specs.Reading.{Token, field, fields, fields_to, unless}
+use Rattle.clause_words.proofs.Exact.{Reads, both_reads, ends_reads, field_reads, fields_reads}
+use Rattle.clause_words.proofs.Unless.{IsEndWord, fields_to_reads}
+use Rattle.clause_words.proofs.Spelled.{index_spelling, integer_spelling}
+use Rattle.clause_words.proofs.Splitting.{word_before}
+use Rattle.clause_words.proofs.SpelledTerms.{term_spelling}
 
 pub kind_spelling : (k : Kind) → IsSpelling (IsSaid k) (spelling k) (meaning k)
 kind_spelling number = index_spelling
@@ -22,7 +22,7 @@ kind_spelling factor = factor_spelling
 
 -- the word `by` is none of a kind
 by_is_none : (k : Kind) → IsEndWord (meaning k) by
-unfolding Rattle.clause_text.specs.Literals.literal_of Rattle.clause_text.specs.Literals.factor_of Rattle.text_words.specs.Terms.term_of Rattle.text_words.specs.Terms.sum_of Rattle.text_words.specs.Terms.parts Rattle.text_words.specs.Terms.part_of
+unfolding Rattle.clause_text.specs.Literals.literal_of Rattle.clause_text.specs.Literals.factor_of Rattle.clause_words.specs.Terms.term_of Rattle.clause_words.specs.Terms.sum_of Rattle.clause_words.specs.Terms.parts Rattle.clause_words.specs.Terms.part_of
 by_is_none number = (refl, refl)
 by_is_none integer = (refl, refl)
 by_is_none literal = (refl, refl)
@@ -73,8 +73,8 @@ pub word_spaced : (w : List ℕ) (ts : List Token) → is_plain w ≡ true → I
 word_spaced w ts h s = record {
   begins = λ rest. refl;
   back = λ rest.
-    ap (λ z. tokens (32 ∷ z)) (append_assoc w (spelled ts) rest) ∙ blank_back (w ++ (spelled ts ++ rest))
-    ∙ ap (λ z. blank ∷ z) (word_back w (spelled ts ++ rest) h (s.begins rest) ∙ ap (λ z. w ∷ z) (s.back rest));
+      ap (λ z. tokens (32 ∷ z)) (append_assoc w (spelled ts) rest) ∙ blank_back (w ++ (spelled ts ++ rest))
+      ∙ ap (λ z. blank ∷ z) (word_back w (spelled ts ++ rest) h (s.begins rest) ∙ ap (λ z. w ∷ z) (s.back rest));
 }
 
 list_spaced : (k : Kind) (vs : List (Said k)) → AllByRecursion (IsSaid k) vs → IsSpaced (list_text (spelling k) vs)

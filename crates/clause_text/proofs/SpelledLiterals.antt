@@ -6,18 +6,18 @@ use Rattle.std.specs.Char.{is_ascii_digit}
 use Rattle.std.specs.Fmt.{decimal}
 use Rattle.std.proofs.lemmas.List.{take-append-drop, take_at, drop_at}
 use Rattle.std.proofs.lemmas.Bool.Decides.{nat_tests}
-use Rattle.numerals.proofs.Tests.{left_true, right_true}
-use Rattle.numerals.proofs.Decimals.{digits_back}
+use Rattle.base_numerals.proofs.Tests.{left_true, right_true}
+use Rattle.base_numerals.proofs.Decimals.{digits_back}
 use Rattle.linear_term.specs.Range.{InRange}
 use Rattle.clause_proof.specs.declared.line.Literal.{Literal}
 use Rattle.clause_proof.specs.declared.line.Factor.{Factor}
 use Rattle.clause_text.specs.Literals.{literal_text, literal_of, IsLiteral, with_sign, factor_text, factor_of, factor_by, multiplied, IsFactor}
-use Rattle.text_words.specs.Tokens.{in_word}
-use Rattle.text_words.specs.Numbers.{index_of, integer_of}
-use Rattle.text_words.specs.Spelling.{integer_text, is_plain, IsSpelling}
-use Rattle.text_words.specs.Terms.{no_star}
-use Rattle.text_words.proofs.Spelled.{index_spelling, integer_spelling, decimal_plain}
-use Rattle.text_words.proofs.Runs.{front_len, star_stops}
+use Rattle.clause_words.specs.Tokens.{in_word}
+use Rattle.clause_words.specs.Numbers.{index_of, integer_of}
+use Rattle.clause_words.specs.Spelling.{integer_text, is_plain, IsSpelling}
+use Rattle.clause_words.specs.Terms.{no_star}
+use Rattle.clause_words.proofs.Spelled.{index_spelling, integer_spelling, decimal_plain}
+use Rattle.clause_words.proofs.Runs.{front_len, star_stops}
 
 at : (b c : ℕ) → (b == c) ≡ true → b ≡ c
 at b c h = grind (arith, nat_tests)
@@ -83,7 +83,7 @@ factor_found_by a (b ∷ bs) v h e = let q = both_found a bs v (literal_of a) (i
 factor_found : (x : List ℕ) (v : Factor) → factor_of x ≡ Some v → IsFactor v × (x ≡ factor_text v)
 unfolding factor_of
 factor_found x v e =
-    let q = factor_found_by (take (prefix_len no_star x) x) (drop (prefix_len no_star x) x) v (Rattle.text_words.proofs.Runs.star_rest x) e in
+    let q = factor_found_by (take (prefix_len no_star x) x) (drop (prefix_len no_star x) x) v (Rattle.clause_words.proofs.Runs.star_rest x) e in
     (q.0, sym (take-append-drop (prefix_len no_star x) x) ∙ q.1)
 
 factor_split : (a bs : List ℕ) → list_all no_star a ≡ true → factor_of (a ++ 42 ∷ bs) ≡ multiplied (literal_of a) (integer_of bs)

@@ -6,7 +6,7 @@ use Rattle.clause_proof.specs.declared.line.Line.{Line}
 use Rattle.clause_text.specs.declared.line_word.LineWord.{LineWord}
 use Rattle.clause_text.specs.Shapes.{Kind, Shape, nothing, one, many_by, Said, meaning, by, Values, shape_of, reading}
 use Rattle.clause_text.specs.Lines.{line_with, line_behind}
-use Rattle.text_words.specs.Reading.{Token, Read, ◌>>=◌, Gives, Fails, done, paired, feed_first, field, fields, fields_to, unless}
+use Rattle.clause_words.specs.Reading.{Token, Read, ◌>>=◌, Gives, Fails, done, paired, feed_first, field, fields, fields_to, unless}
 use Rattle.clause_text.proofs.ExactLines.{seen}
 
 pub step_done : (k : Kind) (s : Shape) (ts us rest : List Token) (v : Said k) (vs : Values s) → field (meaning k) ts ≡ done v us → reading s us ≡ done vs rest → reading (one k s) ts ≡ done (v, vs) rest

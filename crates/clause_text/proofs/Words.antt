@@ -5,7 +5,7 @@ use Rattle.std.proofs.lemmas.Slice.Eq.{bytes_eq-Decides}
 use Rattle.clause_text.specs.declared.line_word.LineWord.{LineWord}
 use Rattle.clause_text.specs.declared.line_word.LineWord.TheVariants as w
 use Rattle.clause_text.specs.Words.{word_text, word_of, one_of, frequent_words, other_words}
-use Rattle.text_words.specs.Spelling.{is_plain, IsSpelling}
+use Rattle.clause_words.specs.Spelling.{is_plain, IsSpelling}
 
 abbrev pub Any : LineWord → Type 0
 Any w = Unit {0}

@@ -1,8 +1,8 @@
 -- Texts that are written in parts.
 use Rattle.std.proofs.Common.{ℕ, ◌≡◌, List, [], ◌∷◌, ◌++◌, append_assoc, append-nil, refl, sym, ap, ◌∙◌, Result, Ok, Err}
 use Rattle.std.specs.Prelude.{OnOk}
-use Rattle.text_words.specs.Reading.{Token}
-use Rattle.text_words.specs.Tokens.{spelled}
+use Rattle.clause_words.specs.Reading.{Token}
+use Rattle.clause_words.specs.Tokens.{spelled}
 
 pub ruleset texts = (append_assoc, append-nil)
 

@@ -5,9 +5,9 @@ use Rattle.clause_proof.specs.declared.line.Line.{Line}
 use Rattle.clause_text.specs.declared.head.Head.{Head}
 use Rattle.clause_text.specs.Head.{head_text, IsHead}
 use Rattle.clause_text.specs.Lines.{line_text, IsLine}
-use Rattle.text_words.specs.Reading.{Token}
-use Rattle.text_words.specs.Tokens.{size}
-use Rattle.text_words.specs.Places.{Begins}
+use Rattle.clause_words.specs.Reading.{Token}
+use Rattle.clause_words.specs.Tokens.{size}
+use Rattle.clause_words.specs.Places.{Begins}
 
 -- the first lines of a proof, and its lines
 abbrev pub ProofText : Type 0

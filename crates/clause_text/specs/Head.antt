@@ -10,12 +10,12 @@ use Rattle.clause_text.specs.declared.charge.Charge.{Charge}
 use Rattle.clause_text.specs.declared.head.Head.{Head}
 use Rattle.clause_text.specs.HeadWords.{charge_of, charge_text, format_word, is_label, IsCharge}
 use Rattle.clause_text.specs.Literals.{literal_of, literal_text, IsLiteral}
-use Rattle.text_words.specs.Numbers.{index_of, integer_of}
-use Rattle.text_words.specs.Spelling.{integer_text}
-use Rattle.text_words.specs.Tokens.{tokens}
-use Rattle.text_words.specs.Texts.{both_text, Both, Always, end_text, field_text, list_text}
-use Rattle.text_words.specs.Places.{IsRefusedAt}
-use Rattle.text_words.specs.Reading.{Token, Read, ◌>>=◌, done, word_as, both, ends, field, fields}
+use Rattle.clause_words.specs.Numbers.{index_of, integer_of}
+use Rattle.clause_words.specs.Spelling.{integer_text}
+use Rattle.clause_words.specs.Tokens.{tokens}
+use Rattle.clause_words.specs.Texts.{both_text, Both, Always, end_text, field_text, list_text}
+use Rattle.clause_words.specs.Places.{IsRefusedAt}
+use Rattle.clause_words.specs.Reading.{Token, Read, ◌>>=◌, done, word_as, both, ends, field, fields}
 
 -- a word alone
 abbrev pub label_text : List ℕ → Unit {0} → List Token

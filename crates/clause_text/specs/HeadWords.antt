@@ -2,9 +2,9 @@
 use Rattle.std.specs.Prelude.{ℕ, ◌≤◌, ◌&&◌, List, Option, Some, None, codes, cond, nat_le}
 use Rattle.std.specs.Str.{bytes_eq}
 use Rattle.std.specs.Fmt.{decimal}
-use Rattle.limits.specs.Limits.{most_budget}
+use Rattle.base_limits.specs.Limits.{most_budget}
 use Rattle.clause_text.specs.declared.charge.Charge.{Charge}
-use Rattle.text_words.specs.Numbers.{index_of}
+use Rattle.clause_words.specs.Numbers.{index_of}
 
 -- the word is this one
 abbrev pub is_label : List ℕ → List ℕ → Option (Unit {0})

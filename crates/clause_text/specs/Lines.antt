@@ -8,9 +8,9 @@ use Rattle.clause_text.specs.Words.{word_text, word_of}
 use Rattle.clause_text.specs.Shapes.{Values, AreSaid, shape_of, shape_text, reading}
 use Rattle.proof_tokens.specs.declared.reading.Refusal.{Refusal}
 use Rattle.proof_tokens.specs.declared.reading.Refusal.TheVariants as e
-use Rattle.text_words.specs.Tokens.{tokens}
-use Rattle.text_words.specs.Places.{IsRefusedAt}
-use Rattle.text_words.specs.Reading.{Token, Read, ◌>>=◌, done, word_as}
+use Rattle.clause_words.specs.Tokens.{tokens}
+use Rattle.clause_words.specs.Places.{IsRefusedAt}
+use Rattle.clause_words.specs.Reading.{Token, Read, ◌>>=◌, done, word_as}
 
 -- the line with these values behind its word
 abbrev pub line_with : (word : LineWord) → Values (shape_of word) → Line

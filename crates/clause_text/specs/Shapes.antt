@@ -9,11 +9,11 @@ use Rattle.clause_proof.specs.declared.line.Factor.{Factor}
 use Rattle.clause_text.specs.declared.line_word.LineWord.{LineWord}
 use Rattle.clause_text.specs.declared.line_word.LineWord.TheVariants as w
 use Rattle.clause_text.specs.Literals.{literal_text, literal_of, IsLiteral, factor_text, factor_of, IsFactor}
-use Rattle.text_words.specs.Numbers.{index_of, integer_of}
-use Rattle.text_words.specs.Spelling.{integer_text}
-use Rattle.text_words.specs.Terms.{term_text, term_of}
-use Rattle.text_words.specs.Texts.{field_text, list_text, list_to_text, both_text, Both, end_text, Always}
-use Rattle.text_words.specs.Reading.{Token, Read, field, fields, fields_to, unless, both, ends}
+use Rattle.clause_words.specs.Numbers.{index_of, integer_of}
+use Rattle.clause_words.specs.Spelling.{integer_text}
+use Rattle.clause_words.specs.Terms.{term_text, term_of}
+use Rattle.clause_words.specs.Texts.{field_text, list_text, list_to_text, both_text, Both, end_text, Always}
+use Rattle.clause_words.specs.Reading.{Token, Read, field, fields, fields_to, unless, both, ends}
 
 -- what one word says: a number below 2^32, an integer, a literal, a linear term, a literal with its multiplier
 pub data Kind : Type 0 where

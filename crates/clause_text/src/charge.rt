@@ -3,8 +3,8 @@
 ghost use Rattle.clause_text.specs.HeadWords.{charge_of};
 ghost use Rattle.std.specs.Prelude.{◌≡◌};
 
-use limits::MOST_BUDGET;
-use text_words::index;
+use base_limits::MOST_BUDGET;
+use clause_words::index;
 
 /// How many steps a checker may charge: at least one.
 #[derive(Clone, Copy)]

@@ -3,17 +3,17 @@
 ghost use Rattle.clause_text.specs.Head.{charges_line, format_line, format_said, head_of, head_text, IsHead, list_said, one_said, prepared_line, RefusesHead, root_line, unsaid, values_line};
 ghost use Rattle.clause_text.specs.HeadWords.{is_label};
 ghost use Rattle.std.specs.Prelude.{◌≡◌, ◌++◌, true, IfErr, IfOk, List, ℕ};
-ghost use Rattle.text_words.specs.Reading.{done, Gives, word_as};
-ghost use Rattle.text_words.specs.Spelling.{is_plain};
-ghost use Rattle.text_words.specs.Tokens.{spelled, tokens};
+ghost use Rattle.clause_words.specs.Reading.{done, Gives, word_as};
+ghost use Rattle.clause_words.specs.Spelling.{is_plain};
+ghost use Rattle.clause_words.specs.Tokens.{spelled, tokens};
 
 use crate::charge::Charge;
 use crate::line_words::{field, fields};
 use clause_proof::Literal;
+use clause_words::{blank_first, feed_first, split_word};
 use proof_tokens::Refusal;
 use sqlite_items::Items;
 use std::alloc::Global;
-use text_words::{blank_first, feed_first, split_word};
 
 /// The first lines of a proof.
 #[derive(Drop)]

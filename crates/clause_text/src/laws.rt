@@ -7,9 +7,9 @@ ghost use Rattle.clause_text.specs.Lines.{IsLine, line_of, line_text};
 ghost use Rattle.clause_text.specs.declared.head.Head.{Head};
 ghost use Rattle.std.specs.List.{AllByRecursion};
 ghost use Rattle.std.specs.Prelude.{◌≡◌, ◌++◌, [], Err, List, ℕ};
-ghost use Rattle.text_words.specs.Places.{IsRefusedAt};
-ghost use Rattle.text_words.specs.Reading.{done, Token};
-ghost use Rattle.text_words.specs.Tokens.{spelled, tokens};
+ghost use Rattle.clause_words.specs.Places.{IsRefusedAt};
+ghost use Rattle.clause_words.specs.Reading.{done, Token};
+ghost use Rattle.clause_words.specs.Tokens.{spelled, tokens};
 
 /// A text is that of one proof.
 pub fn one_proof_law()

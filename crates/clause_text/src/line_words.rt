@@ -5,20 +5,20 @@ ghost use Rattle.clause_text.specs.Literals.{factor_of, literal_of};
 ghost use Rattle.clause_text.specs.Shapes.{by};
 ghost use Rattle.clause_text.specs.Words.{word_of};
 ghost use Rattle.std.specs.Prelude.{◌≡◌, ◌≤◌, length, List, ℕ, Option, IfOk};
-ghost use Rattle.text_words.specs.Numbers.{index_of, integer_of};
-ghost use Rattle.text_words.specs.Reading.{field, fields, fields_to, Gives, unless, word_as};
-ghost use Rattle.text_words.specs.Terms.{term_of};
-ghost use Rattle.text_words.specs.Tokens.{tokens};
+ghost use Rattle.clause_words.specs.Numbers.{index_of, integer_of};
+ghost use Rattle.clause_words.specs.Reading.{field, fields, fields_to, Gives, unless, word_as};
+ghost use Rattle.clause_words.specs.Terms.{term_of};
+ghost use Rattle.clause_words.specs.Tokens.{tokens};
 
 use crate::charge::{Charge, charge_word};
 use crate::line_word::{LineWord, line_word};
 use crate::literals::{factor, literal};
 use clause_proof::{Factor, Literal};
+use clause_words::{blank_first, index, integer, joint, split_word, term};
 use linear_term::{Memory, Term};
 use proof_tokens::Refusal;
 use sqlite_items::Items;
 use std::alloc::Global;
-use text_words::{blank_first, index, integer, joint, split_word, term};
 
 /// What one word says.
 pub(crate) trait Word: Drop {
@@ -31,7 +31,7 @@ pub(crate) trait Word: Drop {
 }
 
 impl Word for u32 {
-    ghost use Rattle.text_words.specs.Numbers.{index_of};
+    ghost use Rattle.clause_words.specs.Numbers.{index_of};
 
     ghost reading = { index_of };
 
@@ -41,7 +41,7 @@ impl Word for u32 {
 }
 
 impl Word for i128 {
-    ghost use Rattle.text_words.specs.Numbers.{integer_of};
+    ghost use Rattle.clause_words.specs.Numbers.{integer_of};
 
     ghost reading = { integer_of };
 
@@ -51,7 +51,7 @@ impl Word for i128 {
 }
 
 impl Word for Term {
-    ghost use Rattle.text_words.specs.Terms.{term_of};
+    ghost use Rattle.clause_words.specs.Terms.{term_of};
 
     ghost reading = { term_of };
 
@@ -114,7 +114,7 @@ fn literal_or_by(word: &[u8]) -> Option<Option<Literal>>
 impl Word for Option<Literal> {
     ghost use Rattle.clause_text.specs.Literals.{literal_of};
     ghost use Rattle.clause_text.specs.Shapes.{by};
-    ghost use Rattle.text_words.specs.Reading.{unless};
+    ghost use Rattle.clause_words.specs.Reading.{unless};
 
     ghost reading = { unless by literal_of };
 
@@ -139,7 +139,7 @@ pub(crate) fn word_as<W: Word>(alloc: Global, text: &[u8]) -> Result<(W, &[u8]),
 }
 
 /// The value of the word behind a blank, and the text behind it.
-#[tactic(auto, unfolding(text_words::specs::Reading::field))]
+#[tactic(auto, unfolding(clause_words::specs::Reading::field))]
 pub(crate) fn field<W: Word>(alloc: Global, text: &[u8]) -> Result<(W, &[u8]), Refusal>
     ensures { Gives (λ x. (x.0, tokens x.1.now)) result (field (W.reading) (tokens text.now)) }
 {

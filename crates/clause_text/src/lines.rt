@@ -4,15 +4,15 @@ ghost use Rattle.clause_proof.specs.declared.line.Line.{Line};
 ghost use Rattle.clause_text.specs.Lines.{IsLine, line_behind, line_of, line_text, RefusesLine};
 ghost use Rattle.clause_text.specs.declared.line_word.LineWord.TheVariants as w;
 ghost use Rattle.std.specs.Prelude.{◌≡◌, ◌++◌, List, ℕ, IfErr, IfOk};
-ghost use Rattle.text_words.specs.Reading.{done, Gives};
-ghost use Rattle.text_words.specs.Tokens.{spelled, tokens};
+ghost use Rattle.clause_words.specs.Reading.{done, Gives};
+ghost use Rattle.clause_words.specs.Tokens.{spelled, tokens};
 
 use crate::line_word::LineWord;
 use crate::line_words::{clause, field, fields, word_as};
 use clause_proof::Line;
+use clause_words::feed_first;
 use proof_tokens::Refusal;
 use std::alloc::Global;
-use text_words::feed_first;
 
 fn open(alloc: Global, text: &[u8]) -> Result<(Line, &[u8]), Refusal>
     ensures { Gives (λ x. (x.0, tokens x.1.now)) result (line_behind w.Open (tokens text.now)) }

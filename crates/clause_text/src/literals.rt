@@ -3,12 +3,12 @@
 ghost use Rattle.clause_text.specs.Literals.{factor_of, factor_text, literal_of, literal_text};
 ghost use Rattle.std.specs.List.{prefix_len};
 ghost use Rattle.std.specs.Prelude.{◌≡◌, ◌≤◌, ◌++◌, length, OnOk};
-ghost use Rattle.text_words.specs.Terms.{no_star};
+ghost use Rattle.clause_words.specs.Terms.{no_star};
 
 use clause_proof::{Factor, Literal};
+use clause_words::{index, integer, put_integer, put_number};
 use linear_term::Memory;
 use std::alloc::Global;
-use text_words::{index, integer, put_integer, put_number};
 
 /// The literal that the word is.
 #[tactic(auto, unfolding(crate::specs::Literals::literal_of))]

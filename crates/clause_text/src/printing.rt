@@ -7,17 +7,17 @@ ghost use Rattle.clause_text.specs.Shapes.{by};
 ghost use Rattle.clause_text.specs.Words.{word_text};
 ghost use Rattle.std.specs.Fmt.{decimal};
 ghost use Rattle.std.specs.Prelude.{◌≡◌, ◌++◌, ◌∷◌, [], OnOk};
-ghost use Rattle.text_words.specs.Spelling.{integer_text};
-ghost use Rattle.text_words.specs.Terms.{term_text};
-ghost use Rattle.text_words.specs.Texts.{end_text, field_text, list_text, list_to_text};
-ghost use Rattle.text_words.specs.Tokens.{spelled};
+ghost use Rattle.clause_words.specs.Spelling.{integer_text};
+ghost use Rattle.clause_words.specs.Terms.{term_text};
+ghost use Rattle.clause_words.specs.Texts.{end_text, field_text, list_text, list_to_text};
+ghost use Rattle.clause_words.specs.Tokens.{spelled};
 
 use crate::line_word::{LineWord, word_text};
 use crate::literals::{put_factor, put_literal};
 use clause_proof::{Factor, Line, Literal};
+use clause_words::{put_integer, put_number, put_term};
 use linear_term::{Memory, Term};
 use std::alloc::Global;
-use text_words::{put_integer, put_number, put_term};
 
 /// Puts a number behind a blank.
 #[tactic(auto, using(crate::proofs::Written::texts))]
@@ -149,7 +149,13 @@ fn apply(alloc: Global, function: u32, args: &[Term], out: &mut Vec<u8>) -> Resu
 }
 
 #[tactic(auto, using(crate::proofs::Written::texts))]
-fn read(alloc: Global, variable: u32, applications: &[u32], made: Literal, out: &mut Vec<u8>) -> Result<(), Memory>
+fn read(
+    alloc: Global,
+    variable: u32,
+    applications: &[u32],
+    made: Literal,
+    out: &mut Vec<u8>,
+) -> Result<(), Memory>
     ensures { OnOk result (out.new.items ≡ out.old.items ++ spelled (line_text (l.Read variable applications.now made))) }
 {
     word(LineWord::Read, out)?;
@@ -159,7 +165,13 @@ fn read(alloc: Global, variable: u32, applications: &[u32], made: Literal, out: 
 }
 
 #[tactic(auto, using(crate::proofs::Written::texts))]
-fn instance(alloc: Global, variable: u32, args: &[Term], made: Literal, out: &mut Vec<u8>) -> Result<(), Memory>
+fn instance(
+    alloc: Global,
+    variable: u32,
+    args: &[Term],
+    made: Literal,
+    out: &mut Vec<u8>,
+) -> Result<(), Memory>
     ensures { OnOk result (out.new.items ≡ out.old.items ++ spelled (line_text (l.Instance variable args.now made))) }
 {
     word(LineWord::Instance, out)?;
@@ -196,7 +208,13 @@ fn predicate(alloc: Global, name: u32, args: &[Term], out: &mut Vec<u8>) -> Resu
 }
 
 #[tactic(auto, using(crate::proofs::Written::texts))]
-fn split(alloc: Global, variable: u32, above: Literal, below: Literal, out: &mut Vec<u8>) -> Result<(), Memory>
+fn split(
+    alloc: Global,
+    variable: u32,
+    above: Literal,
+    below: Literal,
+    out: &mut Vec<u8>,
+) -> Result<(), Memory>
     ensures { OnOk result (out.new.items ≡ out.old.items ++ spelled (line_text (l.Split variable above below))) }
 {
     word(LineWord::Split, out)?;
@@ -215,7 +233,14 @@ fn sum(alloc: Global, xs: &[Factor], out: &mut Vec<u8>) -> Result<(), Memory>
 }
 
 #[tactic(auto, using(crate::proofs::Written::texts))]
-fn pair(alloc: Global, first: u32, second: u32, equations: &[Literal], made: Literal, out: &mut Vec<u8>) -> Result<(), Memory>
+fn pair(
+    alloc: Global,
+    first: u32,
+    second: u32,
+    equations: &[Literal],
+    made: Literal,
+    out: &mut Vec<u8>,
+) -> Result<(), Memory>
     ensures { OnOk result (out.new.items ≡ out.old.items ++ spelled (line_text (l.Pair first second equations.now made))) }
 {
     word(LineWord::Pair, out)?;
@@ -226,7 +251,13 @@ fn pair(alloc: Global, first: u32, second: u32, equations: &[Literal], made: Lit
 }
 
 #[tactic(auto, using(crate::proofs::Written::texts))]
-fn predicate_pair(alloc: Global, first: u32, second: u32, equations: &[Literal], out: &mut Vec<u8>) -> Result<(), Memory>
+fn predicate_pair(
+    alloc: Global,
+    first: u32,
+    second: u32,
+    equations: &[Literal],
+    out: &mut Vec<u8>,
+) -> Result<(), Memory>
     ensures { OnOk result (out.new.items ≡ out.old.items ++ spelled (line_text (l.PredicatePair first second equations.now))) }
 {
     word(LineWord::PredPair, out)?;
@@ -236,7 +267,14 @@ fn predicate_pair(alloc: Global, first: u32, second: u32, equations: &[Literal],
 }
 
 #[tactic(auto, using(crate::proofs::Written::texts))]
-fn divide(alloc: Global, divisor: i128, t: &Term, least: Literal, most: Literal, out: &mut Vec<u8>) -> Result<(), Memory>
+fn divide(
+    alloc: Global,
+    divisor: i128,
+    t: &Term,
+    least: Literal,
+    most: Literal,
+    out: &mut Vec<u8>,
+) -> Result<(), Memory>
     ensures { OnOk result (out.new.items ≡ out.old.items ++ spelled (line_text (l.Divide divisor t.now least most))) }
 {
     word(LineWord::Divide, out)?;
@@ -248,7 +286,12 @@ fn divide(alloc: Global, divisor: i128, t: &Term, least: Literal, most: Literal,
 }
 
 #[tactic(auto, using(crate::proofs::Written::by_written))]
-fn resolve(alloc: Global, clause: &[Literal], hints: &[u32], out: &mut Vec<u8>) -> Result<(), Memory>
+fn resolve(
+    alloc: Global,
+    clause: &[Literal],
+    hints: &[u32],
+    out: &mut Vec<u8>,
+) -> Result<(), Memory>
     ensures { OnOk result (out.new.items ≡ out.old.items ++ spelled (line_text (l.Resolve clause.now hints.now))) }
 {
     word(LineWord::Resolve, out)?;

@@ -23,7 +23,12 @@ impl Instances {
 }
 
 impl Advisor for Instances {
-    fn register(&mut self, words: &mut Vocabulary, variable: u32, fuel: &mut Fuel) -> Result<(), Fault> {
+    fn register(
+        &mut self,
+        words: &mut Vocabulary,
+        variable: u32,
+        fuel: &mut Fuel,
+    ) -> Result<(), Fault> {
         self.quantifiers.register(words, variable, fuel)
     }
 
@@ -34,10 +39,15 @@ impl Advisor for Instances {
         fuel: &mut Fuel,
         out: &mut Vec<Instance>,
     ) -> Result<Advice, Fault> {
-        Ok(match self.quantifiers.round(words, present, &mut self.decider, fuel, out)? {
-            Outcome::Again => Advice::Again,
-            Outcome::Model => Advice::Model,
-            Outcome::Stuck => Advice::Stuck,
-        })
+        Ok(
+            match self
+                .quantifiers
+                .round(words, present, &mut self.decider, fuel, out)?
+            {
+                Outcome::Again => Advice::Again,
+                Outcome::Model => Advice::Model,
+                Outcome::Stuck => Advice::Stuck,
+            },
+        )
     }
 }

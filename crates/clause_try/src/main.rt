@@ -3,13 +3,13 @@
 
 mod instances;
 
+use base_budget::Purse;
 use clause_checker::check;
 use clause_root::prepare;
 use clause_search::{Answer, Search};
 use formula::Core;
-use problem_file::{encode_problem, read_problem};
-use purse::Purse;
 use instances::Instances;
+use pri_problem::{encode_problem, read_problem};
 use std::env;
 use std::fs::File;
 use std::io::Read;

@@ -1,25 +1,25 @@
 -- From the open tree of an encoded problem the walk is ready to start, and what it finds is a counterexample.
 use Rattle.std.proofs.Common.{◌≡◌, ◌≤◌, ◌+◌, ℕ, zero, suc, ℤ, false, List, [], ◌∷◌, ◌++◌, take, drop, length, Option, Some, refl, sym, ◌∙◌, ap, subst, length-append, arith}
 use Rattle.std.proofs.lemmas.List.Elements.{recursion_from_All}
-use Rattle.typed_formula.specs.Sorts.{AreValuesOf, IsSortRanged}
+use Rattle.form_typed.specs.Sorts.{AreValuesOf, IsSortRanged}
 use Rattle.sequent.proofs.Forming.{start_formed}
-use Rattle.node_steps.proofs.Keeping.{start_within}
+use Rattle.tree_branch.proofs.Keeping.{start_within}
 use Rattle.proof_tree.specs.Proof.{Proof}
 use Rattle.proof_tree.specs.Proves.{start}
 use Rattle.pri_typing.specs.declared.problem.Problem.{Problem}
 use Rattle.pri_typing.specs.WellFormed.{IsWellFormed}
-use Rattle.encoding.specs.Problems.{is_large, problem_root}
-use Rattle.encoding.proofs.Conditions.{values_length}
-use Rattle.encoding.proofs.Problems.{root_over}
-use Rattle.problem_file.proofs.Reduced.{problem_reduced}
-use Rattle.problem_file.proofs.Sizes.{within_limits}
-use Rattle.open_trees.specs.Levels.{IsWithinLevels}
-use Rattle.open_trees.specs.Open.{IsSaturatedTree}
-use Rattle.open_trees.specs.Walk.{Stop, walk}
-use Rattle.open_trees.proofs.Refuting.{walk_refutes}
-use Rattle.open_walk.specs.Ready.{IsWalkReady}
-use Rattle.refuted_runs.specs.Refuting.{IsCounterexample, IsExplained, found_at}
-use Rattle.refuted_runs.proofs.Problems.{explained}
+use Rattle.form_encoding.specs.Problems.{is_large, problem_root}
+use Rattle.form_encoding.proofs.Conditions.{values_length}
+use Rattle.form_encoding.proofs.Problems.{root_over}
+use Rattle.pri_problem.proofs.Reduced.{problem_reduced}
+use Rattle.pri_problem.proofs.Sizes.{within_limits}
+use Rattle.model_trees.specs.Levels.{IsWithinLevels}
+use Rattle.model_trees.specs.Open.{IsSaturatedTree}
+use Rattle.model_trees.specs.Walk.{Stop, walk}
+use Rattle.model_trees.proofs.Refuting.{walk_refutes}
+use Rattle.countermodel.specs.Ready.{IsWalkReady}
+use Rattle.model_runs.specs.Refuting.{IsCounterexample, IsExplained, found_at}
+use Rattle.model_runs.proofs.Problems.{explained}
 use Rattle.countermodel.specs.Probes.{probe_values}
 use Rattle.countermodel.proofs.Nearest.{probes_are, probes_ranged, typed_probes}
 

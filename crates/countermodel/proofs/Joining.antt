@@ -1,6 +1,6 @@
 -- Values of types, one after the other.
 use Rattle.std.proofs.Common.{◌≡◌, ℤ, List, [], ◌∷◌, ◌++◌, length, Option, Some, None, refl, sym, ◌∙◌, ap, append_assoc, append-nil}
-use Rattle.typed_formula.specs.declared.typed.Sort.{Sort}
+use Rattle.form_typed.specs.declared.typed.Sort.{Sort}
 use Rattle.countermodel.specs.Probes.{probe_value, probe_values, with_value}
 
 -- these values, and those that are found behind them

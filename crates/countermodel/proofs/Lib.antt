@@ -1,3 +1,13 @@
+pub mod Asking
+pub mod Below
+pub mod Beneath
+pub mod Computed
+pub mod Forgetting
+pub mod Found
+pub mod Inserting
+pub mod Nodes
+pub mod Reading
+pub mod Summing
 pub mod Explained
 pub mod Joining
 pub mod Nearest

@@ -3,9 +3,9 @@ use Rattle.std.proofs.Common.{◌≡◌, ◌⊎◌, inl, inr, ℤ, pos, ◌≤�
 use Rattle.std.specs.List.{AllByRecursion}
 use Rattle.std.proofs.lemmas.Int.{ints}
 use Rattle.linear_term.specs.Range.{InRange}
-use Rattle.typed_formula.specs.Sorts.{AreValuesOf, IsSortRanged, IsValueOf}
-use Rattle.typed_formula.specs.declared.typed.Sort.{Sort}
-use Rattle.typed_formula.specs.declared.typed.Sort.TheVariants.{Int, Nat, Range}
+use Rattle.form_typed.specs.Sorts.{AreValuesOf, IsSortRanged, IsValueOf}
+use Rattle.form_typed.specs.declared.typed.Sort.{Sort}
+use Rattle.form_typed.specs.declared.typed.Sort.TheVariants.{Int, Nat, Range}
 use Rattle.countermodel.specs.Probes.{AreProbes, IsProbe, nearest, probe_value, probe_values, with_value}
 
 -- ---- one type

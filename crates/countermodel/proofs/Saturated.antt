@@ -1,5 +1,5 @@
 -- What is proved of runs that end saturated, for those who explain them.
-pub use Rattle.refuted_runs.proofs.Encoded.{root_somes}
-pub use Rattle.refuted_runs.proofs.Ended.{saturated_says}
-pub use Rattle.refuted_runs.proofs.Problems.{explained, refuted}
-pub use Rattle.refuted_runs.proofs.Universal.{one_round_ends}
+pub use Rattle.model_runs.proofs.Encoded.{root_somes}
+pub use Rattle.model_runs.proofs.Ended.{saturated_says}
+pub use Rattle.model_runs.proofs.Problems.{explained, refuted}
+pub use Rattle.model_runs.proofs.Universal.{one_round_ends}

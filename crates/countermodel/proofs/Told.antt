@@ -1,12 +1,12 @@
 -- What the calls that make a counterexample did, as their result tells it.
 use Rattle.std.proofs.Common.{◌≡◌, ◌≤◌, ◌+◌, ℕ, ℤ, List, length, Option, Some, None, Result, Ok, Err, IfOk, IsErrAnd, sym, ◌∙◌, subst}
-use Rattle.typed_formula.specs.declared.world.Table.{Table}
-use Rattle.purse.specs.declared.fault.StepFault.{StepFault}
-use Rattle.purse.specs.declared.fault.StepFault.TheVariants.{Memory}
-use Rattle.purse.specs.Trace.{Funds, just, next}
-use Rattle.purse.specs.Work.{Worked}
-use Rattle.purse.proofs.Charging.{work_err, work_just, work_memory, work_ok, worked_value}
-use Rattle.purse.proofs.Following.{follow_err, follow_free, follow_ok, followed_value}
+use Rattle.form_typed.specs.declared.world.Table.{Table}
+use Rattle.base_budget.specs.declared.fault.StepFault.{StepFault}
+use Rattle.base_budget.specs.declared.fault.StepFault.TheVariants.{Memory}
+use Rattle.base_budget.specs.Trace.{Funds, just, next}
+use Rattle.base_budget.specs.Work.{Worked}
+use Rattle.base_budget.proofs.Charging.{work_err, work_just, work_memory, work_ok, worked_value}
+use Rattle.base_budget.proofs.Following.{follow_err, follow_free, follow_ok, followed_value}
 use Rattle.formula.specs.Tree.{form}
 use Rattle.sequent.specs.declared.member.Member as coded
 use Rattle.sequent.specs.Sequent.{Sequent}
@@ -15,18 +15,18 @@ use Rattle.proof_tree.specs.Proof.{Proof}
 use Rattle.proof_tree.specs.Proves.{start}
 use Rattle.pri_typing.specs.declared.problem.Problem.{Problem}
 use Rattle.pri_typing.specs.WellFormed.{IsWellFormed}
-use Rattle.encoding.specs.Problems.{problem_root}
+use Rattle.form_encoding.specs.Problems.{problem_root}
 use Rattle.function_encoding.specs.declared.answer.Encoded.{Encoded}
-use Rattle.problem_file.specs.Encoded.{IsEncoded}
-use Rattle.open_trees.specs.Levels.{IsWithinLevels}
-use Rattle.open_trees.specs.Open.{IsSaturatedTree}
-use Rattle.open_trees.specs.Rows.{table_at}
-use Rattle.open_trees.specs.Walk.{Stop, walk}
-use Rattle.open_walk.specs.declared.walking.Stop as code
-use Rattle.open_walk.specs.Doing.{DoesWork}
-use Rattle.open_walk.specs.Ready.{IsWalkReady}
-use Rattle.open_walk.specs.Stopped.{stop_of, stopped}
-use Rattle.refuted_runs.specs.Refuting.{IsCounterexample, found_at, universals_of}
+use Rattle.pri_problem.specs.Encoded.{IsEncoded}
+use Rattle.model_trees.specs.Levels.{IsWithinLevels}
+use Rattle.model_trees.specs.Open.{IsSaturatedTree}
+use Rattle.model_trees.specs.Rows.{table_at}
+use Rattle.model_trees.specs.Walk.{Stop, walk}
+use Rattle.countermodel.specs.declared.walking.Stop as code
+use Rattle.countermodel.specs.Doing.{DoesWork}
+use Rattle.countermodel.specs.Ready.{IsWalkReady}
+use Rattle.countermodel.specs.Stopped.{stop_of, stopped}
+use Rattle.model_runs.specs.Refuting.{IsCounterexample, found_at, universals_of}
 use Rattle.countermodel.specs.declared.explaining.Counterexample.{Counterexample}
 use Rattle.countermodel.specs.Explaining.{at_leaf, explained_as, explaining}
 use Rattle.countermodel.specs.Probes.{probe_values}

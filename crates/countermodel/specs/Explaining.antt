@@ -1,20 +1,20 @@
 -- The work of finding a counterexample.
 use Rattle.std.specs.Prelude.{ℤ, List, length, Option, Some, Result, Ok, Err}
-use Rattle.typed_formula.specs.declared.world.Table.{Table}
-use Rattle.purse.specs.declared.fault.StepFault.{StepFault}
-use Rattle.purse.specs.Trace.{Traced, just, next}
+use Rattle.form_typed.specs.declared.world.Table.{Table}
+use Rattle.base_budget.specs.declared.fault.StepFault.{StepFault}
+use Rattle.base_budget.specs.Trace.{Traced, just, next}
 use Rattle.proof_tree.specs.Proof.{Proof}
 use Rattle.proof_tree.specs.Proves.{start}
 use Rattle.proof_tree.specs.Walk.{on_some}
 use Rattle.pri_typing.specs.declared.problem.Problem.{Problem}
-use Rattle.encoding.specs.Problems.{problem_root}
-use Rattle.open_trees.specs.Rows.{table_at}
-use Rattle.open_trees.specs.Walk.{Stop, walk}
+use Rattle.form_encoding.specs.Problems.{problem_root}
+use Rattle.model_trees.specs.Rows.{table_at}
+use Rattle.model_trees.specs.Walk.{Stop, walk}
 use Rattle.countermodel.specs.declared.explaining.Counterexample.{Counterexample}
 -- the words of what `explain` answers, and of the runs that it explains
-pub use Rattle.open_walk.specs.Doing.{DoesWork}
-pub use Rattle.refuted_runs.specs.Ends.{run_end}
-pub use Rattle.refuted_runs.specs.Refuting.{IsCounterexample, found_at, universals_of}
+pub use Rattle.countermodel.specs.Doing.{DoesWork}
+pub use Rattle.model_runs.specs.Ends.{run_end}
+pub use Rattle.model_runs.specs.Refuting.{IsCounterexample, found_at, universals_of}
 
 -- what there is at a leaf: its table, and the values of the universal constants
 abbrev pub at_leaf : Problem → Stop → Traced (Option (Table × List ℤ))

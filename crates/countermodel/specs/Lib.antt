@@ -1,2 +1,5 @@
+pub mod Doing
+pub mod Ready
+pub mod Stopped
 pub mod Explaining
 pub mod Probes

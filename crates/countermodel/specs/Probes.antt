@@ -1,8 +1,8 @@
 -- The values of the existential constants with which a counterexample is sought.
 use Rattle.std.specs.Prelude.{◌≡◌, ◌≤◌, ℤ, pos, cond, int_lt, unsigned_abs, List, [], ◌∷◌, Option, Some, None}
-use Rattle.typed_formula.specs.Sorts.{IsValueOf}
-use Rattle.typed_formula.specs.declared.typed.Sort.{Sort}
-use Rattle.typed_formula.specs.declared.typed.Sort.TheVariants.{Int, Nat, Range}
+use Rattle.form_typed.specs.Sorts.{IsValueOf}
+use Rattle.form_typed.specs.declared.typed.Sort.{Sort}
+use Rattle.form_typed.specs.declared.typed.Sort.TheVariants.{Int, Nat, Range}
 
 -- of the integers from a to b, where there is one, the nearest to 0
 abbrev pub nearest : ℤ → ℤ → ℤ

@@ -2,32 +2,33 @@
 
 ghost use Rattle.countermodel.specs.Explaining.{at_leaf, explained_as, explaining};
 ghost use Rattle.countermodel.specs.Probes.{probe_values};
-ghost use Rattle.encoding.specs.Problems.{problem_root};
-ghost use Rattle.limits.specs.Limits.{branch_limit};
+ghost use Rattle.form_encoding.specs.Problems.{problem_root};
+ghost use Rattle.base_limits.specs.Limits.{branch_limit};
 ghost use Rattle.linear_term.specs.Range.{InRange};
-ghost use Rattle.open_trees.specs.Levels.{IsWithinLevels};
-ghost use Rattle.open_trees.specs.Open.{IsSaturatedTree};
-ghost use Rattle.open_walk.specs.Doing.{DoesWork};
-ghost use Rattle.open_walk.specs.Stopped.{stop_of};
+ghost use Rattle.model_trees.specs.Levels.{IsWithinLevels};
+ghost use Rattle.model_trees.specs.Open.{IsSaturatedTree};
+ghost use Rattle.countermodel.specs.Doing.{DoesWork};
+ghost use Rattle.countermodel.specs.Stopped.{stop_of};
 ghost use Rattle.pri_typing.specs.WellFormed.{IsWellFormed};
-ghost use Rattle.problem_file.specs.Encoded.{IsEncoded};
+ghost use Rattle.pri_problem.specs.Encoded.{IsEncoded};
 ghost use Rattle.proof_tree.specs.Views.{proof_of};
-ghost use Rattle.purse.specs.Work.{Worked};
-ghost use Rattle.refuted_runs.specs.Refuting.{IsCounterexample, universals_of};
+ghost use Rattle.base_budget.specs.Work.{Worked};
+ghost use Rattle.model_runs.specs.Refuting.{IsCounterexample, universals_of};
 ghost use Rattle.std.specs.List.{AllByRecursion};
 ghost use Rattle.std.specs.Prelude.{◌≡◌, ◌<◌, ◌≤◌, ◌^◌, ◌+◌, IfOk, length, Some};
 
+use crate::rows::table_at;
+use crate::walking::{Stop, walk};
+use base_budget::{Purse, StepFault};
+use base_limits::BRANCH_LIMIT;
+use form_typed::Table;
 use function_encoding::Encoded;
-use limits::BRANCH_LIMIT;
 use linear_term::Memory;
-use open_walk::{Stop, table_at, walk};
 use pri_typing::Problem;
 use proof_tree::Tree;
-use purse::{Purse, StepFault};
 use sequent::start;
 use sqlite_items::Items;
 use std::alloc::Global;
-use typed_formula::Table;
 
 /// A finite interpretation, and values of the universal constants, at which a problem's formula is false.
 #[derive(Debug, Drop)]

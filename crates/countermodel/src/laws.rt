@@ -4,8 +4,8 @@ ghost use Rattle.countermodel.specs.Probes.{AreProbes, IsProbe, probe_value, pro
 ghost use Rattle.linear_term.specs.Range.{InRange};
 ghost use Rattle.std.specs.List.{AllByRecursion};
 ghost use Rattle.std.specs.Prelude.{◌≡◌, All, List, None, Some, ℤ};
-ghost use Rattle.typed_formula.specs.declared.typed.Sort.{Sort};
-ghost use Rattle.typed_formula.specs.Sorts.{AreValuesOf, IsSortRanged, IsValueOf};
+ghost use Rattle.form_typed.specs.declared.typed.Sort.{Sort};
+ghost use Rattle.form_typed.specs.Sorts.{AreValuesOf, IsSortRanged, IsValueOf};
 
 /// The probe value of a type is the one of its values that has the least absolute value. A type without a value has none, and no
 /// other one; so there are no probe values exactly where no integers are values of the types. They are coefficients where the

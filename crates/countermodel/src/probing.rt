@@ -3,11 +3,11 @@
 ghost use Rattle.countermodel.specs.Probes.{nearest, probe_value, probe_values};
 ghost use Rattle.std.specs.Prelude.{◌≡◌, IfOk};
 
+use form_typed::Sort;
 use linear_term::Memory;
 use pri_typing::Problem;
 use sqlite_items::Items;
 use std::alloc::Global;
-use typed_formula::Sort;
 
 /// Of the integers from a to b, where there is one, the nearest to 0.
 fn nearest(a: i128, b: i128) -> i128

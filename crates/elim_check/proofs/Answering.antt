@@ -1,11 +1,11 @@
 -- An answer about a log is the only one; the log of a run is accepted.
 use Rattle.std.proofs.Common.{◌≡◌, ◌+◌, ◌≤◌, ℕ, suc, true, List, [], length, take, Option, Some, Result, Ok, Err, refl, sym, ◌∙◌, ap, subst, arith}
 use Rattle.std.proofs.lemmas.List.{append-nil, length-map, length-take-le}
-use Rattle.purse.specs.declared.fault.StepFault.TheVariants.{Steps, Overflow}
-use Rattle.purse.specs.declared.log.Entry.{Entry}
-use Rattle.purse.specs.Runs.{notes, total, raw_stay, RunsThrough}
-use Rattle.purse.specs.Trace.{Funds, At, at, entry, End, done, refused, out_of_range, cut, Traced, just, next}
-use Rattle.purse.proofs.Meaning.{passes_where_runs}
+use Rattle.base_budget.specs.declared.fault.StepFault.TheVariants.{Steps, Overflow}
+use Rattle.base_budget.specs.declared.log.Entry.{Entry}
+use Rattle.base_budget.specs.Runs.{notes, total, raw_stay, RunsThrough}
+use Rattle.base_budget.specs.Trace.{Funds, At, at, entry, End, done, refused, out_of_range, cut, Traced, just, next}
+use Rattle.base_budget.proofs.Meaning.{passes_where_runs}
 use Rattle.clause_set.specs.declared.literal.Literal.{Literal}
 use Rattle.formula.specs.Form.{Form}
 use Rattle.formula.specs.Sizes.{depth}

@@ -1,11 +1,11 @@
 -- Calls that read a log, joined.
 use Rattle.std.proofs.Common.{◌≡◌, ◌≤◌, ℕ, List, length, drop, Some, None, Result, Ok, Err, IsErrAnd, refl, sym, subst}
-use Rattle.purse.specs.declared.fault.StepFault.{StepFault}
-use Rattle.purse.specs.declared.fault.StepFault.TheVariants.{Memory}
-use Rattle.purse.specs.declared.log.Entry.{Entry}
-use Rattle.purse.specs.Trace.{Funds, at, Traced, just}
-use Rattle.purse.specs.Work.{ChargedAt, Charged}
-use Rattle.purse.proofs.Charging.{then_ok, then_fault, then_just, unnoted, no_memory}
+use Rattle.base_budget.specs.declared.fault.StepFault.{StepFault}
+use Rattle.base_budget.specs.declared.fault.StepFault.TheVariants.{Memory}
+use Rattle.base_budget.specs.declared.log.Entry.{Entry}
+use Rattle.base_budget.specs.Trace.{Funds, at, Traced, just}
+use Rattle.base_budget.specs.Work.{ChargedAt, Charged}
+use Rattle.base_budget.proofs.Charging.{then_ok, then_fault, then_just, unnoted, no_memory}
 use Rattle.elim_laws.specs.Logs.{rest, Reader, reads_none, go_on, read_next}
 use Rattle.elim_check.specs.declared.fault.Stop.{Stop}
 use Rattle.elim_check.specs.declared.fault.Stop.TheVariants as stop

@@ -1,9 +1,9 @@
 -- The rules by their entries.
 use Rattle.std.proofs.Common.{◌≡◌, ℕ, true, List, Result}
-use Rattle.purse.specs.declared.fault.StepFault.{StepFault}
-use Rattle.purse.specs.declared.log.Entry.TheVariants.{OneSided, Exact, Dark}
-use Rattle.purse.specs.Trace.{Funds}
-use Rattle.purse.specs.Work.{Charged}
+use Rattle.base_budget.specs.declared.fault.StepFault.{StepFault}
+use Rattle.base_budget.specs.declared.log.Entry.TheVariants.{OneSided, Exact, Dark}
+use Rattle.base_budget.specs.Trace.{Funds}
+use Rattle.base_budget.specs.Work.{Charged}
 use Rattle.clause_set.specs.declared.literal.Literal.{Literal}
 use Rattle.clause_set.specs.Rules.{applies, rule, is_two_sided}
 use Rattle.clause_set.specs.Shadows.{one_sided, exact, dark}

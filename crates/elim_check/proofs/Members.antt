@@ -1,10 +1,10 @@
 -- The loops over the members of a conjunction and of a disjunction.
 use Rattle.std.proofs.Common.{◌≡◌, ℕ, List, [], ◌∷◌, Result, Ok, Err, IsErrAnd, refl, subst}
-use Rattle.purse.specs.declared.fault.StepFault.{StepFault}
-use Rattle.purse.specs.declared.log.Entry.{Entry}
-use Rattle.purse.specs.Trace.{Funds, just}
-use Rattle.purse.specs.Work.{Charged}
-use Rattle.purse.proofs.Charging.{then_just}
+use Rattle.base_budget.specs.declared.fault.StepFault.{StepFault}
+use Rattle.base_budget.specs.declared.log.Entry.{Entry}
+use Rattle.base_budget.specs.Trace.{Funds, just}
+use Rattle.base_budget.specs.Work.{Charged}
+use Rattle.base_budget.proofs.Charging.{then_just}
 use Rattle.clause_set.specs.declared.literal.Literal.{Literal}
 use Rattle.clause_set.specs.Dnfs.{conjunction, disjunction}
 use Rattle.formula.specs.declared.calculus.Core.{Core}

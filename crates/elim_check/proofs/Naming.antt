@@ -1,8 +1,8 @@
 -- Names out of a disjunction, one after another.
 use Rattle.std.proofs.Common.{◌≡◌, ◌<◌, ◌-◌, ℕ, zero, suc, List, Result, Ok, Err, IsErrAnd, arith, refl, sym, subst}
-use Rattle.purse.specs.declared.log.Entry.{Entry}
-use Rattle.purse.specs.Trace.{Funds, just}
-use Rattle.purse.proofs.Charging.{then_just}
+use Rattle.base_budget.specs.declared.log.Entry.{Entry}
+use Rattle.base_budget.specs.Trace.{Funds, just}
+use Rattle.base_budget.proofs.Charging.{then_just}
 use Rattle.clause_set.specs.declared.literal.Literal.{Literal}
 use Rattle.clause_set.specs.Dnfs.{tidying}
 use Rattle.elim_laws.specs.Logs.{Reader, reads_none, name_by_log, names_by_log}

@@ -3,13 +3,13 @@ use Rattle.std.proofs.Common.{◌≡◌, ◌≢◌, ◌<◌, ◌≤◌, ◌+◌,
 use Rattle.std.proofs.lemmas.Bool.{cond-true}
 use Rattle.std.proofs.lemmas.List.{take_more, map-append}
 use Rattle.std.specs.List.{list_any}
-use Rattle.purse.specs.declared.fault.StepFault.{StepFault}
-use Rattle.purse.specs.declared.fault.StepFault.TheVariants.{Memory}
-use Rattle.purse.specs.declared.log.Entry.{Entry}
-use Rattle.purse.specs.Trace.{Funds, entry, At, at, Traced, just, next, pay, note}
-use Rattle.purse.specs.Work.{ChargedAt, Charged}
-use Rattle.purse.proofs.Charging.{drop-item, drop_all, then_ok, then_fault, then_just, no_memory, unnoted, after_note}
-use Rattle.purse.proofs.Tracing.{next-assoc, next-same, next-just}
+use Rattle.base_budget.specs.declared.fault.StepFault.{StepFault}
+use Rattle.base_budget.specs.declared.fault.StepFault.TheVariants.{Memory}
+use Rattle.base_budget.specs.declared.log.Entry.{Entry}
+use Rattle.base_budget.specs.Trace.{Funds, entry, At, at, Traced, just, next, pay, note}
+use Rattle.base_budget.specs.Work.{ChargedAt, Charged}
+use Rattle.base_budget.proofs.Charging.{drop-item, drop_all, then_ok, then_fault, then_just, no_memory, unnoted, after_note}
+use Rattle.base_budget.proofs.Tracing.{next-assoc, next-same, next-just}
 use Rattle.clause_set.specs.declared.literal.Literal.{Literal}
 use Rattle.clause_set.specs.Names.{has}
 use Rattle.clause_set.specs.Rules.{applies, rule}

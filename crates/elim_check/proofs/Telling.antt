@@ -3,11 +3,11 @@ use Rattle.std.proofs.Common.{◌≡◌, ◌≢◌, ◌<◌, ℕ, zero, suc, Boo
 use Rattle.std.specs.Prelude.{IfOk}
 use Rattle.std.proofs.lemmas.Bool.Decides.{nat_tests}
 use Rattle.std.proofs.Math.ListN.{drop_of_length-le}
-use Rattle.purse.specs.declared.fault.StepFault.TheVariants.{Steps, Overflow, Memory}
-use Rattle.purse.specs.declared.log.Entry.{Entry}
-use Rattle.purse.specs.Trace.{Funds, at, just}
-use Rattle.purse.specs.Work.{ChargedAt}
-use Rattle.purse.proofs.Charging.{then_ok, then_fault, then_just, charged_value}
+use Rattle.base_budget.specs.declared.fault.StepFault.TheVariants.{Steps, Overflow, Memory}
+use Rattle.base_budget.specs.declared.log.Entry.{Entry}
+use Rattle.base_budget.specs.Trace.{Funds, at, just}
+use Rattle.base_budget.specs.Work.{ChargedAt}
+use Rattle.base_budget.proofs.Charging.{then_ok, then_fault, then_just, charged_value}
 use Rattle.elim_laws.specs.Logs.{rest, Reader, used_up, by_whole_log, Yields}
 use Rattle.elim_laws.proofs.Wholes.{whole_yields}
 use Rattle.elim_check.specs.declared.fault.LogFault.{LogFault}

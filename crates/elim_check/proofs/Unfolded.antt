@@ -1,8 +1,8 @@
 -- The elimination of a formula by a log, by those of its parts: the bound on the depth does not matter.
 use Rattle.std.proofs.Common.{◌≡◌, ◌<◌, ◌≤◌, ◌+◌, ℕ, zero, suc, List, [], ◌∷◌, drop, Option, Some, None, refl, sym, ◌∙◌, ap, subst, arith}
-use Rattle.purse.specs.Trace.{Traced, just, next, pay}
-use Rattle.purse.specs.declared.log.Entry.{Entry}
-use Rattle.purse.proofs.Tracing.{next-same}
+use Rattle.base_budget.specs.Trace.{Traced, just, next, pay}
+use Rattle.base_budget.specs.declared.log.Entry.{Entry}
+use Rattle.base_budget.proofs.Tracing.{next-same}
 use Rattle.clause_set.specs.declared.literal.Literal.{Literal}
 use Rattle.clause_set.specs.Dnfs.{conjunction, disjunction, negation, top}
 use Rattle.formula.specs.declared.calculus.Core.{Core}

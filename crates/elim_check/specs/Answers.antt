@@ -1,8 +1,8 @@
 -- What an answer about a log says, in words of the whole work.
 use Rattle.std.specs.Prelude.{◌≡◌, ◌+◌, ◌≤◌, true, List, Some, Result, Err}
-use Rattle.purse.specs.Runs.{total, raw_stay}
-use Rattle.purse.specs.Trace.{Funds, Traced}
-use Rattle.purse.specs.declared.log.Entry.{Entry}
+use Rattle.base_budget.specs.Runs.{total, raw_stay}
+use Rattle.base_budget.specs.Trace.{Funds, Traced}
+use Rattle.base_budget.specs.declared.log.Entry.{Entry}
 use Rattle.elim_laws.specs.Logs.{Reader, by_whole_log}
 use Rattle.elim_check.specs.declared.fault.LogFault.{LogFault}
 use Rattle.elim_check.specs.declared.fault.LogFault.TheVariants.{Range, Memory}

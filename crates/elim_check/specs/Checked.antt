@@ -1,10 +1,10 @@
 -- What a call that checks a whole log answers.
 use Rattle.std.specs.Prelude.{ℕ, ◌≤◌, cond, nat_eq, List, [], length, Option, Some, None, Result, Ok, Err}
-use Rattle.purse.specs.declared.fault.StepFault.{StepFault}
-use Rattle.purse.specs.declared.fault.StepFault.TheVariants.{Steps, Overflow, Memory}
-use Rattle.purse.specs.declared.log.Entry.{Entry}
-use Rattle.purse.specs.Trace.{Funds, at}
-use Rattle.purse.specs.Work.{ChargedAt}
+use Rattle.base_budget.specs.declared.fault.StepFault.{StepFault}
+use Rattle.base_budget.specs.declared.fault.StepFault.TheVariants.{Steps, Overflow, Memory}
+use Rattle.base_budget.specs.declared.log.Entry.{Entry}
+use Rattle.base_budget.specs.Trace.{Funds, at}
+use Rattle.base_budget.specs.Work.{ChargedAt}
 use Rattle.elim_laws.specs.Logs.{Reader, by_whole_log}
 use Rattle.elim_check.specs.declared.fault.LogFault.{LogFault}
 use Rattle.elim_check.specs.declared.fault.LogFault.TheVariants as log_fault

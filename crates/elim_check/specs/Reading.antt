@@ -1,9 +1,9 @@
 -- Elimination by a log, read from a place on.
 use Rattle.std.specs.Prelude.{ℕ, suc, ◌≤◌, List, length, map, take, drop, Option, Some, None, Result, Ok, Err}
-use Rattle.purse.specs.declared.fault.StepFault.{StepFault}
-use Rattle.purse.specs.declared.log.Entry.{Entry}
-use Rattle.purse.specs.Trace.{Funds, Mark, entry, at}
-use Rattle.purse.specs.Work.{ChargedAt}
+use Rattle.base_budget.specs.declared.fault.StepFault.{StepFault}
+use Rattle.base_budget.specs.declared.log.Entry.{Entry}
+use Rattle.base_budget.specs.Trace.{Funds, Mark, entry, at}
+use Rattle.base_budget.specs.Work.{ChargedAt}
 use Rattle.clause_set.specs.declared.literal.Literal.{Literal}
 use Rattle.formula.specs.Form.{Form}
 use Rattle.formula.specs.Sizes.{depth}

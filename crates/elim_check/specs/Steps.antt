@@ -1,8 +1,8 @@
 -- The steps of a replay: clauses without the name are passed, and the first one with it takes the rule of the next entry.
 use Rattle.std.specs.Prelude.{ℕ, Bool, true, cond, List, [], ◌∷◌, ◌++◌, Option, Some, None}
 use Rattle.std.specs.List.{list_any}
-use Rattle.purse.specs.declared.log.Entry.{Entry}
-use Rattle.purse.specs.Trace.{Traced, just, next, pay}
+use Rattle.base_budget.specs.declared.log.Entry.{Entry}
+use Rattle.base_budget.specs.Trace.{Traced, just, next, pay}
 use Rattle.clause_set.specs.declared.literal.Literal.{Literal}
 use Rattle.clause_set.specs.Names.{has}
 use Rattle.clause_set.specs.Rules.{applies, rule}

@@ -5,9 +5,9 @@ ghost use Rattle.clause_set.specs.Rules.{applies, has_unit, is_bounded, is_exact
 ghost use Rattle.std.specs.List.{list_all, list_any};
 ghost use Rattle.std.specs.Prelude.{◌≡◌, ◌||◌, not};
 
+use base_budget::Entry;
 use clause_set::Clause;
-use purse::Entry;
-use rule_code::{
+use elim_rules::{
     bounds_alone, has_divisibilities_at, has_equation_at, has_indivisibility_at, has_name,
     has_only_divisibility_at, has_unit, is_lower, is_upper,
 };

@@ -14,10 +14,10 @@ ghost use Rattle.std.specs.Prelude.{◌≡◌, ◌+◌, ◌-◌, ◌<◌, ◌≤
 use super::fault::{LogFault, Stop};
 use super::forms::form_by_log;
 use super::names::{every_value, some_value_kept, some_values};
+use base_budget::{ElimLog, Purse, StepFault};
 use clause_set::Dnf;
 use elim_laws::know_formed;
 use formula::Core;
-use purse::{ElimLog, Purse, StepFault};
 use std::alloc::Global;
 
 /// The answer of work that did the entries before the place, of so many: one that is left over is wrong.

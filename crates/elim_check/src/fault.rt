@@ -1,12 +1,12 @@
 // Why a log is refused.
 
 ghost use Rattle.elim_check.specs.declared.fault.Stop.TheVariants.{Step};
-ghost use Rattle.purse.specs.Work.{step_fault_of};
-ghost use Rattle.purse.specs.declared.fault.StepFault.TheVariants.{Memory};
+ghost use Rattle.base_budget.specs.Work.{step_fault_of};
+ghost use Rattle.base_budget.specs.declared.fault.StepFault.TheVariants.{Memory};
 ghost use Rattle.std.specs.Prelude.{◌≡◌};
 
+use base_budget::StepFault;
 use linear_term::{Place, TermFault};
-use purse::StepFault;
 use std::alloc::AllocError;
 
 /// Why a log is refused. The number is that of the first entry that was not done.

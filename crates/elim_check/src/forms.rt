@@ -10,10 +10,10 @@ ghost use Rattle.std.specs.Prelude.{◌+◌, ◌≤◌, ◌^◌, [], length};
 
 use super::fault::Stop;
 use super::names::some_value;
+use base_budget::{Entry, Purse};
 use clause_set::{Dnf, Literal, and, not, or_into};
 use elim_laws::{of_literal, of_unequal};
 use formula::{Core, dual, size};
-use purse::{Entry, Purse};
 use std::alloc::Global;
 
 /// The disjunction of the formula f over `names`, by the entries from the place on.

@@ -8,8 +8,8 @@ ghost use Rattle.elim_check.specs.Reading.{reading};
 ghost use Rattle.elim_laws.specs.Logs.{Reader, entries_of};
 ghost use Rattle.elim_laws.specs.Whole.{eliminating};
 ghost use Rattle.formula.specs.Form.{Form};
-ghost use Rattle.purse.specs.Trace.{Funds};
-ghost use Rattle.purse.specs.declared.log.Entry.{Entry};
+ghost use Rattle.base_budget.specs.Trace.{Funds};
+ghost use Rattle.base_budget.specs.declared.log.Entry.{Entry};
 ghost use Rattle.std.specs.Prelude.{◌≡◌, ◌≤◌, List, Ok, Result, ℕ};
 
 /// A log is accepted exactly where its rules do the whole work, use it up, and stay within the budget and the range. There

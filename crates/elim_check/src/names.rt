@@ -6,8 +6,8 @@ ghost use Rattle.std.specs.Prelude.{◌≡◌, ◌≤◌, IfOk, length};
 
 use super::fault::Stop;
 use super::replay::replay;
+use base_budget::{Entry, Purse};
 use clause_set::{Dnf, not};
-use purse::{Entry, Purse};
 use std::alloc::Global;
 
 /// The disjunction of "some value of x makes d true", by the entries from the place on.

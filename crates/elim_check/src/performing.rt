@@ -1,20 +1,20 @@
 // The rule that an entry names.
 
 ghost use Rattle.clause_set.specs.Rules.{applies, rule};
-ghost use Rattle.purse.specs.Work.{Charged};
-ghost use Rattle.purse.specs.declared.log.Entry.TheVariants.{Dark, Exact};
+ghost use Rattle.base_budget.specs.Work.{Charged};
+ghost use Rattle.base_budget.specs.declared.log.Entry.TheVariants.{Dark, Exact};
 ghost use Rattle.std.specs.Prelude.{◌≡◌, true};
 
+use base_budget::{Entry, Purse, StepFault};
 use clause_set::Clause;
-use purse::{Entry, Purse, StepFault};
-use rule_code::{
+use elim_rules::{
     Side, apart_rule, dark, equation_rule, exact, literals_on, merge_rule, one_sided, shift_rule,
 };
 use sqlite_items::Items;
 use std::alloc::Global;
 
 /// What the exact shadow leaves.
-#[tactic(auto, using(purse::proofs::Charging::charging, crate::proofs::Entries::entries))]
+#[tactic(auto, using(base_budget::proofs::Charging::charging, crate::proofs::Entries::entries))]
 fn by_exact_shadow(
     alloc: Global,
     c: &Clause,
@@ -29,7 +29,7 @@ fn by_exact_shadow(
 }
 
 /// What the dark shadow and its splinters leave.
-#[tactic(auto, using(purse::proofs::Charging::charging, crate::proofs::Entries::entries))]
+#[tactic(auto, using(base_budget::proofs::Charging::charging, crate::proofs::Entries::entries))]
 fn by_dark_shadow(
     alloc: Global,
     c: &Clause,

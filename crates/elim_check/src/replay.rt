@@ -2,21 +2,21 @@
 
 ghost use Rattle.elim_check.specs.Reading.{ReadAt, outcome};
 ghost use Rattle.elim_check.specs.Steps.{passed, replaying, turn};
-ghost use Rattle.purse.specs.Trace.{at};
-ghost use Rattle.purse.specs.Work.{Charged, ChargedAt};
+ghost use Rattle.base_budget.specs.Trace.{at};
+ghost use Rattle.base_budget.specs.Work.{Charged, ChargedAt};
 ghost use Rattle.std.specs.Prelude.{◌≡◌, ◌≤◌, [], length};
 
 use super::applying::does_apply;
 use super::fault::Stop;
 use super::performing::perform;
 use super::todo::Todo;
+use base_budget::{Entry, Purse, StepFault};
 use clause_set::Clause;
-use purse::{Entry, Purse, StepFault};
 use sqlite_items::Items;
 use std::alloc::Global;
 
 /// The clauses without x go behind those of out, each at the charge 1, up to the first one with x.
-#[tactic(auto, using(purse::proofs::Charging::looping, crate::proofs::Replaying::passed_stop, crate::proofs::Replaying::passed_on))]
+#[tactic(auto, using(base_budget::proofs::Charging::looping, crate::proofs::Replaying::passed_stop, crate::proofs::Replaying::passed_on))]
 fn pass(
     todo: Todo,
     out: Items<Clause>,

@@ -6,7 +6,7 @@ ghost use Rattle.std.specs.List.{list_any};
 ghost use Rattle.std.specs.Prelude.{◌≡◌, ◌∷◌, ◌++◌, ◌↔◌, [], IfOk, IsTrue, MatchOption, OnOk, false, true};
 
 use clause_set::Clause;
-use rule_code::has_name;
+use elim_rules::has_name;
 use sqlite_items::Items;
 use std::alloc::{AllocError, Global};
 use std::marker::Model;

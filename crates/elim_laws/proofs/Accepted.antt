@@ -4,9 +4,9 @@ use Rattle.std.specs.Prelude.{All}
 use Rattle.std.specs.List.{list_any}
 use Rattle.std.proofs.lemmas.List.{append-nil}
 use Rattle.std.proofs.lemmas.List.Elements.{recursion_from_All}
-use Rattle.purse.specs.declared.log.Entry.{Entry}
+use Rattle.base_budget.specs.declared.log.Entry.{Entry}
 use Rattle.linear_term.specs.Linear.{Linear, IsReduced, value_of}
-use Rattle.purse.specs.Trace.{entry, Traced, just, step, next, pay, note}
+use Rattle.base_budget.specs.Trace.{entry, Traced, just, step, next, pay, note}
 use Rattle.clause_set.specs.declared.literal.Literal.{Literal}
 use Rattle.clause_set.specs.declared.literal.Literal.TheVariants.{Eq, Geq}
 use Rattle.clause_set.specs.Literals.{literal_truth, IsLiteral}
@@ -17,7 +17,7 @@ use Rattle.clause_set.specs.Names.{has}
 use Rattle.clause_set.specs.Dnfs.{tidying, conjunction, disjunction, negation, top}
 use Rattle.clause_set.specs.Rules.{rule, applies}
 use Rattle.clause_set.proofs.Divisors.{kept-append}
-use Rattle.equation_laws.proofs.Exactness.{Keeps}
+use Rattle.elim_rule_laws.proofs.EquationExactness.{Keeps}
 use Rattle.clause_set.specs.Kept.{AreFormed}
 use Rattle.elim_laws.specs.Elimination.{IsOut, Reflects}
 use Rattle.formula.specs.Form as tree

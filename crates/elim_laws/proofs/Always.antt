@@ -1,13 +1,13 @@
 -- "Every value" is "no value" of the negation, by the rules that come first and by any log.
 use Rattle.std.proofs.Common.{◌≡◌, ℕ, ℤ, Bool, true, false, not, List, refl, sym, ◌∙◌, subst}
-use Rattle.integers.specs.Entry.{put}
+use Rattle.base_integers.specs.Entry.{put}
 use Rattle.clause_set.specs.declared.literal.Literal.{Literal}
 use Rattle.clause_set.specs.Dnfs.{negation}
 use Rattle.clause_set.specs.Kept.{AreFormed}
 use Rattle.clause_set.specs.Literals.{dnf_truth, AreLiterals}
 use Rattle.clause_set.proofs.Reduced.{negation-truth}
 use Rattle.clause_set.proofs.Shapes.{negation-formed, negation-free}
-use Rattle.purse.specs.Trace.{next}
+use Rattle.base_budget.specs.Trace.{next}
 use Rattle.elim_laws.specs.Elimination.{IsAlwaysMet, IsEvery, IsOut, exists_name, for_all_name}
 use Rattle.elim_laws.specs.Logs.{Reader, Yields, every_by_log, name_by_log, read_next, reads_none}
 use Rattle.elim_laws.proofs.Accepted.{name_yields}

@@ -1,7 +1,7 @@
 -- The bound on the depth of a formula does not matter, and the log of all names.
 use Rattle.std.proofs.Common.{◌≡◌, ◌<◌, ◌≤◌, ℕ, zero, suc, List, [], refl, ◌∙◌, ap, arith}
-use Rattle.purse.specs.Trace.{Traced, just, next, pay}
-use Rattle.purse.proofs.Tracing.{next-same}
+use Rattle.base_budget.specs.Trace.{Traced, just, next, pay}
+use Rattle.base_budget.proofs.Tracing.{next-same}
 use Rattle.clause_set.specs.declared.literal.Literal.{Literal}
 use Rattle.clause_set.specs.Dnfs.{conjunction, disjunction, negation, top}
 use Rattle.elim_laws.specs.Elimination.{exists_name}

@@ -3,7 +3,7 @@ use Rattle.std.proofs.Common.{◌≡◌, true, ℤ, pos, negsuc, List, refl}
 use Rattle.std.proofs.lemmas.Bool.{and_from}
 use Rattle.linear_term.specs.Linear.{Linear, number}
 use Rattle.linear_term.specs.Combination.{combination}
-use Rattle.purse.specs.Trace.{just, step, next}
+use Rattle.base_budget.specs.Trace.{just, step, next}
 use Rattle.clause_set.proofs.Negations.{less_is}
 use Rattle.formula.specs.Form.{Form, Forms, equal, unequal, at_least, holds, fails, differs, conjunction, disjunction, universal, existential, no_form, and_form, is_pure, are_pure}
 use Rattle.formula.specs.Sizes.{depth}

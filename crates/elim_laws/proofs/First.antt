@@ -10,18 +10,18 @@ use Rattle.std.proofs.lemmas.List.Quantifiers.{position-Some}
 use Rattle.std.proofs.lemmas.Option.{slice_get-get_or}
 use Rattle.std.proofs.lemmas.List.Sums.{sum_by-cons}
 use Rattle.linear_term.specs.Linear.{number}
-use Rattle.purse.specs.declared.log.Entry.{Entry}
-use Rattle.purse.specs.declared.log.Entry.TheVariants.{Equation, Apart, Merge, Shift, OneSided, Exact, Dark}
+use Rattle.base_budget.specs.declared.log.Entry.{Entry}
+use Rattle.base_budget.specs.declared.log.Entry.TheVariants.{Equation, Apart, Merge, Shift, OneSided, Exact, Dark}
 use Rattle.clause_set.specs.declared.literal.Literal.{Literal}
 use Rattle.clause_set.specs.declared.literal.Literal.TheVariants.{Eq, Geq, Div, NDiv}
 use Rattle.clause_set.specs.Names.{has, coefficient, is_equation, is_bound, is_divisibility, is_indivisibility}
 use Rattle.elim_laws.specs.Elimination.{IsSplit}
 use Rattle.clause_set.specs.Rules.{passes, applies, rule, first_rule, first_of, when, merge_behind, first_merge, is_bounded, is_two_sided, is_exact, is_one_sided, is_least_equation, measure}
 use Rattle.clause_set.proofs.Covers.{Among, any_with, all_by, by_no}
-use Rattle.equation_laws.proofs.Lists.{any-none, none-count, any-got, and_both}
-use Rattle.equation_laws.proofs.Applying.{equation_applies, apart_applies, merge_applies, shift_applies}
-use Rattle.equation_laws.proofs.Progress.{equation-nearer, apart-nearer, merge-nearer, shift-nearer}
-use Rattle.shadow_laws.proofs.Forms.{one_sided-nearer, exact-nearer, dark-nearer}
+use Rattle.elim_rule_laws.proofs.EquationLists.{any-none, none-count, any-got, and_both}
+use Rattle.elim_rule_laws.proofs.Applying.{equation_applies, apart_applies, merge_applies, shift_applies}
+use Rattle.elim_rule_laws.proofs.EquationProgress.{equation-nearer, apart-nearer, merge-nearer, shift-nearer}
+use Rattle.elim_rule_laws.proofs.Forms.{one_sided-nearer, exact-nearer, dark-nearer}
 
 -- ---- places
 any-place : {X : Type 0} (p : X → Bool) (xs : List X) → list_any p xs ≡ nat_lt (position_or_len p xs) (length xs)

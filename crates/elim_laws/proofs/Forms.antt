@@ -2,14 +2,14 @@
 use Rattle.std.proofs.Common.{List, [], ◌∷◌}
 use Rattle.std.specs.Prelude.{All}
 use Rattle.std.proofs.lemmas.List.Elements.{All-from_recursion, All-weaker}
-use Rattle.purse.specs.Trace.{just, step, next}
+use Rattle.base_budget.specs.Trace.{just, step, next}
 use Rattle.clause_set.specs.declared.literal.Literal.{Literal}
 use Rattle.clause_set.specs.declared.literal.Literal.TheVariants.{Eq, Geq, Div, NDiv}
 use Rattle.clause_set.specs.Literals.{IsLiteral, AreLiterals}
 use Rattle.clause_set.specs.Formed.{IsFormed}
 use Rattle.clause_set.specs.Dnfs.{negated_literal, top}
 use Rattle.clause_set.proofs.Negations.{alone, less, more, less_is, more_is}
-use Rattle.equation_laws.proofs.Lists.{kept-weaker}
+use Rattle.elim_rule_laws.proofs.EquationLists.{kept-weaker}
 use Rattle.clause_set.specs.Kept.{AreFormed}
 use Rattle.clause_set.proofs.Shapes.{clauses_of-formed}
 

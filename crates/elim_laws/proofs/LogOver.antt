@@ -3,8 +3,8 @@ use Rattle.std.proofs.Common.{◌≡◌, ◌≢◌, ◌<◌, ◌≤◌, ℕ, zer
 use Rattle.std.specs.List.{AllByRecursion, list_any}
 use Rattle.std.proofs.lemmas.Bool.Decides.{nat_tests}
 use Rattle.linear_term.proofs.Names.{over-unmentioned}
-use Rattle.purse.specs.declared.log.Entry.{Entry}
-use Rattle.purse.specs.Trace.{entry, Traced, just, step, next, pay, note}
+use Rattle.base_budget.specs.declared.log.Entry.{Entry}
+use Rattle.base_budget.specs.Trace.{entry, Traced, just, step, next, pay, note}
 use Rattle.clause_set.specs.declared.literal.Literal.{Literal}
 use Rattle.clause_set.specs.declared.literal.Literal.TheVariants.{Eq, Geq}
 use Rattle.clause_set.specs.Clauses.{clauses_of}
@@ -14,7 +14,7 @@ use Rattle.clause_set.specs.Names.{has}
 use Rattle.clause_set.specs.Rules.{applies, rule}
 use Rattle.clause_set.proofs.Divisors.{kept-append}
 use Rattle.clause_set.proofs.Kept.{tidied-kept}
-use Rattle.equation_laws.proofs.Lists.{any-none, kept-weaker}
+use Rattle.elim_rule_laws.proofs.EquationLists.{any-none, kept-weaker}
 use Rattle.formula.specs.Form as tree
 use Rattle.formula.specs.Form.{Form, Forms, IsFormOver, AreFormsOver}
 use Rattle.formula.specs.Sizes.{size, depth, depths}

@@ -6,10 +6,10 @@ use Rattle.std.proofs.lemmas.Bool.Decides.{nat_tests}
 use Rattle.linear_term.specs.Linear.{Linear, mentions, has_name, without, number, name, coef_of}
 use Rattle.linear_term.proofs.Names.{combination-unmentioned}
 use Rattle.linear_term.proofs.Totals.{by_test}
-use Rattle.purse.specs.declared.log.Entry.{Entry}
-use Rattle.purse.specs.declared.log.Entry.TheVariants.{Equation, Apart, Merge, Shift, OneSided, Exact, Dark}
-use Rattle.purse.specs.Trace.{just, step, next}
-use Rattle.purse.proofs.Tracing.{each-value}
+use Rattle.base_budget.specs.declared.log.Entry.{Entry}
+use Rattle.base_budget.specs.declared.log.Entry.TheVariants.{Equation, Apart, Merge, Shift, OneSided, Exact, Dark}
+use Rattle.base_budget.specs.Trace.{just, step, next}
+use Rattle.base_budget.proofs.Tracing.{each-value}
 use Rattle.clause_set.specs.declared.literal.Literal.{Literal}
 use Rattle.clause_set.specs.declared.literal.Literal.TheVariants.{Eq, Geq, Div, NDiv}
 use Rattle.clause_set.specs.Literals.{term_of}
@@ -21,11 +21,11 @@ use Rattle.clause_set.specs.Rules.{rule, first_rule, measure}
 use Rattle.clause_set.specs.Shadows.{lowers, uppers, greatest_factor, splinter_count, factor}
 use Rattle.clause_set.proofs.Divisors.{kept-append}
 use Rattle.clause_set.proofs.Measures.{clause-free}
-use Rattle.equation_laws.proofs.Lists.{any-none, none-any, kept-mapped, kept-removed, kept-got, kept-replaced}
-use Rattle.equation_laws.proofs.Values.{equation-value, apart-value, merge-value, shift-value}
-use Rattle.equation_laws.specs.Results.{scaled_literal, solved_literal, solved_by, split_at, raised, joined_second, joined_first, shifted_literal, shifted_by, shifted_term}
-use Rattle.shadow_laws.proofs.Values.{one_sided-value, exact-value, dark-value}
-use Rattle.shadow_laws.specs.Results.{shadow_term, dark_term, inequalities, with_splinter, splinters_of, one_sided_results, exact_results, dark_results}
+use Rattle.elim_rule_laws.proofs.EquationLists.{any-none, none-any, kept-mapped, kept-removed, kept-got, kept-replaced}
+use Rattle.elim_rule_laws.proofs.EquationValues.{equation-value, apart-value, merge-value, shift-value}
+use Rattle.elim_rule_laws.specs.EquationResults.{scaled_literal, solved_literal, solved_by, split_at, raised, joined_second, joined_first, shifted_literal, shifted_by, shifted_term}
+use Rattle.elim_rule_laws.proofs.ShadowValues.{one_sided-value, exact-value, dark-value}
+use Rattle.elim_rule_laws.specs.ShadowResults.{shadow_term, dark_term, inequalities, with_splinter, splinters_of, one_sided_results, exact_results, dark_results}
 use Rattle.elim_laws.specs.Elimination.{by_first, rules_deep, taken_out, exists_name}
 use Rattle.elim_laws.specs.Whole.{Lacks}
 use Rattle.clause_set.proofs.Kept.{tidied-kept}

@@ -2,9 +2,9 @@
 use Rattle.std.proofs.Common.{ℕ, zero, suc, List, [], ◌∷◌, ◌++◌, Option, Some, None, sym, subst}
 use Rattle.std.specs.List.{AllByRecursion}
 use Rattle.clause_set.proofs.Divisors.{kept-append}
-use Rattle.purse.specs.declared.log.Entry.{Entry}
-use Rattle.purse.specs.Trace.{entry, new_log, Traced, just, step, next, pay, note, each}
-use Rattle.purse.specs.Runs.{notes}
+use Rattle.base_budget.specs.declared.log.Entry.{Entry}
+use Rattle.base_budget.specs.Trace.{entry, new_log, Traced, just, step, next, pay, note, each}
+use Rattle.base_budget.specs.Runs.{notes}
 use Rattle.clause_set.specs.declared.literal.Literal.{Literal}
 use Rattle.clause_set.specs.declared.literal.Literal.TheVariants.{Eq}
 use Rattle.clause_set.specs.Dnfs.{conjunction, disjunction, negated_literal, negation, tidying, top}

@@ -5,15 +5,15 @@ use Rattle.std.proofs.lemmas.Bool.Decides.{nat_tests}
 use Rattle.linear_term.specs.Linear.{Linear, number}
 use Rattle.linear_term.specs.Combination.{combination}
 use Rattle.linear_term.proofs.Names.{combination-unmentioned, over-unmentioned}
-use Rattle.purse.specs.Trace.{Traced, just, step, next}
-use Rattle.purse.proofs.Tracing.{each-value}
+use Rattle.base_budget.specs.Trace.{Traced, just, step, next}
+use Rattle.base_budget.proofs.Tracing.{each-value}
 use Rattle.clause_set.specs.declared.literal.Literal.{Literal}
 use Rattle.clause_set.specs.declared.literal.Literal.TheVariants.{Eq, Geq, Div, NDiv}
 use Rattle.clause_set.specs.Names.{has}
 use Rattle.clause_set.specs.Clauses.{clause_of, found}
 use Rattle.clause_set.specs.Dnfs.{joined_with, joined, conjunction, disjunction, negated_literal, negated_clause, negated_clauses, negation, top}
 use Rattle.clause_set.proofs.Divisors.{kept-append}
-use Rattle.equation_laws.proofs.Lists.{any-none, kept-weaker}
+use Rattle.elim_rule_laws.proofs.EquationLists.{any-none, kept-weaker}
 use Rattle.clause_set.specs.Kept.{AreFormed}
 use Rattle.elim_laws.specs.Elimination.{exists_name}
 use Rattle.formula.specs.Form as tree

@@ -5,20 +5,20 @@ use Rattle.std.proofs.lemmas.Int.{ints}
 use Rattle.std.proofs.lemmas.List.Elements.{recursion_from_All}
 use Rattle.std.proofs.lemmas.Bool.{leb-true}
 use Rattle.std.proofs.lemmas.Option.{slice_get_within}
-use Rattle.purse.specs.declared.log.Entry.TheVariants.{Equation, Apart, Merge, Shift}
-use Rattle.purse.specs.Trace.{Funds, At, after_charge, done, refused, capped, cut, Event, charge, Traced, next, step, pay}
-use Rattle.purse.specs.Work.{ChargedAt, Charged}
+use Rattle.base_budget.specs.declared.log.Entry.TheVariants.{Equation, Apart, Merge, Shift}
+use Rattle.base_budget.specs.Trace.{Funds, At, after_charge, done, refused, capped, cut, Event, charge, Traced, next, step, pay}
+use Rattle.base_budget.specs.Work.{ChargedAt, Charged}
 use Rattle.clause_set.specs.declared.literal.Literal.{Literal}
 use Rattle.clause_set.specs.declared.literal.Literal.TheVariants.{Eq, Div, NDiv}
 use Rattle.clause_set.specs.Clause.{IsClause}
 use Rattle.clause_set.specs.Primitive.{IsPrimitive, IsReducedModulo}
 use Rattle.clause_set.specs.Divisibilities.{apart, apart_at, merge, merge_at, shift, shift_at}
 use Rattle.clause_set.proofs.Owned.{clause-primitive}
-use Rattle.equation_laws.proofs.Lists.{kept-got}
+use Rattle.elim_rule_laws.proofs.EquationLists.{kept-got}
 use Rattle.clause_set.specs.Names.{names_of, area}
 use Rattle.clause_set.specs.Equations.{equation, equation_at}
 use Rattle.clause_set.specs.Rules.{rule, applies}
-use Rattle.equation_laws.proofs.Applying.{equation_applies, apart_applies, merge_applies, shift_applies}
+use Rattle.elim_rule_laws.proofs.Applying.{equation_applies, apart_applies, merge_applies, shift_applies}
 
 cut_charge : (n : ℕ) (es : List Event) (a b : At) → cut (charge n ∷ es) a ≡ done b → a.funds.spent + capped n ≤ a.funds.budget
 unfolding cut

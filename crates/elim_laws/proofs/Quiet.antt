@@ -3,10 +3,10 @@ use Rattle.std.proofs.Common.{◌≡◌, ℕ, ℤ, pos, Bool, true, false, cond,
 use Rattle.std.specs.Prelude.{slice_get, remove}
 use Rattle.linear_term.specs.declared.range.Place.{Place}
 use Rattle.linear_term.specs.Linear.{Linear, coef_of}
-use Rattle.purse.specs.declared.log.Entry.{Entry}
-use Rattle.purse.specs.declared.log.Entry.TheVariants.{Equation, Apart, Merge, Shift, OneSided, Exact, Dark}
-use Rattle.purse.specs.Trace.{Event, charge, raw, mark, entry, new_log, round, enter, back, Traced, just, step, next, pay, each, combining}
-use Rattle.purse.specs.Runs.{notes}
+use Rattle.base_budget.specs.declared.log.Entry.{Entry}
+use Rattle.base_budget.specs.declared.log.Entry.TheVariants.{Equation, Apart, Merge, Shift, OneSided, Exact, Dark}
+use Rattle.base_budget.specs.Trace.{Event, charge, raw, mark, entry, new_log, round, enter, back, Traced, just, step, next, pay, each, combining}
+use Rattle.base_budget.specs.Runs.{notes}
 use Rattle.clause_set.specs.declared.literal.Literal.{Literal}
 use Rattle.clause_set.specs.declared.literal.Literal.TheVariants.{Eq, Geq, Div, NDiv}
 use Rattle.clause_set.specs.Names.{has, coefficient, remainder}

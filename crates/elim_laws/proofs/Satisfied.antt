@@ -1,8 +1,8 @@
 -- All names out of a disjunction.
 use Rattle.std.proofs.Common.{◌≡◌, ℕ, zero, suc, ℤ, true, List, [], ◌∷◌, ◌++◌, length, refl, sym, ◌∙◌, ap, subst, arith}
 use Rattle.std.specs.Prelude.{◌↔◌}
-use Rattle.purse.specs.Trace.{just, next}
-use Rattle.purse.proofs.Tracing.{value-just}
+use Rattle.base_budget.specs.Trace.{just, next}
+use Rattle.base_budget.proofs.Tracing.{value-just}
 use Rattle.clause_set.specs.declared.literal.Literal.{Literal}
 use Rattle.clause_set.specs.Literals.{dnf_truth}
 use Rattle.clause_set.specs.Kept.{AreFormed}

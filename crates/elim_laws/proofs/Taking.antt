@@ -4,11 +4,11 @@ use Rattle.std.specs.Prelude.{All}
 use Rattle.std.specs.List.{AllByRecursion, list_any, flat_map}
 use Rattle.std.proofs.lemmas.List.Elements.{recursion_from_All, All-weaker}
 use Rattle.std.proofs.lemmas.List.Folds.{list_any-append}
-use Rattle.integers.specs.Entry.{put}
-use Rattle.purse.specs.declared.log.Entry.{Entry}
-use Rattle.purse.specs.declared.log.Entry.TheVariants.{Equation, Apart, Merge, Shift, OneSided, Exact, Dark}
-use Rattle.purse.specs.Trace.{Traced, just, step, next, note, entry, each}
-use Rattle.purse.proofs.Tracing.{each-value, next-same}
+use Rattle.base_integers.specs.Entry.{put}
+use Rattle.base_budget.specs.declared.log.Entry.{Entry}
+use Rattle.base_budget.specs.declared.log.Entry.TheVariants.{Equation, Apart, Merge, Shift, OneSided, Exact, Dark}
+use Rattle.base_budget.specs.Trace.{Traced, just, step, next, note, entry, each}
+use Rattle.base_budget.proofs.Tracing.{each-value, next-same}
 use Rattle.clause_set.specs.declared.literal.Literal.{Literal}
 use Rattle.clause_set.specs.Literals.{clause_truth, dnf_truth}
 use Rattle.clause_set.specs.Formed.{IsFormed}
@@ -19,9 +19,9 @@ use Rattle.clause_set.specs.Rules.{rule, applies, first_rule, measure}
 use Rattle.clause_set.proofs.ClauseTruth.{by_first}
 use Rattle.clause_set.proofs.Covers.{tidied-truth}
 use Rattle.clause_set.proofs.Divisors.{kept-append}
-use Rattle.equation_laws.proofs.Exactness.{Keeps, equation-keeps, apart-keeps, merge-keeps, shift-keeps}
-use Rattle.equation_laws.proofs.Solving.{unused-truth}
-use Rattle.shadow_laws.proofs.Forms.{one_sided-kept, exact-kept, dark-kept, one_sided-formed, exact-formed, dark-formed}
+use Rattle.elim_rule_laws.proofs.EquationExactness.{Keeps, equation-keeps, apart-keeps, merge-keeps, shift-keeps}
+use Rattle.elim_rule_laws.proofs.Solving.{unused-truth}
+use Rattle.elim_rule_laws.proofs.Forms.{one_sided-kept, exact-kept, dark-kept, one_sided-formed, exact-formed, dark-formed}
 use Rattle.clause_set.specs.Kept.{AreFormed}
 use Rattle.elim_laws.specs.Elimination.{by_first as by_first_rule, rules_deep, taken_out, exists_name, IsOut}
 use Rattle.elim_laws.proofs.First.{first_is_rule, none_first}

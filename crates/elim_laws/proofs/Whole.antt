@@ -4,10 +4,10 @@ use Rattle.std.specs.Ordering.{int_eq}
 use Rattle.std.proofs.lemmas.Int.{ints}
 use Rattle.std.proofs.lemmas.Bool.Decides.{Decides-int_eq}
 use Rattle.std.proofs.lemmas.List.{length-append}
-use Rattle.integers.specs.Entry.{put}
-use Rattle.integers.proofs.Entries.{put-length}
+use Rattle.base_integers.specs.Entry.{put}
+use Rattle.base_integers.proofs.Entries.{put-length}
 use Rattle.linear_term.specs.Linear.{Linear, IsReduced, value_of}
-use Rattle.purse.specs.Trace.{Traced, just, step, next}
+use Rattle.base_budget.specs.Trace.{Traced, just, step, next}
 use Rattle.clause_set.specs.declared.literal.Literal.{Literal}
 use Rattle.clause_set.specs.declared.literal.Literal.TheVariants.{Eq, Geq}
 use Rattle.clause_set.specs.Literals.{dnf_truth, literal_truth, IsLiteral}
@@ -27,7 +27,7 @@ use Rattle.elim_laws.specs.Whole.{all_of, any_of, eliminated, eliminating, Expre
 use Rattle.clause_set.proofs.Shapes.{clauses_of-formed, conjunction-formed, disjunction-formed, negation-formed}
 use Rattle.clause_set.proofs.Kept.{tidied-kept}
 use Rattle.elim_laws.proofs.Forms.{formed-literals, negated_literal-formed, top-formed}
-use Rattle.typed_formula.specs.Truth.{Meaning}
+use Rattle.form_typed.specs.Truth.{Meaning}
 use Rattle.formula.specs.Form.{FormTruth}
 use Rattle.formula.proofs.Anywhere.{truth_anywhere}
 use Rattle.elim_laws.specs.Presburger.{plain}

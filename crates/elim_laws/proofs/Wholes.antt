@@ -1,9 +1,9 @@
 -- A whole log: that of a run is accepted, does its work, and every accepted one is exact.
 use Rattle.std.proofs.Common.{◌≡◌, ℕ, List, [], ◌∷◌, Option, Some, None, refl, sym, ◌∙◌, ap, subst}
 use Rattle.std.proofs.lemmas.List.{append-nil}
-use Rattle.purse.specs.declared.log.Entry.{Entry}
-use Rattle.purse.specs.Trace.{Traced, just, next}
-use Rattle.purse.proofs.Tracing.{next-same, next-just, next-assoc, value-next}
+use Rattle.base_budget.specs.declared.log.Entry.{Entry}
+use Rattle.base_budget.specs.Trace.{Traced, just, next}
+use Rattle.base_budget.proofs.Tracing.{next-same, next-just, next-assoc, value-next}
 use Rattle.formula.specs.Form.{Form}
 use Rattle.elim_laws.specs.Whole.{eliminated}
 use Rattle.elim_laws.specs.Logs.{entries_of, Rest, rest, Reader, used_up, by_whole_log, by_log, Does, Yields}

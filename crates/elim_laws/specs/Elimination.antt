@@ -1,9 +1,9 @@
 -- Elimination of a name from a disjunction of clauses: each clause by the rules that come first, or by those of a log.
 use Rattle.std.specs.Prelude.{◌≡◌, ℕ, zero, suc, ℤ, Bool, true, false, List, [], ◌∷◌, Option, Some, None}
-use Rattle.integers.specs.Entry.{put}
-use Rattle.purse.specs.Trace.{entry, Traced, just, next, note, each}
-use Rattle.purse.specs.declared.log.Entry.{Entry}
-use Rattle.purse.specs.declared.log.Entry.TheVariants.{Apart, Merge}
+use Rattle.base_integers.specs.Entry.{put}
+use Rattle.base_budget.specs.Trace.{entry, Traced, just, next, note, each}
+use Rattle.base_budget.specs.declared.log.Entry.{Entry}
+use Rattle.base_budget.specs.declared.log.Entry.TheVariants.{Apart, Merge}
 use Rattle.clause_set.specs.declared.literal.Literal.{Literal}
 use Rattle.clause_set.specs.Dnfs.{tidying, negation}
 use Rattle.clause_set.specs.Kept.{AreFormed, AreFree}

@@ -1,9 +1,9 @@
 -- Elimination by the rules that a log names.
 use Rattle.std.specs.Prelude.{◌≡◌, ℕ, zero, suc, cond, List, [], ◌∷◌, ◌++◌, Option, Some, None}
 use Rattle.std.specs.List.{AllByRecursion, list_any}
-use Rattle.purse.specs.declared.log.Entry.{Entry}
-use Rattle.purse.specs.Runs.{notes}
-use Rattle.purse.specs.Trace.{Mark, Event, charge, raw, mark, entry, new_log, round, enter, back, Traced, just, next, pay, note}
+use Rattle.base_budget.specs.declared.log.Entry.{Entry}
+use Rattle.base_budget.specs.Runs.{notes}
+use Rattle.base_budget.specs.Trace.{Mark, Event, charge, raw, mark, entry, new_log, round, enter, back, Traced, just, next, pay, note}
 use Rattle.clause_set.specs.declared.literal.Literal.{Literal}
 use Rattle.clause_set.specs.declared.literal.Literal.TheVariants.{Eq, Geq}
 use Rattle.clause_set.specs.Clauses.{clauses_of}

@@ -1,7 +1,7 @@
 -- Formulas of Presburger arithmetic, and their truth, which needs no interpretation.
 use Rattle.std.specs.Prelude.{ℤ, pos, false, List}
 use Rattle.linear_term.specs.Linear.{IsReduced}
-use Rattle.typed_formula.specs.Truth.{Meaning}
+use Rattle.form_typed.specs.Truth.{Meaning}
 use Rattle.formula.specs.Form.{Form, Forms, equal, unequal, at_least, holds, fails, differs, conjunction, disjunction, universal, existential, no_form, and_form, FormTruth, AreFormsTrue, AreFormsFalse}
 
 abbrev mutual

@@ -2,7 +2,7 @@
 use Rattle.std.specs.List.{AllByRecursion}
 use Rattle.clause_set.specs.Names.{has}
 use Rattle.std.specs.Prelude.{◌≡◌, ◌≤◌, ℕ, zero, suc, ◌+◌, ℤ, true, false, List, [], ◌∷◌, length}
-use Rattle.purse.specs.Trace.{Traced, just, next, pay}
+use Rattle.base_budget.specs.Trace.{Traced, just, next, pay}
 use Rattle.linear_term.specs.Linear.{Linear}
 use Rattle.clause_set.specs.declared.literal.Literal.{Literal}
 use Rattle.clause_set.specs.declared.literal.Literal.TheVariants.{Eq, Geq}

@@ -3,13 +3,13 @@
 ghost use Rattle.clause_set.specs.Clauses.{clauses_of};
 ghost use Rattle.clause_set.specs.Literals.{HasDivisor, term_of};
 ghost use Rattle.elim_laws.specs.Whole.{paid, two_sides};
-ghost use Rattle.purse.specs.Trace.{capped, just};
-ghost use Rattle.purse.specs.Work.{Charged, Worked};
+ghost use Rattle.base_budget.specs.Trace.{capped, just};
+ghost use Rattle.base_budget.specs.Work.{Charged, Worked};
 ghost use Rattle.std.specs.Prelude.{◌≡◌, ◌+◌, [], ◌∷◌, length};
 
+use base_budget::{Purse, StepFault};
 use clause_set::{Dnf, Literal, literal_clauses, negated_literal};
 use linear_term::Term;
-use purse::{Purse, StepFault};
 use std::alloc::Global;
 
 /// 1 and the monomials of t.
@@ -20,7 +20,7 @@ fn charge(t: &Term) -> u64
 }
 
 /// The disjunction of one literal. It charges 1 and the monomials of its term.
-#[tactic(auto, using(purse::proofs::Charging::charging, crate::proofs::Sides::one_tidied))]
+#[tactic(auto, using(base_budget::proofs::Charging::charging, crate::proofs::Sides::one_tidied))]
 pub fn of_literal(alloc: Global, l: Literal, purse: &mut Purse) -> Result<Dnf, StepFault>
     requires { HasDivisor l }
     ensures { Charged (paid (term_of l) (just (clauses_of ((l ∷ []) ∷ [])))) purse.old result purse.new }
@@ -31,7 +31,7 @@ pub fn of_literal(alloc: Global, l: Literal, purse: &mut Purse) -> Result<Dnf, S
 }
 
 /// The two sides of t ≠ 0, below 0 and above it, each a clause of the tidy form.
-#[tactic(auto, using(purse::proofs::Charging::working))]
+#[tactic(auto, using(base_budget::proofs::Charging::working))]
 fn sides(alloc: Global, t: &Term) -> Result<Dnf, StepFault>
     ensures { Worked (two_sides t.now) result }
 {
@@ -41,7 +41,7 @@ fn sides(alloc: Global, t: &Term) -> Result<Dnf, StepFault>
 
 /// The disjunction of t ≠ 0. It charges 1 and the monomials of t; Overflow comes exactly where a number of its two sides leaves the
 /// range, and names it.
-#[tactic(auto, using(purse::proofs::Charging::charging))]
+#[tactic(auto, using(base_budget::proofs::Charging::charging))]
 pub fn of_unequal(alloc: Global, t: &Term, purse: &mut Purse) -> Result<Dnf, StepFault>
     ensures { Charged (paid t.now (two_sides t.now)) purse.old result purse.new }
 {

@@ -2,9 +2,9 @@
 
 ghost use Rattle.std.specs.Prelude.{◌≡◌, ◌≢◌, ◌<◌, ◌+◌, ◌⊎◌, ◌↔◌, ℕ, ℤ, List, All, [], ◌∷◌, ◌++◌, length, None, Some, true, false};
 ghost use Rattle.std.specs.List.{AllByRecursion, list_any};
-ghost use Rattle.purse.specs.Trace.{just, next};
-ghost use Rattle.purse.specs.declared.log.Entry.{Entry};
-ghost use Rattle.typed_formula.specs.Truth.{Meaning};
+ghost use Rattle.base_budget.specs.Trace.{just, next};
+ghost use Rattle.base_budget.specs.declared.log.Entry.{Entry};
+ghost use Rattle.form_typed.specs.Truth.{Meaning};
 ghost use Rattle.clause_set.specs.declared.literal.Literal.{Literal};
 ghost use Rattle.clause_set.specs.Formed.{IsFormed};
 ghost use Rattle.clause_set.specs.Kept.{AreFormed};

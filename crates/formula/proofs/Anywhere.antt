@@ -1,7 +1,7 @@
 -- Without predicates and functions the interpretation does not matter.
 use Rattle.std.proofs.Common.{◌≡◌, ℤ, true, List, [], ◌∷◌, ◌++◌}
 use Rattle.std.proofs.lemmas.Bool.{and_parts}
-use Rattle.typed_formula.specs.Truth.{Meaning}
+use Rattle.form_typed.specs.Truth.{Meaning}
 use Rattle.formula.specs.Form.{Form, Forms, equal, unequal, at_least, holds, fails, differs, conjunction, disjunction, universal, existential, no_form, and_form, FormTruth, AreFormsTrue, AreFormsFalse, is_pure, are_pure}
 
 mutual

@@ -6,8 +6,8 @@ use Rattle.linear_term.specs.Linear.{Linear, value_of, number}
 use Rattle.linear_term.specs.Combination.{combination}
 use Rattle.linear_term.proofs.Totals.{value_of-combination, value_of-number}
 use Rattle.linear_term.proofs.Names.{combination-over}
-use Rattle.typed_formula.specs.Truth.{Meaning}
-use Rattle.purse.specs.Trace.{just, step, next}
+use Rattle.form_typed.specs.Truth.{Meaning}
+use Rattle.base_budget.specs.Trace.{just, step, next}
 use Rattle.formula.specs.Form.{Form, Forms, equal, unequal, at_least, holds, fails, differs, conjunction, disjunction, universal, existential, no_form, and_form, FormTruth, AreFormsTrue, AreFormsFalse, is_pure, are_pure, IsFormOver, AreFormsOver}
 use Rattle.formula.specs.Duals.{dual, duals}
 use Rattle.formula.proofs.Extending.{over_number}

@@ -1,8 +1,8 @@
 -- Lists of integers that go on, and what terms are at them.
 use Rattle.std.proofs.Common.{◌≡◌, ℕ, suc, ◌+◌, ◌<◌, ◌≤◌, ℤ, pos, ◌+ℤ◌, ◌*ℤ◌, List, [], ◌∷◌, ◌++◌, length, All, refl, ap, ◌∙◌, subst, arith, length-append}
 use Rattle.std.proofs.lemmas.List.Elements.{All-nil, All-cons, All-head, All-tail}
-use Rattle.integers.specs.Entry.{entry}
-use Rattle.integers.proofs.Entries.{entry-append_left, entry-append_right}
+use Rattle.base_integers.specs.Entry.{entry}
+use Rattle.base_integers.proofs.Entries.{entry-append_left, entry-append_right}
 use Rattle.linear_term.specs.Linear.{Linear, total, value_at, value_of, IsOver}
 use Rattle.linear_term.specs.Linear as linear
 use Rattle.formula.specs.Form.{values_of}

@@ -1,7 +1,7 @@
 -- The terms of formulas of the code are reduced.
 use Rattle.std.proofs.Common.{◌≡◌, ◌<◌, ◌≤◌, ◌+◌, ℕ, List, length, drop, get_or, sym, ◌∙◌, ap, subst}
 use Rattle.std.specs.List.{AllByRecursion}
-use Rattle.purse.proofs.Charging.{drop-item, drop_all}
+use Rattle.base_budget.proofs.Charging.{drop-item, drop_all}
 use Rattle.linear_term.specs.Linear.{Linear, IsNormal, IsReduced}
 use Rattle.linear_term.proofs.Names.{reduced-normal}
 use Rattle.formula.specs.declared.calculus.Core.{Core}

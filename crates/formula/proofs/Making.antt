@@ -3,9 +3,9 @@ use Rattle.std.proofs.Common.{◌≡◌, List, [], ◌∷◌, ◌++◌, map, Res
 use Rattle.std.proofs.lemmas.List.{map-append}
 use Rattle.linear_term.specs.declared.range.TermFault.{TermFault}
 use Rattle.linear_term.specs.declared.range.TermFault.TheVariants as term_fault
-use Rattle.purse.specs.Trace.{Traced, just, next}
-use Rattle.purse.specs.Work.{step_fault_of}
-use Rattle.purse.proofs.Charging.{work_ok, work_err, work_just, work_memory, Left, left_next, left_ends}
+use Rattle.base_budget.specs.Trace.{Traced, just, next}
+use Rattle.base_budget.specs.Work.{step_fault_of}
+use Rattle.base_budget.proofs.Charging.{work_ok, work_err, work_just, work_memory, Left, left_next, left_ends}
 use Rattle.formula.specs.declared.calculus.Core.{Core}
 use Rattle.formula.specs.Form.{Form}
 use Rattle.formula.specs.Tree.{form}

@@ -5,10 +5,10 @@ use Rattle.linear_term.specs.Range.{all_stay, IsCause}
 use Rattle.linear_term.specs.Combination.{combination, raw_numbers}
 use Rattle.linear_term.specs.declared.range.TermFault.{TermFault}
 use Rattle.linear_term.specs.declared.range.TermFault.TheVariants as term_fault
-use Rattle.purse.specs.declared.fault.StepFault.TheVariants as step_fault
-use Rattle.purse.specs.Trace.{Traced, just, next, combining}
-use Rattle.purse.proofs.Charging.{raw_ok, raw_leaves, work_memory, Left, left_all, drop-item, drop_all}
-use Rattle.purse.proofs.Tracing.{next-assoc, next-just, just-next}
+use Rattle.base_budget.specs.declared.fault.StepFault.TheVariants as step_fault
+use Rattle.base_budget.specs.Trace.{Traced, just, next, combining}
+use Rattle.base_budget.proofs.Charging.{raw_ok, raw_leaves, work_memory, Left, left_all, drop-item, drop_all}
+use Rattle.base_budget.proofs.Tracing.{next-assoc, next-just, just-next}
 use Rattle.formula.specs.declared.calculus.Core.{Core}
 use Rattle.formula.specs.Form.{Form, Forms, no_form, and_form, forms}
 use Rattle.formula.specs.Duals.{dual, duals}

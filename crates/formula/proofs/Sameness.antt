@@ -1,6 +1,6 @@
 -- A shifted formula and a dual are as large as the formula, and as pure.
 use Rattle.std.proofs.Common.{◌≡◌, ℕ, ◌+◌, max, ◌&&◌, refl, ap}
-use Rattle.purse.specs.Trace.{just, step, next}
+use Rattle.base_budget.specs.Trace.{just, step, next}
 use Rattle.formula.specs.Form.{Form, Forms, equal, unequal, at_least, holds, fails, differs, conjunction, disjunction, universal, existential, no_form, and_form, is_pure, are_pure}
 use Rattle.formula.specs.Sizes.{size, sizes, depth, depths}
 use Rattle.formula.specs.Shifts.{shifted, all_shifted}

@@ -1,11 +1,11 @@
 -- A shifted formula at the longer list.
 use Rattle.std.proofs.Common.{◌≡◌, ℕ, zero, suc, ◌+◌, ◌<◌, ◌≤◌, nat_lt, ℤ, pos, ◌+ℤ◌, ◌*ℤ◌, ◌≤ℤ◌, true, List, [], ◌∷◌, ◌++◌, length, map, refl, sym, ap, ◌∙◌, append_assoc, arith}
 use Rattle.std.proofs.lemmas.Bool.{ltb-true, ltb-false}
-use Rattle.integers.specs.Entry.{entry}
-use Rattle.integers.proofs.Entries.{entry-append_left, entry-append_right}
+use Rattle.base_integers.specs.Entry.{entry}
+use Rattle.base_integers.proofs.Entries.{entry-append_left, entry-append_right}
 use Rattle.linear_term.specs.Linear.{Linear, value_of, value_at, total}
 use Rattle.linear_term.proofs.Totals.{by_test}
-use Rattle.typed_formula.specs.Truth.{Meaning}
+use Rattle.form_typed.specs.Truth.{Meaning}
 use Rattle.formula.specs.Form.{Form, Forms, equal, unequal, at_least, holds, fails, differs, conjunction, disjunction, universal, existential, no_form, and_form, FormTruth, AreFormsTrue, AreFormsFalse, values_of}
 use Rattle.formula.specs.Shifts.{raised_name, raised, shifted, all_shifted}
 

@@ -2,8 +2,8 @@
 use Rattle.std.proofs.Common.{ℤ, pos, ◌≤ℤ◌, List, [], ◌∷◌, ◌++◌, arith}
 use Rattle.std.proofs.lemmas.Int.{ints}
 use Rattle.linear_term.specs.Linear.{value_of}
-use Rattle.typed_formula.specs.Truth.{Meaning}
-use Rattle.typed_formula.proofs.Stability.{test_stable, equal_stable}
+use Rattle.form_typed.specs.Truth.{Meaning}
+use Rattle.form_typed.proofs.Stability.{test_stable, equal_stable}
 use Rattle.formula.specs.Form.{Form, Forms, equal, unequal, at_least, holds, fails, differs, conjunction, disjunction, universal, existential, no_form, and_form, FormTruth, AreFormsTrue, values_of}
 
 at_most_stable : (x y : ℤ) → ¬ (¬ (x ≤ℤ y)) → x ≤ℤ y

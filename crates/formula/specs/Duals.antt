@@ -1,7 +1,7 @@
 -- The negation of a formula without predicates and functions, in negation normal form.
 use Rattle.std.specs.Prelude.{pos, negsuc}
 use Rattle.linear_term.specs.Linear.{number}
-use Rattle.purse.specs.Trace.{Traced, just, next, combining}
+use Rattle.base_budget.specs.Trace.{Traced, just, next, combining}
 use Rattle.formula.specs.Form.{Form, Forms, equal, unequal, at_least, holds, fails, differs, conjunction, disjunction, universal, existential, no_form, and_form}
 
 abbrev mutual

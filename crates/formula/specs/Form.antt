@@ -1,7 +1,7 @@
 -- The formulas of the calculus: negation normal form over linear terms, predicates and the graphs of functions.
 use Rattle.std.specs.Prelude.{◌≡◌, ℕ, suc, ℤ, pos, ◌≤ℤ◌, Bool, true, false, ◌&&◌, List, [], ◌∷◌, ◌++◌, map, All}
 use Rattle.linear_term.specs.Linear.{Linear, value_of, IsOver}
-use Rattle.typed_formula.specs.Truth.{Meaning}
+use Rattle.form_typed.specs.Truth.{Meaning}
 
 mutual
   -- a formula of the calculus, names by number; a quantifier binds the name after those of the formula around it

@@ -1,6 +1,6 @@
 -- The formulas that may be searched for a proof, and whose proofs may be checked.
 use Rattle.std.specs.Prelude.{ℕ, ◌≤◌}
-use Rattle.limits.specs.Limits.{most_constants, most_levels, most_nodes}
+use Rattle.base_limits.specs.Limits.{most_constants, most_levels, most_nodes}
 use Rattle.formula.specs.Form.{Form, IsFormOver}
 use Rattle.formula.specs.Sizes.{depth, size}
 

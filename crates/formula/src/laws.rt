@@ -1,7 +1,7 @@
 // What the definitions of this crate mean, each the contract of a function with nothing to do.
 
 ghost use Rattle.std.specs.Prelude.{◌≡◌, ◌≤◌, ◌+◌, ◌↔◌, ℕ, ℤ, List, length, true, ◌++◌};
-ghost use Rattle.typed_formula.specs.Truth.{Meaning};
+ghost use Rattle.form_typed.specs.Truth.{Meaning};
 ghost use Rattle.formula.specs.Duals.{dual};
 ghost use Rattle.formula.specs.Form.{Form, FormTruth, IsFormOver, is_pure};
 ghost use Rattle.formula.specs.Shifts.{IsBelow, shifted};

@@ -13,10 +13,10 @@ mod shared;
 mod shifting;
 
 pub use calculus::Core;
+pub use form_typed::{Relation, Table, TruthRow, Typed, TypedTerm, ValueRow, World};
 pub use laws::{depth_law, dual_law, purity_law, shift_law, size_law, stability_law};
 pub use measures::{depth, size};
 pub use negation::dual;
 pub use purity::is_pure;
 pub use shared::Shared;
 pub use shifting::shift;
-pub use typed_formula::{Relation, Table, TruthRow, Typed, TypedTerm, ValueRow, World};

@@ -2,7 +2,7 @@
 
 ghost use Rattle.std.specs.Prelude.{◌≡◌, negsuc, pos, map, List};
 ghost use Rattle.linear_term.specs.Linear as linear;
-ghost use Rattle.purse.specs.Trace.{combining};
+ghost use Rattle.base_budget.specs.Trace.{combining};
 ghost use Rattle.formula.specs.Duals as duals_of;
 ghost use Rattle.formula.specs.Form.{forms};
 ghost use Rattle.formula.specs.Made.{Made};

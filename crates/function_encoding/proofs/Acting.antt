@@ -2,10 +2,10 @@
 use Rattle.std.proofs.Common.{◌≡◌, List, ◌∷◌, reverse, Result, Ok, Err, IsErrAnd, negsuc, subst}
 use Rattle.linear_term.specs.Linear.{Linear}
 use Rattle.linear_term.specs.declared.range.TermFault.{TermFault}
-use Rattle.purse.specs.Trace.{Traced, just, next}
+use Rattle.base_budget.specs.Trace.{Traced, just, next}
 use Rattle.formula.specs.Made.{Made}
 use Rattle.formula.proofs.Making.{made_ok, made_err, made_just}
-use Rattle.encoding.specs.Encoding.{multiple}
+use Rattle.form_encoding.specs.Encoding.{multiple}
 use Rattle.function_encoding.specs.Actions.{top, under, joined, negated}
 
 pub negated_err : (vs : List Linear) (last : Linear) (e : TermFault) (r : Result (List Linear) TermFault) → last ≡ top vs → IsErrAnd r (λ x. x ≡ e)

@@ -1,19 +1,19 @@
 -- Atoms of bounds behind others, and a quantifier with them.
 use Rattle.std.proofs.Common.{◌≡◌, ◌↔◌, IsTrue, ℕ, ℤ, zero, suc, ◌+◌, ◌<◌, ◌≤◌, Bool, true, false, not, cond, pos, List, [], ◌∷◌, ◌++◌, map, length, drop, get_or, Result, Ok, Err, IsErrAnd, All, refl, sym, ap, ◌∙◌, subst, append_assoc, append-nil, arith}
 use Rattle.linear_term.specs.declared.range.TermFault.{TermFault}
-use Rattle.typed_formula.specs.declared.typed.Sort.{Sort}
-use Rattle.typed_formula.specs.declared.typed.Sort.TheVariants.{Int, Nat, Range}
-use Rattle.purse.specs.Trace.{Traced, Event, just, next}
-use Rattle.purse.proofs.Charging.{drop-item, drop_all}
-use Rattle.purse.proofs.Tracing.{just-next, next-assoc}
+use Rattle.form_typed.specs.declared.typed.Sort.{Sort}
+use Rattle.form_typed.specs.declared.typed.Sort.TheVariants.{Int, Nat, Range}
+use Rattle.base_budget.specs.Trace.{Traced, Event, just, next}
+use Rattle.base_budget.proofs.Charging.{drop-item, drop_all}
+use Rattle.base_budget.proofs.Tracing.{just-next, next-assoc}
 use Rattle.formula.specs.declared.calculus.Core.{Core}
 use Rattle.formula.specs.Form.{Form, Forms, forms}
 use Rattle.formula.specs.Tree.{form, forms_of}
 use Rattle.formula.specs.Made.{Made}
 use Rattle.formula.proofs.Making.{made_ok, made_err, made_just, pushed}
-use Rattle.encoding.specs.Encoding.{SortBound, least, greatest, bounds, within, outside, limits, restricted, quantified, bound_by, junction}
-use Rattle.encoding.specs.Root.{for_last}
-use Rattle.encoding.proofs.Arithmetic.{no_test}
+use Rattle.form_encoding.specs.Encoding.{SortBound, least, greatest, bounds, within, outside, limits, restricted, quantified, bound_by, junction}
+use Rattle.form_encoding.specs.Root.{for_last}
+use Rattle.form_encoding.proofs.Arithmetic.{no_test}
 use Rattle.function_encoding.proofs.Kept.{read_any}
 
 -- the atom of a bound

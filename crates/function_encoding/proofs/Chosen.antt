@@ -2,11 +2,11 @@
 use Rattle.std.proofs.Common.{◌≡◌, ℕ, suc, cond, ◌+◌, ◌<◌, ◌≤◌, Bool, true, false, not, ◌||◌, ◌↔◌, ℤ, nat_lt, List, [], ◌∷◌, ◌++◌, map, length, drop, get_or, append-nil, Result, Ok, Err, IsErrAnd, refl, sym, ap, ◌∙◌, subst, arith}
 use Rattle.std.specs.List.{filter}
 use Rattle.linear_term.specs.declared.range.TermFault.{TermFault}
-use Rattle.typed_formula.specs.Formula.{Formula, Formulas, formula, formulas, every, no_formula, and_formula}
-use Rattle.typed_formula.specs.declared.typed.Typed.{Typed}
-use Rattle.typed_formula.specs.Truth.{Meaning, Truth}
-use Rattle.purse.specs.Trace.{Traced, just, next}
-use Rattle.purse.proofs.Charging.{Left, drop-item, drop_all}
+use Rattle.form_typed.specs.Formula.{Formula, Formulas, formula, formulas, every, no_formula, and_formula}
+use Rattle.form_typed.specs.declared.typed.Typed.{Typed}
+use Rattle.form_typed.specs.Truth.{Meaning, Truth}
+use Rattle.base_budget.specs.Trace.{Traced, just, next}
+use Rattle.base_budget.proofs.Charging.{Left, drop-item, drop_all}
 use Rattle.pri_typing.specs.declared.problem.Problem.{Problem}
 use Rattle.pri_typing.specs.Problems.{assumed, assumed_by, is_part_in}
 use Rattle.pri_typing.specs.WellFormed.{IsWellFormed, IsNumberRanged, IsBinderRanged, SignedFormula, components_of, formula_components, of_terms, of_formulas}
@@ -14,18 +14,18 @@ use Rattle.formula.specs.declared.calculus.Core.{Core}
 use Rattle.formula.specs.Form.{Form, Forms, FormTruth, IsFormOver, conjunction, forms}
 use Rattle.formula.specs.Tree.{form, forms_of}
 use Rattle.formula.specs.Made.{Made}
-use Rattle.typed_formula.specs.declared.typed.Sort.{Sort}
-use Rattle.encoding.specs.Encoding.{bounds, encoded, all_encoded}
-use Rattle.encoding.specs.Extent.{Extent, measured, all_measured, above, beside, behind_atoms, nothing, extent, extents}
-use Rattle.encoding.specs.Meaning.{AreTypedIn}
-use Rattle.encoding.specs.Occurrences.{occurs}
-use Rattle.encoding.specs.Root.{conditions, names_from}
-use Rattle.encoding.specs.Problems.{append, assumed_form, constants, extended, parts_root, types, is_large}
-use Rattle.encoding.proofs.Measuring.{measured-more, measured-junction, measured-nothing}
-use Rattle.encoding.proofs.Extents.{extent_is}
-use Rattle.encoding.proofs.Parts.{assumed_everywhere, parts_are, parts_over, types_many}
-use Rattle.encoding.proofs.PartsFlat.{append-forms, extended_flat}
-use Rattle.purse.proofs.Tracing.{next-assoc}
+use Rattle.form_typed.specs.declared.typed.Sort.{Sort}
+use Rattle.form_encoding.specs.Encoding.{bounds, encoded, all_encoded}
+use Rattle.form_encoding.specs.Extent.{Extent, measured, all_measured, above, beside, behind_atoms, nothing, extent, extents}
+use Rattle.form_encoding.specs.Meaning.{AreTypedIn}
+use Rattle.form_encoding.specs.Occurrences.{occurs}
+use Rattle.form_encoding.specs.Root.{conditions, names_from}
+use Rattle.form_encoding.specs.Problems.{append, assumed_form, constants, extended, parts_root, types, is_large}
+use Rattle.form_encoding.proofs.Measuring.{measured-more, measured-junction, measured-nothing}
+use Rattle.form_encoding.proofs.Extents.{extent_is}
+use Rattle.form_encoding.proofs.Parts.{assumed_everywhere, parts_are, parts_over, types_many}
+use Rattle.form_encoding.proofs.PartsFlat.{append-forms, extended_flat}
+use Rattle.base_budget.proofs.Tracing.{next-assoc}
 use Rattle.formula.proofs.Making.{made_ok, made_err}
 use Rattle.function_encoding.specs.Bounds.{extents_before, kept_bounds}
 use Rattle.function_encoding.specs.Encoded.{all_assumed, all_signed, is_in}

@@ -1,9 +1,9 @@
 -- Instructions behind others.
 use Rattle.std.proofs.Common.{◌≡◌, ℕ, suc, Bool, ◌+◌, ◌<◌, ◌≤◌, List, [], ◌∷◌, ◌++◌, length, get_or, drop, Result, Ok, Err, OnOk, refl, sym, ap, ◌∙◌, subst, arith}
 use Rattle.std.proofs.lemmas.List.{append-nil}
-use Rattle.typed_formula.specs.declared.typed.TypedTerm.{TypedTerm}
-use Rattle.typed_formula.specs.Formula.{Expression, expression, expressions_of}
-use Rattle.purse.proofs.Charging.{drop-item, drop_all}
+use Rattle.form_typed.specs.declared.typed.TypedTerm.{TypedTerm}
+use Rattle.form_typed.specs.Formula.{Expression, expression, expressions_of}
+use Rattle.base_budget.proofs.Charging.{drop-item, drop_all}
 use Rattle.pri_typing.specs.WellFormed.{size}
 use Rattle.function_encoding.specs.Actions.{Action, add, compiled, compiled_all, compiled_more}
 use Rattle.function_encoding.specs.Instructions.{FollowsActions, actions_of}

@@ -1,21 +1,21 @@
 -- The encoding of formulas, one after another, and the room that each has.
 use Rattle.std.proofs.Common.{◌≡◌, ℕ, zero, suc, ◌+◌, ◌<◌, ◌≤◌, Bool, List, [], ◌∷◌, ◌++◌, map, reverse, length, drop, get_or, Result, Ok, Err, IsErrAnd, refl, sym, ap, ◌∙◌, subst, arith}
 use Rattle.linear_term.specs.declared.range.TermFault.{TermFault}
-use Rattle.typed_formula.specs.declared.typed.Typed.{Typed}
+use Rattle.form_typed.specs.declared.typed.Typed.{Typed}
 use Rattle.linear_term.specs.Linear.{Linear}
-use Rattle.typed_formula.specs.declared.typed.Relation.{Relation}
-use Rattle.typed_formula.specs.Formula.{Formula, formula, Formulas, formulas_of, no_formula, and_formula, Expression, Expressions, compares, applies}
+use Rattle.form_typed.specs.declared.typed.Relation.{Relation}
+use Rattle.form_typed.specs.Formula.{Formula, formula, Formulas, formulas_of, no_formula, and_formula, Expression, Expressions, compares, applies}
 use Rattle.pri_typing.specs.WellFormed.{size}
-use Rattle.purse.specs.Trace.{Traced, just, next}
-use Rattle.purse.proofs.Charging.{Left, left_all, drop-item, drop_all}
-use Rattle.purse.proofs.Tracing.{next-assoc, next-just, just-next}
+use Rattle.base_budget.specs.Trace.{Traced, just, next}
+use Rattle.base_budget.proofs.Charging.{Left, left_all, drop-item, drop_all}
+use Rattle.base_budget.proofs.Tracing.{next-assoc, next-just, just-next}
 use Rattle.formula.specs.declared.calculus.Core.{Core}
 use Rattle.formula.specs.Form.{Form, Forms, no_form, and_form, forms}
 use Rattle.formula.specs.Tree.{form, forms_of}
 use Rattle.formula.specs.Made.{Made, seen}
 use Rattle.formula.proofs.Making.{made_just, left_done, pushed}
-use Rattle.encoding.specs.Encoding.{encoded, all_encoded, signed_relation}
-use Rattle.encoding.specs.Extent.{Extent, above, above_two, beside, nothing, behind_atoms, restricted_extent, in_both, extent, extents, extent_with}
+use Rattle.form_encoding.specs.Encoding.{encoded, all_encoded, signed_relation}
+use Rattle.form_encoding.specs.Extent.{Extent, above, above_two, beside, nothing, behind_atoms, restricted_extent, in_both, extent, extents, extent_with}
 use Rattle.function_encoding.specs.Actions.{Action, relate, predicate, ran, compiled, compiled_all}
 use Rattle.function_encoding.specs.Ranged.{HasRangedNumbers, HaveRangedNumbers}
 use Rattle.function_encoding.specs.Room.{HasNamesLeft, AreActionsRanged, extent_left}

@@ -1,11 +1,11 @@
 -- The extents of several formulas and behind several terms, from the last one back.
 use Rattle.std.proofs.Common.{◌≡◌, ℕ, ◌+◌, ◌<◌, ◌≤◌, List, drop, length, get_or, sym, ap, ◌∙◌}
-use Rattle.typed_formula.specs.declared.typed.Typed.{Typed}
-use Rattle.typed_formula.specs.declared.typed.TypedTerm.{TypedTerm}
-use Rattle.typed_formula.specs.Formula.{formula, formulas_of, expression, expressions_of}
-use Rattle.purse.proofs.Charging.{drop-item, drop_all}
-use Rattle.encoding.specs.Extent as extents
-use Rattle.encoding.specs.Extent.{Extent, beside, nothing, extent, extent_with, extents_with}
+use Rattle.form_typed.specs.declared.typed.Typed.{Typed}
+use Rattle.form_typed.specs.declared.typed.TypedTerm.{TypedTerm}
+use Rattle.form_typed.specs.Formula.{formula, formulas_of, expression, expressions_of}
+use Rattle.base_budget.proofs.Charging.{drop-item, drop_all}
+use Rattle.form_encoding.specs.Extent as extents
+use Rattle.form_encoding.specs.Extent.{Extent, beside, nothing, extent, extent_with, extents_with}
 
 -- nothing is behind the last one
 pub extents_end : (fs : List Typed) (i : ℕ) → length fs ≤ i → nothing ≡ extents.extents (formulas_of (drop i fs))

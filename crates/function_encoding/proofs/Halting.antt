@@ -3,10 +3,10 @@ use Rattle.std.proofs.Common.{◌≡◌, ℕ, ◌+◌, ◌<◌, ◌≤◌, true,
 use Rattle.linear_term.specs.Linear.{Linear}
 use Rattle.linear_term.specs.declared.range.TermFault.{TermFault}
 use Rattle.linear_term.specs.declared.range.TermFault.TheVariants as term_fault
-use Rattle.purse.specs.declared.fault.StepFault.{StepFault}
-use Rattle.purse.specs.Trace.{Traced, next}
-use Rattle.purse.specs.Work.{Worked, step_fault_of}
-use Rattle.purse.proofs.Charging.{work_ok, drop-item, drop_all}
+use Rattle.base_budget.specs.declared.fault.StepFault.{StepFault}
+use Rattle.base_budget.specs.Trace.{Traced, next}
+use Rattle.base_budget.specs.Work.{Worked, step_fault_of}
+use Rattle.base_budget.proofs.Charging.{work_ok, drop-item, drop_all}
 use Rattle.formula.specs.Form.{Form}
 use Rattle.formula.specs.Made.{Made}
 use Rattle.formula.specs.Tree.{form}

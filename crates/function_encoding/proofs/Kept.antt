@@ -2,20 +2,20 @@
 use Rattle.std.proofs.Common.{◌≡◌, ℕ, zero, suc, ◌+◌, ◌<◌, ◌≤◌, Bool, true, false, cond, List, [], ◌∷◌, ◌++◌, map, length, drop, get_or, Result, Ok, IsErrAnd, All, refl, sym, ap, ◌∙◌, subst, append_assoc, append-nil, length-append, arith}
 use Rattle.std.proofs.lemmas.List.Elements.{All-get_or}
 use Rattle.linear_term.specs.declared.range.TermFault.{TermFault}
-use Rattle.typed_formula.specs.declared.typed.Sort.{Sort}
-use Rattle.typed_formula.specs.Sorts.{IsSortRanged}
-use Rattle.purse.specs.Trace.{Traced, Event, just, next}
-use Rattle.purse.proofs.Charging.{Left, left_all, drop-item, drop_all}
-use Rattle.purse.proofs.Tracing.{just-next, next-assoc}
+use Rattle.form_typed.specs.declared.typed.Sort.{Sort}
+use Rattle.form_typed.specs.Sorts.{IsSortRanged}
+use Rattle.base_budget.specs.Trace.{Traced, Event, just, next}
+use Rattle.base_budget.proofs.Charging.{Left, left_all, drop-item, drop_all}
+use Rattle.base_budget.proofs.Tracing.{just-next, next-assoc}
 use Rattle.formula.specs.declared.calculus.Core.{Core}
 use Rattle.formula.specs.Form.{Form, Forms, forms}
 use Rattle.formula.specs.Tree.{form}
 use Rattle.formula.specs.Made.{Made}
 use Rattle.formula.proofs.Making.{made_just, left_made, left_err, left_done}
-use Rattle.encoding.specs.Encoding.{SortBound, bounds, limits}
-use Rattle.encoding.specs.Extent.{Extent, beside, leaf, nothing, above, behind_atoms, restricted_extent, measured, all_measured}
-use Rattle.encoding.specs.Root.{conditions}
-use Rattle.encoding.proofs.Bounding.{measured-limits}
+use Rattle.form_encoding.specs.Encoding.{SortBound, bounds, limits}
+use Rattle.form_encoding.specs.Extent.{Extent, beside, leaf, nothing, above, behind_atoms, restricted_extent, measured, all_measured}
+use Rattle.form_encoding.specs.Root.{conditions}
+use Rattle.form_encoding.proofs.Bounding.{measured-limits}
 use Rattle.function_encoding.specs.Bounds.{kept_bounds}
 
 -- the conditions of one name, where it is kept

@@ -2,20 +2,20 @@
 use Rattle.std.proofs.Common.{◌≡◌, ◌+◌, ◌≤◌, ◌<◌, ℕ, zero, suc, Bool, true, false, ◌||◌, nat_lt, List, [], ◌∷◌, ◌++◌, length, drop, get_or, refl, sym, ap, ◌∙◌, arith}
 use Rattle.std.specs.List.{list_any}
 use Rattle.std.proofs.lemmas.Grind.{common_steps}
-use Rattle.typed_formula.specs.declared.typed.Sort.{Sort}
-use Rattle.typed_formula.specs.Formula.{formula}
+use Rattle.form_typed.specs.declared.typed.Sort.{Sort}
+use Rattle.form_typed.specs.Formula.{formula}
 use Rattle.pri_typing.specs.declared.problem.Problem.{Problem}
-use Rattle.purse.specs.Trace.{Traced, just, next, capped}
-use Rattle.purse.proofs.Charging.{drop-item, drop_all}
+use Rattle.base_budget.specs.Trace.{Traced, just, next, capped}
+use Rattle.base_budget.proofs.Charging.{drop-item, drop_all}
 use Rattle.formula.specs.Form.{Form, Forms, forms, no_form}
 use Rattle.formula.specs.Sizes.{size, depth}
-use Rattle.encoding.specs.Encoding.{bounds, restricted}
-use Rattle.encoding.specs.Root.{conditions, for_last, names_from}
-use Rattle.encoding.specs.Extent.{Extent, beside, leaf, nothing, above, behind_atoms, restricted_extent, measured, all_measured, extent}
-use Rattle.encoding.specs.Problems.{constants, body, problem_root, is_large}
-use Rattle.encoding.proofs.Bounding.{measured-bound}
-use Rattle.encoding.proofs.Measuring.{measured-more, measured-junction, measured-nothing}
-use Rattle.encoding.proofs.Extents.{extent_is}
+use Rattle.form_encoding.specs.Encoding.{bounds, restricted}
+use Rattle.form_encoding.specs.Root.{conditions, for_last, names_from}
+use Rattle.form_encoding.specs.Extent.{Extent, beside, leaf, nothing, above, behind_atoms, restricted_extent, measured, all_measured, extent}
+use Rattle.form_encoding.specs.Problems.{constants, body, problem_root, is_large}
+use Rattle.form_encoding.proofs.Bounding.{measured-bound}
+use Rattle.form_encoding.proofs.Measuring.{measured-more, measured-junction, measured-nothing}
+use Rattle.form_encoding.proofs.Extents.{extent_is}
 use Rattle.function_encoding.specs.Bounds.{kept_bounds, below_types}
 use Rattle.function_encoding.proofs.Kept.{conditions_measured, conditions_many}
 

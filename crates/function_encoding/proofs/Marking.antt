@@ -4,18 +4,18 @@ use Rattle.std.specs.List.{filter, flat_map, list_any}
 use Rattle.std.proofs.Math.Seq.{take-append_seam}
 use Rattle.std.proofs.lemmas.Bool.Decides.{nat_tests}
 use Rattle.std.proofs.lemmas.List.{length-replicate, length-set, get_or-set_same, get_or-set_other, get_or-replicate}
-use Rattle.typed_formula.specs.declared.typed.Relation.{Relation}
-use Rattle.typed_formula.specs.declared.typed.Typed.{Typed}
-use Rattle.typed_formula.specs.declared.typed.Typed.TheVariants as f
-use Rattle.typed_formula.specs.declared.typed.TypedTerm.TheVariants as e
-use Rattle.typed_formula.specs.declared.typed.TypedTerm.{TypedTerm}
-use Rattle.typed_formula.specs.Formula.{formula, formulas, formulas_of, expression, expressions_of, negation}
-use Rattle.typed_formula.proofs.Folds.{formula-Iff, formula-Implies, formula-Rel, expression-If, expression-Max, expression-Min, expression-Product}
+use Rattle.form_typed.specs.declared.typed.Relation.{Relation}
+use Rattle.form_typed.specs.declared.typed.Typed.{Typed}
+use Rattle.form_typed.specs.declared.typed.Typed.TheVariants as f
+use Rattle.form_typed.specs.declared.typed.TypedTerm.TheVariants as e
+use Rattle.form_typed.specs.declared.typed.TypedTerm.{TypedTerm}
+use Rattle.form_typed.specs.Formula.{formula, formulas, formulas_of, expression, expressions_of, negation}
+use Rattle.form_typed.proofs.Folds.{formula-Iff, formula-Implies, formula-Rel, expression-If, expression-Max, expression-Min, expression-Product}
 use Rattle.pri_typing.specs.declared.problem.Problem.{Problem}
 use Rattle.pri_typing.specs.Problems.{assumed, assumed_by, is_part_in}
 use Rattle.pri_typing.specs.WellFormed.{SignedFormula, all_formula_components, components_of, formula_components}
-use Rattle.encoding.specs.Problems.{constants}
-use Rattle.encoding.specs.Occurrences.{names_in, names_in_all, names_in_term, names_in_terms}
+use Rattle.form_encoding.specs.Problems.{constants}
+use Rattle.form_encoding.specs.Occurrences.{names_in, names_in_all, names_in_term, names_in_terms}
 use Rattle.function_encoding.specs.Marks.{AreMarks, is_marked, marked, names_of_parts, with_mark}
 
 pub marked-append : (marks : List Bool) (xs ys : List ℕ) → marked marks (xs ++ ys) ≡ marked (marked marks xs) ys

@@ -1,6 +1,6 @@
 -- Members of sums, one at a time.
 use Rattle.std.proofs.Common.{◌≡◌, ◌≤◌, List, ◌∷◌, refl, arith}
-use Rattle.typed_formula.specs.Formula.{Expression, Expressions, number, name, call, minus, total, product, choice, absolute, lesser, greater, and_expression}
+use Rattle.form_typed.specs.Formula.{Expression, Expressions, number, name, call, minus, total, product, choice, absolute, lesser, greater, and_expression}
 use Rattle.function_encoding.specs.Members.{is_subtracted, without_minus}
 use Rattle.function_encoding.specs.Actions.{Action, add, compiled, compiled_more}
 use Rattle.function_encoding.specs.Weight.{weight_of}

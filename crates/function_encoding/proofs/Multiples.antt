@@ -6,11 +6,11 @@ use Rattle.linear_term.specs.Range.{all_stay, IsCause}
 use Rattle.linear_term.specs.Combination.{combination, raw_numbers}
 use Rattle.linear_term.specs.declared.range.TermFault.{TermFault}
 use Rattle.linear_term.specs.declared.range.TermFault.TheVariants as term_fault
-use Rattle.purse.specs.declared.fault.StepFault.TheVariants as step_fault
-use Rattle.purse.specs.Trace.{combining}
-use Rattle.purse.proofs.Charging.{raw_ok, raw_leaves, work_memory}
+use Rattle.base_budget.specs.declared.fault.StepFault.TheVariants as step_fault
+use Rattle.base_budget.specs.Trace.{combining}
+use Rattle.base_budget.proofs.Charging.{raw_ok, raw_leaves, work_memory}
 use Rattle.formula.specs.Made.{Made}
-use Rattle.encoding.specs.Encoding.{multiple, named}
+use Rattle.form_encoding.specs.Encoding.{multiple, named}
 
 combination_made : (k : ℤ) (t u : Linear) (r : Result Linear TermFault) → IfOk r (λ x. x ≡ combination k t (pos 0) u) → OnOk r (all_stay (raw_numbers k t (pos 0) u) ≡ true)
     → IfErr r (λ fault. IsCause fault (raw_numbers k t (pos 0) u)) → Made (λ x. x) (combining k t (pos 0) u) r

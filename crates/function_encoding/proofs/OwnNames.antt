@@ -1,7 +1,7 @@
 -- Names in their order, one more at a time.
 use Rattle.std.proofs.Common.{◌≡◌, ℕ, suc, ◌+◌, ◌-◌, ◌<◌, ◌≤◌, List, [], ◌∷◌, ◌++◌, sym, ap, ◌∙◌, append_assoc, arith}
 use Rattle.std.proofs.lemmas.List.{append-nil}
-use Rattle.encoding.specs.Root.{names_from}
+use Rattle.form_encoding.specs.Root.{names_from}
 
 names_next : (x n : ℕ) → x < n → names_from x (n - x) ≡ x ∷ names_from (x + 1) (n - (x + 1))
 names_next x n lt =

@@ -2,8 +2,8 @@
 use Rattle.std.proofs.Common.{◌≡◌, Bool, true, false, cond, List, [], ◌∷◌, ◌++◌, Result, ap, ◌∙◌, subst, append_assoc, append-nil}
 use Rattle.linear_term.specs.declared.range.TermFault.{TermFault}
 use Rattle.linear_term.specs.Linear.{Linear}
-use Rattle.purse.specs.Trace.{Event, Traced, just, next}
-use Rattle.purse.proofs.Tracing.{next-just}
+use Rattle.base_budget.specs.Trace.{Event, Traced, just, next}
+use Rattle.base_budget.proofs.Tracing.{next-just}
 use Rattle.formula.specs.declared.calculus.Core.{Core}
 use Rattle.formula.specs.Form.{Form, forms, conjunction, disjunction}
 use Rattle.formula.specs.Made.{Made}

@@ -1,9 +1,9 @@
 -- What the actions of a term keep: how large the result is, numbers in the range, and how much work is left.
 use Rattle.std.proofs.Common.{◌≡◌, ◌+◌, ◌≤◌, true, false, List, ◌∷◌, refl, ap, ◌∙◌, arith}
-use Rattle.typed_formula.specs.declared.typed.Relation.TheVariants.{Leq, Geq}
-use Rattle.typed_formula.specs.Formula.{Expression, Expressions, number, name, call, minus, total, product, choice, absolute, lesser, greater, no_expression, and_expression}
+use Rattle.form_typed.specs.declared.typed.Relation.TheVariants.{Leq, Geq}
+use Rattle.form_typed.specs.Formula.{Expression, Expressions, number, name, call, minus, total, product, choice, absolute, lesser, greater, no_expression, and_expression}
 use Rattle.pri_typing.specs.WellFormed.{is_numeric, size}
-use Rattle.encoding.specs.Extent.{extent_with, extents_with}
+use Rattle.form_encoding.specs.Extent.{extent_with, extents_with}
 use Rattle.function_encoding.specs.Actions.{Action, apply, negate, multiply, add, choose, take_absolute, take_extreme, compiled, compiled_all, compiled_sum, compiled_more}
 use Rattle.function_encoding.specs.Ranged.{IsTermRanged, AreTermsRanged}
 use Rattle.function_encoding.specs.Room.{extent_left, AreActionsRanged}

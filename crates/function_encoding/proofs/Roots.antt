@@ -3,10 +3,10 @@ use Rattle.std.proofs.Common.{◌≡◌, ◌↔◌, ℕ, suc, ◌+◌, ◌≤◌
 use Rattle.std.proofs.lemmas.Grind.{common_steps}
 use Rattle.linear_term.specs.declared.range.TermFault.{TermFault}
 use Rattle.linear_term.specs.declared.range.TermFault.TheVariants as term_fault
-use Rattle.typed_formula.specs.Formula.{Formula, Formulas, Expression, Expressions, formula, constant, compares, applies, negation, every, some, implies, iff, for_all, for_some, part, no_formula, and_formula, number, name, call, minus, total, product, choice, absolute, lesser, greater, no_expression, and_expression}
-use Rattle.typed_formula.specs.Truth.{Meaning}
-use Rattle.purse.specs.Trace.{Traced, just, next, capped}
-use Rattle.purse.proofs.Charging.{worked_value}
+use Rattle.form_typed.specs.Formula.{Formula, Formulas, Expression, Expressions, formula, constant, compares, applies, negation, every, some, implies, iff, for_all, for_some, part, no_formula, and_formula, number, name, call, minus, total, product, choice, absolute, lesser, greater, no_expression, and_expression}
+use Rattle.form_typed.specs.Truth.{Meaning}
+use Rattle.base_budget.specs.Trace.{Traced, just, next, capped}
+use Rattle.base_budget.proofs.Charging.{worked_value}
 use Rattle.pri_typing.specs.declared.problem.Problem.{Problem}
 use Rattle.pri_typing.specs.Everywhere.{Everywhere, AllEverywhere, TermEverywhere, TermsEverywhere}
 use Rattle.pri_typing.specs.Problems.{Holds, IsPure}
@@ -16,13 +16,13 @@ use Rattle.formula.specs.Form.{Form, FormTruth, IsFormOver, is_pure}
 use Rattle.formula.specs.Made.{Made}
 use Rattle.formula.specs.Sizes.{size, depth}
 use Rattle.formula.specs.Tree.{form}
-use Rattle.encoding.specs.Extent.{Extent, measured, extent, restricted_extent}
+use Rattle.form_encoding.specs.Extent.{Extent, measured, extent, restricted_extent}
 use Rattle.function_encoding.specs.Bounds.{kept_bounds, below_types}
-use Rattle.typed_formula.specs.declared.typed.Sort.{Sort}
-use Rattle.encoding.specs.Problems.{body, constants, problem_root, is_large}
-use Rattle.encoding.specs.Root.{conditions, for_last}
+use Rattle.form_typed.specs.declared.typed.Sort.{Sort}
+use Rattle.form_encoding.specs.Problems.{body, constants, problem_root, is_large}
+use Rattle.form_encoding.specs.Root.{conditions, for_last}
 use Rattle.function_encoding.proofs.Bounding.{alone}
-use Rattle.encoding.proofs.Problems.{holds_is, pure_is, root_over}
+use Rattle.form_encoding.proofs.Problems.{holds_is, pure_is, root_over}
 use Rattle.function_encoding.specs.Encoded.{Encodes}
 use Rattle.function_encoding.specs.Ranged.{HasRangedNumbers, HaveRangedNumbers, IsTermRanged, AreTermsRanged}
 use Rattle.function_encoding.specs.Refusals.{refusal_of}

@@ -4,14 +4,14 @@ use Rattle.std.proofs.lemmas.List.{reverse-append, reverse-reverse, length-rever
 use Rattle.std.proofs.Math.Seq.{take-append_seam, drop-append_seam}
 use Rattle.linear_term.specs.Linear as linear
 use Rattle.linear_term.specs.Linear.{Linear}
-use Rattle.typed_formula.specs.declared.typed.Relation.{Relation}
-use Rattle.typed_formula.specs.declared.typed.Relation.TheVariants.{Leq, Geq, Lt, Gt}
-use Rattle.typed_formula.specs.Formula.{Expression, Expressions, compares, applies, number, name, call, minus, total, product, choice, absolute, lesser, greater, no_expression, and_expression}
-use Rattle.purse.specs.Trace.{Traced, just, next, combining}
-use Rattle.purse.proofs.Tracing.{next-assoc, next-just}
+use Rattle.form_typed.specs.declared.typed.Relation.{Relation}
+use Rattle.form_typed.specs.declared.typed.Relation.TheVariants.{Leq, Geq, Lt, Gt}
+use Rattle.form_typed.specs.Formula.{Expression, Expressions, compares, applies, number, name, call, minus, total, product, choice, absolute, lesser, greater, no_expression, and_expression}
+use Rattle.base_budget.specs.Trace.{Traced, just, next, combining}
+use Rattle.base_budget.proofs.Tracing.{next-assoc, next-just}
 use Rattle.pri_typing.specs.WellFormed.{is_numeric, size}
 use Rattle.formula.specs.Form.{Form, holds, fails}
-use Rattle.encoding.specs.Encoding.{named, multiple, product_of, related, signed_relation, cases, encoded, with_value, with_values, with_sum, with_more}
+use Rattle.form_encoding.specs.Encoding.{named, multiple, product_of, related, signed_relation, cases, encoded, with_value, with_values, with_sum, with_more}
 use Rattle.function_encoding.specs.Actions.{Action, negate, multiply, add, apply, choose, take_absolute, take_extreme, relate, predicate, behind, ran, compiled, compiled_all, compiled_sum, compiled_more}
 
 -- a term that is put on the stack, for the rest

@@ -4,13 +4,13 @@
 use Rattle.std.specs.Prelude.{ℕ, suc, ℤ, pos, negsuc, Bool, true, false, cond, List, [], ◌∷◌, reverse, take, drop}
 use Rattle.linear_term.specs.Linear as linear
 use Rattle.linear_term.specs.Linear.{Linear}
-use Rattle.typed_formula.specs.declared.typed.Relation.{Relation}
-use Rattle.typed_formula.specs.declared.typed.Relation.TheVariants.{Leq, Geq}
-use Rattle.typed_formula.specs.Formula.{Formula, Expression, Expressions, number, name, call, minus, total, product, choice, absolute, lesser, greater, no_expression, and_expression}
-use Rattle.purse.specs.Trace.{Traced, just, next}
+use Rattle.form_typed.specs.declared.typed.Relation.{Relation}
+use Rattle.form_typed.specs.declared.typed.Relation.TheVariants.{Leq, Geq}
+use Rattle.form_typed.specs.Formula.{Formula, Expression, Expressions, number, name, call, minus, total, product, choice, absolute, lesser, greater, no_expression, and_expression}
+use Rattle.base_budget.specs.Trace.{Traced, just, next}
 use Rattle.pri_typing.specs.WellFormed.{is_numeric, size}
 use Rattle.formula.specs.Form.{Form, holds, fails, differs, conjunction, disjunction, universal, no_form, forms}
-use Rattle.encoding.specs.Encoding.{named, multiple, product_of, related, signed_relation, cases, encoded}
+use Rattle.form_encoding.specs.Encoding.{named, multiple, product_of, related, signed_relation, cases, encoded}
 use Rattle.function_encoding.specs.Members.{added}
 
 -- A number, or the term of a name, comes onto the stack; the last term gives way to its negative; the last two give way

@@ -1,10 +1,10 @@
 -- Bounds of types in the code, and conditions of several names.
 use Rattle.std.specs.Prelude.{ℕ, zero, suc, ℤ, ◌+◌, Bool, true, false, cond, List, [], ◌∷◌, length}
-use Rattle.typed_formula.specs.declared.typed.Sort.{Sort}
-use Rattle.encoding.specs.Encoding as encoding
-use Rattle.encoding.specs.Encoding.{SortBound, bounds}
-use Rattle.encoding.specs.Extent.{Extent, above, beside, extent, restricted_extent}
-use Rattle.typed_formula.specs.Formula.{Formulas, no_formula, and_formula}
+use Rattle.form_typed.specs.declared.typed.Sort.{Sort}
+use Rattle.form_encoding.specs.Encoding as encoding
+use Rattle.form_encoding.specs.Encoding.{SortBound, bounds}
+use Rattle.form_encoding.specs.Extent.{Extent, above, beside, extent, restricted_extent}
+use Rattle.form_typed.specs.Formula.{Formulas, no_formula, and_formula}
 
 -- n as the greatest value of a type, or else as the least
 abbrev pub bound_of : Bool → ℤ → SortBound

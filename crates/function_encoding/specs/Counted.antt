@@ -1,5 +1,5 @@
 -- An extent as the code has it.
-use Rattle.encoding.specs.Extent as spec
+use Rattle.form_encoding.specs.Extent as spec
 use Rattle.function_encoding.specs.declared.counting.Extent.{Extent}
 
 abbrev pub counted : Extent → spec.Extent

@@ -1,15 +1,15 @@
 -- What a call that encodes answers, and the components of which parts are made.
 use Rattle.std.specs.Prelude.{◌≡◌, ℕ, Bool, true, false, List, map, Result, Ok, Err}
 use Rattle.linear_term.specs.declared.range.TermFault.TheVariants as term_fault
-use Rattle.typed_formula.specs.Formula.{Formulas, formula, formulas}
-use Rattle.purse.specs.Trace.{Traced}
+use Rattle.form_typed.specs.Formula.{Formulas, formula, formulas}
+use Rattle.base_budget.specs.Trace.{Traced}
 use Rattle.pri_typing.specs.Problems.{assumed, is_part_in}
 use Rattle.pri_typing.specs.WellFormed.{SignedFormula}
 use Rattle.formula.specs.declared.calculus.Core.{Core}
 use Rattle.formula.specs.Form.{Form}
 use Rattle.formula.specs.Made.{Made}
 use Rattle.formula.specs.Tree.{form}
-use Rattle.encoding.specs.Problems.{is_large}
+use Rattle.form_encoding.specs.Problems.{is_large}
 use Rattle.function_encoding.specs.declared.answer.Encoded.{Encoded}
 use Rattle.function_encoding.specs.declared.answer.EncodeRefusal.{EncodeRefusal}
 use Rattle.function_encoding.specs.declared.answer.EncodeRefusal.TheVariants.{Large, Overflow, Memory}

@@ -1,6 +1,6 @@
 -- The instructions of the code as actions.
 use Rattle.std.specs.Prelude.{List, ◌++◌, ◌≡◌, map}
-use Rattle.typed_formula.specs.Formula.{formula}
+use Rattle.form_typed.specs.Formula.{formula}
 use Rattle.function_encoding.specs.Actions.{Action, put_number, put_name, negate, multiply, add, apply, choose, take_absolute, take_extreme, relate, predicate}
 use Rattle.function_encoding.specs.declared.instruction.Instruction.{Instruction}
 use Rattle.function_encoding.specs.declared.instruction.Instruction.TheVariants as code

@@ -1,10 +1,10 @@
 -- Marks for some names.
 use Rattle.std.specs.Prelude.{◌≡◌, ◌<◌, ℕ, Bool, true, false, List, [], ◌∷◌, length}
 use Rattle.std.specs.List.{filter, flat_map, slice_index_or, slice_set}
-use Rattle.typed_formula.specs.Formula.{Formula}
+use Rattle.form_typed.specs.Formula.{Formula}
 use Rattle.pri_typing.specs.Problems.{is_part_in}
 use Rattle.pri_typing.specs.WellFormed.{SignedFormula}
-use Rattle.encoding.specs.Occurrences.{names_in, occurs}
+use Rattle.form_encoding.specs.Occurrences.{names_in, occurs}
 
 -- the names in those components that are parts of this set
 abbrev pub names_of_parts : List ℕ → List SignedFormula → List ℕ

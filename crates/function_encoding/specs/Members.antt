@@ -1,8 +1,8 @@
 -- Tests of terms, and the members of a sum.
 use Rattle.std.specs.Prelude.{Bool, true, false, pos, negsuc, cond}
 use Rattle.linear_term.specs.Linear.{Linear}
-use Rattle.typed_formula.specs.Formula.{Expression, minus}
-use Rattle.purse.specs.Trace.{Traced, combining}
+use Rattle.form_typed.specs.Formula.{Expression, minus}
+use Rattle.base_budget.specs.Trace.{Traced, combining}
 
 -- a member of a sum with a minus before it is subtracted
 abbrev pub is_subtracted : Expression → Bool

@@ -1,7 +1,7 @@
 -- Formulas and terms all of whose numbers, also those in types, are coefficients.
 use Rattle.linear_term.specs.Range.{InRange}
-use Rattle.typed_formula.specs.Sorts.{IsSortRanged}
-use Rattle.typed_formula.specs.Formula.{Formula, Formulas, Expression, Expressions, constant, compares, applies, negation, every, some, implies, iff, for_all, for_some, part, no_formula, and_formula, number, name, call, minus, total, product, choice, absolute, lesser, greater, no_expression, and_expression}
+use Rattle.form_typed.specs.Sorts.{IsSortRanged}
+use Rattle.form_typed.specs.Formula.{Formula, Formulas, Expression, Expressions, constant, compares, applies, negation, every, some, implies, iff, for_all, for_some, part, no_formula, and_formula, number, name, call, minus, total, product, choice, absolute, lesser, greater, no_expression, and_expression}
 
 abbrev mutual
   pub HasRangedNumbers : Formula → Type 0

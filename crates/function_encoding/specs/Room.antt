@@ -1,8 +1,8 @@
 -- What a call of the encoder is sure of: numbers in the range, and names that are left to bind.
 use Rattle.std.specs.Prelude.{ℕ, ◌+◌, ◌^◌, ◌<◌, List, [], ◌∷◌}
 use Rattle.linear_term.specs.Range.{InRange}
-use Rattle.encoding.specs.Extent as extents
-use Rattle.encoding.specs.Extent.{leaf, in_both, above, above_two, extent}
+use Rattle.form_encoding.specs.Extent as extents
+use Rattle.form_encoding.specs.Extent.{leaf, in_both, above, above_two, extent}
 use Rattle.function_encoding.specs.Actions.{Action, put_number, apply, choose, take_absolute, take_extreme, relate, predicate}
 use Rattle.function_encoding.specs.Ranged.{HasRangedNumbers}
 

@@ -2,14 +2,14 @@
 use Rattle.std.specs.Prelude.{ℕ, ◌+◌, suc, ◌≤◌, ◌≡◌, Bool, cond, List, ◌∷◌, reverse, Result}
 use Rattle.linear_term.specs.Linear as linear
 use Rattle.linear_term.specs.Linear.{Linear}
-use Rattle.typed_formula.specs.Formula.{formula}
-use Rattle.purse.specs.declared.fault.StepFault.{StepFault}
-use Rattle.purse.specs.Trace.{Traced, just, next}
-use Rattle.purse.specs.Work.{Worked}
+use Rattle.form_typed.specs.Formula.{formula}
+use Rattle.base_budget.specs.declared.fault.StepFault.{StepFault}
+use Rattle.base_budget.specs.Trace.{Traced, just, next}
+use Rattle.base_budget.specs.Work.{Worked}
 use Rattle.formula.specs.Form.{Form, holds, fails, conjunction, no_form}
-use Rattle.encoding.specs.Encoding.{related, signed_relation, encoded}
-use Rattle.encoding.specs.Extent as extents
-use Rattle.encoding.specs.Extent.{leaf, in_both, above, above_two, extent}
+use Rattle.form_encoding.specs.Encoding.{related, signed_relation, encoded}
+use Rattle.form_encoding.specs.Extent as extents
+use Rattle.form_encoding.specs.Extent.{leaf, in_both, above, above_two, extent}
 use Rattle.function_encoding.specs.Actions.{Action, parted, behind, ran}
 use Rattle.function_encoding.specs.Ranged.{HasRangedNumbers}
 use Rattle.function_encoding.specs.Room.{extent_left, AreActionsRanged}

@@ -2,7 +2,7 @@
 
 ghost use Rattle.std.specs.Prelude.{◌≡◌, [], ◌∷◌, reverse};
 ghost use Rattle.formula.specs.Made.{Made};
-ghost use Rattle.encoding.specs.Encoding.{product_of};
+ghost use Rattle.form_encoding.specs.Encoding.{product_of};
 ghost use Rattle.function_encoding.specs.Actions as stacks;
 ghost use Rattle.function_encoding.specs.Actions.{joined, top, under};
 ghost use Rattle.function_encoding.specs.Instructions.{action_of};

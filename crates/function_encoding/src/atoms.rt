@@ -3,11 +3,11 @@
 ghost use Rattle.std.specs.Prelude.{◌≡◌, pos, negsuc};
 ghost use Rattle.formula.specs.Made.{Made};
 ghost use Rattle.formula.specs.Tree.{form};
-ghost use Rattle.encoding.specs.Encoding as encoding;
-ghost use Rattle.purse.specs.Trace.{combining};
+ghost use Rattle.form_encoding.specs.Encoding as encoding;
+ghost use Rattle.base_budget.specs.Trace.{combining};
 ghost use Rattle.linear_term.specs.Linear as linear;
 ghost use Rattle.function_encoding.specs.Members.{added};
-ghost use Rattle.typed_formula.specs.declared.typed.Relation.TheVariants.{Eq, Neq, Gt, Geq};
+ghost use Rattle.form_typed.specs.declared.typed.Relation.TheVariants.{Eq, Neq, Gt, Geq};
 
 use formula::{Core, Relation};
 use linear_term::{Term, TermFault};

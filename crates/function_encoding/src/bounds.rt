@@ -2,20 +2,20 @@
 
 ghost use Rattle.std.specs.Prelude.{◌≡◌, ◌∷◌, [], ◌++◌, cond, pos, negsuc, IfOk, map};
 ghost use Rattle.linear_term.specs.Linear as linear;
-ghost use Rattle.purse.specs.Trace.{combining, just, next};
-ghost use Rattle.typed_formula.specs.Sorts.{IsSortRanged};
+ghost use Rattle.base_budget.specs.Trace.{combining, just, next};
+ghost use Rattle.form_typed.specs.Sorts.{IsSortRanged};
 ghost use Rattle.formula.specs.Made.{Made};
 ghost use Rattle.formula.specs.Tree.{form};
-ghost use Rattle.encoding.specs.Encoding as encoding;
+ghost use Rattle.form_encoding.specs.Encoding as encoding;
 ghost use Rattle.linear_term.specs.Range.{InRange};
 ghost use Rattle.function_encoding.specs.Bounds.{bound_of};
 
 use crate::building::{junction, quantified};
+use form_typed::Sort;
 use formula::Core;
 use linear_term::{Memory, Term, TermFault};
 use sqlite_items::Items;
 use std::alloc::Global;
-use typed_formula::Sort;
 
 /// x - t.
 #[tactic(auto, using(formula::proofs::Negating::combined))]

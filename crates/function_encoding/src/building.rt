@@ -4,7 +4,7 @@ ghost use Rattle.std.specs.Prelude.{◌≡◌, cond, map, IfOk, List, [], ◌∷
 ghost use Rattle.linear_term.specs.Linear as linear;
 ghost use Rattle.formula.specs.Form.{differs, fails, holds};
 ghost use Rattle.formula.specs.Tree.{form, forms_of};
-ghost use Rattle.encoding.specs.Encoding as encoding;
+ghost use Rattle.form_encoding.specs.Encoding as encoding;
 
 use formula::{Core, Shared};
 use linear_term::{Memory, Term};

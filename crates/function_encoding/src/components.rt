@@ -2,7 +2,7 @@
 
 ghost use Rattle.std.specs.Prelude.{◌≡◌, ◌++◌, true, IfOk, OnOk, nat_eq};
 ghost use Rattle.std.specs.List.{filter, list_any};
-ghost use Rattle.typed_formula.specs.Formula.{formula, formulas_of};
+ghost use Rattle.form_typed.specs.Formula.{formula, formulas_of};
 ghost use Rattle.pri_typing.specs.WellFormed.{all_formula_components, formula_components};
 ghost use Rattle.function_encoding.specs.Encoded.{all_signed, is_in};
 

@@ -1,25 +1,25 @@
 // The conditions of several names.
 
-ghost use Rattle.limits.specs.Limits.{most_constants};
+ghost use Rattle.base_limits.specs.Limits.{most_constants};
 ghost use Rattle.std.specs.Prelude.{◌≡◌, ◌||◌, ◌+◌, ◌<◌, ◌≤◌, ◌^◌, false, ◌++◌, [], cond, length, map, All};
-ghost use Rattle.purse.specs.Trace.{just, next};
-ghost use Rattle.typed_formula.specs.Sorts.{IsSortRanged};
+ghost use Rattle.base_budget.specs.Trace.{just, next};
+ghost use Rattle.form_typed.specs.Sorts.{IsSortRanged};
 ghost use Rattle.formula.specs.Made.{Made};
 ghost use Rattle.formula.specs.Tree.{form};
-ghost use Rattle.encoding.specs.Encoding as encoding;
-ghost use Rattle.encoding.specs.Extent.{behind_atoms};
-ghost use Rattle.encoding.specs.Root as roots;
+ghost use Rattle.form_encoding.specs.Encoding as encoding;
+ghost use Rattle.form_encoding.specs.Extent.{behind_atoms};
+ghost use Rattle.form_encoding.specs.Root as roots;
 ghost use Rattle.function_encoding.specs.Bounds.{kept_bounds};
 ghost use Rattle.function_encoding.specs.Counted.{counted};
 ghost use Rattle.function_encoding.specs.Marks as marking;
 
 use crate::bounds::limits;
 use crate::counting::{Extent, behind};
+use form_typed::Sort;
 use formula::Core;
 use linear_term::TermFault;
 use sqlite_items::Items;
 use std::alloc::Global;
-use typed_formula::Sort;
 
 /// Whether the mark of x is set.
 fn is_marked(marks: &[bool], x: usize) -> bool

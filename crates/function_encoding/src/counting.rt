@@ -2,13 +2,13 @@
 // u64.
 
 ghost use Rattle.std.specs.Prelude.{◌≡◌, length};
-ghost use Rattle.typed_formula.specs.Formula.{formula, formulas_of, expression, expressions_of};
-ghost use Rattle.encoding.specs.Encoding.{bounds};
-ghost use Rattle.encoding.specs.Extent as extents_of;
+ghost use Rattle.form_typed.specs.Formula.{formula, formulas_of, expression, expressions_of};
+ghost use Rattle.form_encoding.specs.Encoding.{bounds};
+ghost use Rattle.form_encoding.specs.Extent as extents_of;
 ghost use Rattle.function_encoding.specs.Counted.{counted};
 
+use form_typed::Sort;
 use formula::{Typed, TypedTerm};
-use typed_formula::Sort;
 
 /// Nodes and levels of a formula; 2^64 - 1 stands for any number from there on.
 #[derive(Clone, Copy, Debug, PartialEq, Eq)]

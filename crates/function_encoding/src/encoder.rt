@@ -2,14 +2,14 @@
 
 ghost use Rattle.std.specs.Prelude.{◌≡◌, ◌∷◌, [], ◌++◌, cond, suc, reverse, length};
 ghost use Rattle.linear_term.specs.Linear as linear;
-ghost use Rattle.purse.specs.Trace.{just, next};
-ghost use Rattle.typed_formula.specs.Sorts.{IsSortRanged};
-ghost use Rattle.typed_formula.specs.Formula.{applies, compares, expression, expressions_of, formula, formulas_of, iff};
+ghost use Rattle.base_budget.specs.Trace.{just, next};
+ghost use Rattle.form_typed.specs.Sorts.{IsSortRanged};
+ghost use Rattle.form_typed.specs.Formula.{applies, compares, expression, expressions_of, formula, formulas_of, iff};
 ghost use Rattle.formula.specs.Form.{conjunction, forms};
 ghost use Rattle.formula.specs.Made.{Made};
 ghost use Rattle.formula.specs.Tree.{form, forms_of};
-ghost use Rattle.encoding.specs.Encoding as encoding;
-ghost use Rattle.encoding.specs.Extent.{above, above_two, extent, extents, in_both, leaf, restricted_extent};
+ghost use Rattle.form_encoding.specs.Encoding as encoding;
+ghost use Rattle.form_encoding.specs.Extent.{above, above_two, extent, extents, in_both, leaf, restricted_extent};
 ghost use Rattle.function_encoding.specs.Actions as stacks;
 ghost use Rattle.function_encoding.specs.Actions.{behind, parted, ran};
 ghost use Rattle.function_encoding.specs.Instructions.{actions_of};
@@ -27,11 +27,11 @@ use crate::naming::with_name;
 use crate::stack::with_last;
 use crate::stop::{Halt, Stop, Test};
 use crate::stops::{halt, turned};
+use form_typed::Sort;
 use formula::{Core, Relation, Typed, TypedTerm};
 use linear_term::{Term, TermFault};
 use sqlite_items::Items;
 use std::alloc::Global;
-use typed_formula::Sort;
 
 /// The formula with plus, its negation with minus; `at` says for each of its names which name stands for it, and n names
 /// are bound.

@@ -1,7 +1,7 @@
 // An atom as a list of instructions over a stack of finished terms, in postfix order.
 
 ghost use Rattle.std.specs.Prelude.{◌≡◌, ◌∷◌, [], IfOk, OnOk};
-ghost use Rattle.typed_formula.specs.Formula.{expression, expressions_of};
+ghost use Rattle.form_typed.specs.Formula.{expression, expressions_of};
 ghost use Rattle.pri_typing.specs.WellFormed.{size};
 ghost use Rattle.function_encoding.specs.Actions.{compiled, compiled_all, compiled_more, compiled_sum, predicate, relate};
 ghost use Rattle.function_encoding.specs.Instructions.{FollowsActions, action_of, actions_of};

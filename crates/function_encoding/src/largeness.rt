@@ -1,20 +1,20 @@
 // Whether an encoding is too large to be built.
 
-ghost use Rattle.limits.specs.Limits.{most_levels, most_nodes};
+ghost use Rattle.base_limits.specs.Limits.{most_levels, most_nodes};
 ghost use Rattle.std.specs.Prelude.{◌≡◌, ◌||◌, nat_lt, true, false, length, drop};
 ghost use Rattle.std.specs.List.{list_any};
-ghost use Rattle.typed_formula.specs.Formula.{formula};
-ghost use Rattle.encoding.specs.Encoding.{bounds};
-ghost use Rattle.encoding.specs.Extent.{restricted_extent};
-ghost use Rattle.encoding.specs.Problems as problems;
+ghost use Rattle.form_typed.specs.Formula.{formula};
+ghost use Rattle.form_encoding.specs.Encoding.{bounds};
+ghost use Rattle.form_encoding.specs.Extent.{restricted_extent};
+ghost use Rattle.form_encoding.specs.Problems as problems;
 ghost use Rattle.function_encoding.specs.Bounds.{below_types, kept_bounds};
 ghost use Rattle.function_encoding.specs.Counted.{counted};
 
 use crate::conditions::behind_conditions;
 use crate::counting::{Extent, NOTHING, above, beside, extent_of, restricted};
-use limits::{MOST_LEVELS, MOST_NODES};
+use base_limits::{MOST_LEVELS, MOST_NODES};
+use form_typed::Sort;
 use pri_typing::Problem;
-use typed_formula::Sort;
 
 /// Whether the encoded problem has more than 1,000,000 nodes or a depth above 2,000. It is counted in one pass over the
 /// problem's formula and its types, without building it and without memory.

@@ -2,17 +2,17 @@
 
 ghost use Rattle.std.specs.Prelude.{◌≡◌, true, false, nat_eq, IfOk, replicate};
 ghost use Rattle.std.specs.List.{list_any};
-ghost use Rattle.typed_formula.specs.Formula.{expression, expressions_of, formula, formulas_of};
+ghost use Rattle.form_typed.specs.Formula.{expression, expressions_of, formula, formulas_of};
 ghost use Rattle.pri_typing.specs.Problems.{assumed_by};
 ghost use Rattle.pri_typing.specs.WellFormed.{IsWellFormed, all_formula_components, formula_components};
-ghost use Rattle.encoding.specs.Problems.{constants};
+ghost use Rattle.form_encoding.specs.Problems.{constants};
 ghost use Rattle.function_encoding.specs.Marks as names;
-ghost use Rattle.encoding.specs.Occurrences.{names_in, names_in_all, names_in_term, names_in_terms};
+ghost use Rattle.form_encoding.specs.Occurrences.{names_in, names_in_all, names_in_term, names_in_terms};
 ghost use Rattle.function_encoding.specs.Marks.{AreMarks, marked, names_of_parts};
 
+use form_typed::{Typed, TypedTerm};
 use pri_typing::Problem;
 use std::alloc::{AllocError, Global};
-use typed_formula::{Typed, TypedTerm};
 
 /// Marks the names in a formula.
 #[cycle(marks)]

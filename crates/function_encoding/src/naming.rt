@@ -1,8 +1,8 @@
 // The names that stand for those of a formula.
 
 ghost use Rattle.std.specs.Prelude.{◌≡◌, ◌<◌, ◌^◌, IfOk, ◌∷◌, [], ◌++◌};
-ghost use Rattle.encoding.specs.Encoding as encoding;
-ghost use Rattle.encoding.specs.Root.{names_from};
+ghost use Rattle.form_encoding.specs.Encoding as encoding;
+ghost use Rattle.form_encoding.specs.Root.{names_from};
 
 use linear_term::{Memory, Term};
 use sqlite_items::Items;

@@ -1,7 +1,7 @@
 // Terms without calls, conditions, absolute values, minima and maxima, and the sides of products.
 
 ghost use Rattle.std.specs.Prelude.{◌≡◌};
-ghost use Rattle.typed_formula.specs.Formula.{expression, expressions_of};
+ghost use Rattle.form_typed.specs.Formula.{expression, expressions_of};
 ghost use Rattle.pri_typing.specs.WellFormed as formed;
 ghost use Rattle.function_encoding.specs.Members as members;
 

@@ -1,22 +1,22 @@
 // The encoding of a problem, and of what parts of it assume.
 
-ghost use Rattle.limits.specs.Limits.{most_constants};
+ghost use Rattle.base_limits.specs.Limits.{most_constants};
 ghost use Rattle.std.specs.Prelude.{◌≡◌, ◌↔◌, ◌<◌, ◌≤◌, ◌^◌, ◌+◌, false, ℤ, IfOk, IsTrue, List, length, map, All, Ok};
 ghost use Rattle.std.specs.List.{filter};
-ghost use Rattle.typed_formula.specs.Formula.{every, formula, formulas};
-ghost use Rattle.typed_formula.specs.Truth.{Meaning, Truth};
+ghost use Rattle.form_typed.specs.Formula.{every, formula, formulas};
+ghost use Rattle.form_typed.specs.Truth.{Meaning, Truth};
 ghost use Rattle.pri_typing.specs.Problems.{Holds, IsPure, assumed, assumed_by, is_part_in};
 ghost use Rattle.pri_typing.specs.WellFormed.{IsWellFormed, components_of};
-ghost use Rattle.purse.specs.Trace.{Traced};
-ghost use Rattle.typed_formula.specs.Sorts.{IsSortRanged};
+ghost use Rattle.base_budget.specs.Trace.{Traced};
+ghost use Rattle.form_typed.specs.Sorts.{IsSortRanged};
 ghost use Rattle.formula.specs.Form.{Form, FormTruth, IsFormOver, conjunction, forms, is_pure};
 ghost use Rattle.formula.specs.Made.{Made};
 ghost use Rattle.formula.specs.Tree.{form, forms_of};
-ghost use Rattle.encoding.specs.Encoding as encoding;
-ghost use Rattle.encoding.specs.Extent as extents;
-ghost use Rattle.encoding.specs.Problems as problems;
-ghost use Rattle.encoding.specs.Problems.{assumed_form, constants, over_constants, parts_root, problem_root};
-ghost use Rattle.encoding.specs.Root as root_of_problem;
+ghost use Rattle.form_encoding.specs.Encoding as encoding;
+ghost use Rattle.form_encoding.specs.Extent as extents;
+ghost use Rattle.form_encoding.specs.Problems as problems;
+ghost use Rattle.form_encoding.specs.Problems.{assumed_form, constants, over_constants, parts_root, problem_root};
+ghost use Rattle.form_encoding.specs.Root as root_of_problem;
 ghost use Rattle.function_encoding.specs.Counted.{counted};
 ghost use Rattle.function_encoding.specs.Encoded.{Encodes, all_signed, root_of};
 ghost use Rattle.function_encoding.specs.Ranged.{HaveRangedNumbers, HasRangedNumbers};
@@ -28,12 +28,12 @@ use crate::conditions::conditions;
 use crate::encoder::encoded;
 use crate::largeness::is_large;
 use crate::naming::own_names;
+use form_typed::Sort;
 use formula::Core;
 use linear_term::TermFault;
 use pri_typing::Problem;
 use sqlite_items::Items;
 use std::alloc::Global;
-use typed_formula::Sort;
 
 /// The problem as one formula of the calculus, over its existential constants: for all values of the universal constants,
 /// its formula in negation normal form, with functions as relations and conditions of terms as cases; where an existential

@@ -1,7 +1,7 @@
 // What comes behind the simple instructions at the head of a list.
 
 ghost use Rattle.std.specs.Prelude.{◌≡◌, ◌<◌, ◌+◌, false, cond, ℕ, drop, length, Err, IfOk, IfErr, reverse};
-ghost use Rattle.purse.specs.Trace.{just};
+ghost use Rattle.base_budget.specs.Trace.{just};
 ghost use Rattle.formula.specs.Made.{Made};
 ghost use Rattle.formula.specs.Tree.{form};
 ghost use Rattle.function_encoding.specs.Actions as stacks;

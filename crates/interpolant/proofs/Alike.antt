@@ -1,11 +1,11 @@
 -- A formula is true alike at lists that differ at a name alone that it lacks.
 use Rattle.std.proofs.Common.{◌≡◌, ◌≢◌, ◌+◌, ◌<◌, ℕ, zero, suc, ℤ, pos, ◌*ℤ◌, neg_ℤ, true, List, [], ◌∷◌, ◌++◌, length, length-append, unsigned_abs, refl, sym, ◌∙◌, ap, subst, arith}
 use Rattle.std.specs.Int.{int_min, int_max}
-use Rattle.integers.specs.Entry.{entry, put}
-use Rattle.integers.proofs.Entries.{entry-put_other, length-put}
-use Rattle.typed_formula.specs.Formula.{Formula, Formulas, Expression, Expressions, constant, compares, applies, negation, every, some, implies, iff, for_all, for_some, part, no_formula, and_formula, number, name, call, minus, total, product, choice, absolute, lesser, greater, no_expression, and_expression}
-use Rattle.typed_formula.specs.Lists.{sum_of}
-use Rattle.typed_formula.specs.Truth.{Meaning, Truth, AreAllTrue, AreAllFalse, HasValue, HaveValues, IsRelated}
+use Rattle.base_integers.specs.Entry.{entry, put}
+use Rattle.base_integers.proofs.Entries.{entry-put_other, length-put}
+use Rattle.form_typed.specs.Formula.{Formula, Formulas, Expression, Expressions, constant, compares, applies, negation, every, some, implies, iff, for_all, for_some, part, no_formula, and_formula, number, name, call, minus, total, product, choice, absolute, lesser, greater, no_expression, and_expression}
+use Rattle.form_typed.specs.Lists.{sum_of}
+use Rattle.form_typed.specs.Truth.{Meaning, Truth, AreAllTrue, AreAllFalse, HasValue, HaveValues, IsRelated}
 use Rattle.pri_typing.specs.Everywhere.{Property, Everywhere, AllEverywhere, TermEverywhere, TermsEverywhere}
 use Rattle.pri_typing.specs.WellFormed.{of_terms}
 use Rattle.interpolant.specs.Sides.{IsOtherName, LacksName}

@@ -2,10 +2,10 @@
 use Rattle.std.proofs.Common.{◌≡◌, ◌+◌, ◌<◌, ◌≤◌, ◌^◌, ℕ, Bool, true, false, ◌||◌, nat_lt, List, [], length, get_or, Result, Ok, Err, IsErrAnd, IfOk, refl, sym, ◌∙◌, ap, subst, arith}
 use Rattle.std.proofs.lemmas.Bool.Decides.{nat_tests}
 use Rattle.std.proofs.lemmas.List.{get_or_read}
-use Rattle.typed_formula.specs.Truth.{Meaning}
-use Rattle.purse.specs.declared.fault.ElimFault.{ElimFault}
-use Rattle.purse.specs.declared.fault.ElimFault.TheVariants.{Memory}
-use Rattle.purse.specs.Trace.{Funds}
+use Rattle.form_typed.specs.Truth.{Meaning}
+use Rattle.base_budget.specs.declared.fault.ElimFault.{ElimFault}
+use Rattle.base_budget.specs.declared.fault.ElimFault.TheVariants.{Memory}
+use Rattle.base_budget.specs.Trace.{Funds}
 use Rattle.pri_typing.specs.declared.problem.Cut.{Cut}
 use Rattle.pri_typing.specs.declared.problem.Problem.{Problem}
 use Rattle.pri_typing.specs.Problems.{IsWithoutApplication, assumed_by}
@@ -19,7 +19,7 @@ use Rattle.formula.specs.Sizes.{depth, size}
 use Rattle.formula.specs.Tree.{form}
 use Rattle.elim_laws.specs.Presburger.{IsPresburger}
 use Rattle.elim_laws.proofs.Reduced.{presburger_of}
-use Rattle.encoding.specs.Problems.{constants, is_large, parts_root}
+use Rattle.form_encoding.specs.Problems.{constants, is_large, parts_root}
 use Rattle.function_encoding.specs.declared.answer.EncodeRefusal.{EncodeRefusal}
 use Rattle.function_encoding.specs.declared.answer.EncodeRefusal.TheVariants.{Memory as NoMemory}
 use Rattle.function_encoding.specs.Encoded.{Encodes}
@@ -27,11 +27,11 @@ use Rattle.function_encoding.proofs.Roots.{made_value}
 use Rattle.interpolant.specs.declared.fault.Interpolant.{Interpolant}
 use Rattle.interpolant.specs.declared.fault.InterpolantFault.{InterpolantFault}
 use Rattle.interpolant.specs.declared.fault.InterpolantFault.TheVariants.{Elim, Encode}
-use Rattle.encoding.specs.Occurrences.{occurs}
+use Rattle.form_encoding.specs.Occurrences.{occurs}
 use Rattle.function_encoding.specs.Marks.{AreMarks, is_marked}
 use Rattle.interpolant.specs.Run.{DoesElimination, AnswersInterpolant, interpolating, projecting}
-use Rattle.cut_sides.specs.Between.{IsStrongest}
-use Rattle.cut_sides.specs.Sides.{cut_of}
+use Rattle.itp_sides.specs.Between.{IsStrongest}
+use Rattle.itp_sides.specs.Sides.{cut_of}
 use Rattle.interpolant.specs.Sides.{IsInterpolant}
 use Rattle.interpolant.proofs.Applications.{assumed_pure}
 use Rattle.interpolant.proofs.Projected.{projecting-same}

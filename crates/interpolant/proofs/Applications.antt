@@ -2,20 +2,20 @@
 use Rattle.std.proofs.Common.{◌≡◌, ℕ, true, List, ◌∙◌, map}
 use Rattle.std.specs.List.{filter}
 use Rattle.std.proofs.lemmas.Bool.{and_from, and_parts}
-use Rattle.purse.specs.Trace.{just, next}
-use Rattle.typed_formula.specs.Formula.{formulas}
+use Rattle.base_budget.specs.Trace.{just, next}
+use Rattle.form_typed.specs.Formula.{formulas}
 use Rattle.pri_typing.specs.declared.problem.Problem.{Problem}
 use Rattle.pri_typing.specs.Everywhere.{Property}
 use Rattle.pri_typing.specs.Problems.{IsNoCall, IsNoPredicate, IsPure, IsWithoutApplication, assumed, assumed_by, is_part_in}
 use Rattle.pri_typing.specs.WellFormed.{SignedFormula, components_of}
 use Rattle.formula.specs.Form.{Form, Forms, are_pure, forms, is_pure, no_form, and_form}
-use Rattle.encoding.specs.Encoding.{all_encoded}
-use Rattle.encoding.specs.Occurrences.{occurs}
-use Rattle.encoding.specs.Problems.{append, constants, parts_root, types}
-use Rattle.encoding.specs.Root.{conditions, names_from}
-use Rattle.encoding.proofs.Conditions.{conditions_true_pure}
-use Rattle.encoding.proofs.Frees.{everywhere_free, free_is}
-use Rattle.encoding.proofs.Parts.{assumed_everywhere}
+use Rattle.form_encoding.specs.Encoding.{all_encoded}
+use Rattle.form_encoding.specs.Occurrences.{occurs}
+use Rattle.form_encoding.specs.Problems.{append, constants, parts_root, types}
+use Rattle.form_encoding.specs.Root.{conditions, names_from}
+use Rattle.form_encoding.proofs.Conditions.{conditions_true_pure}
+use Rattle.form_encoding.proofs.Frees.{everywhere_free, free_is}
+use Rattle.form_encoding.proofs.Parts.{assumed_everywhere}
 
 append_pure : (gs : Forms) (hs : List Form) → are_pure gs ≡ true → are_pure (forms hs) ≡ true → are_pure (append gs hs) ≡ true
 append_pure no_form hs p q = q

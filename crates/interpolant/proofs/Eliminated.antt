@@ -2,7 +2,7 @@
 use Rattle.std.proofs.Common.{◌≡◌, ◌<◌, ℕ, zero, suc, false, List, [], ◌∷◌, ◌++◌, arith}
 use Rattle.std.specs.List.{AllByRecursion}
 use Rattle.linear_term.proofs.Names.{combination-unmentioned}
-use Rattle.purse.specs.Trace.{Traced, just, step, next}
+use Rattle.base_budget.specs.Trace.{Traced, just, step, next}
 use Rattle.clause_set.specs.declared.literal.Literal.{Literal}
 use Rattle.clause_set.specs.declared.literal.Literal.TheVariants.{Eq, Geq}
 use Rattle.clause_set.specs.Clauses.{clause_of, clauses_of, found}

@@ -5,21 +5,21 @@ use Rattle.std.proofs.lemmas.Bool.Decides.{nat_tests}
 use Rattle.linear_term.specs.Linear as linear
 use Rattle.linear_term.specs.Linear.{Linear, mentions}
 use Rattle.linear_term.proofs.Names.{combination-unmentioned}
-use Rattle.typed_formula.specs.declared.typed.Relation.{Relation}
-use Rattle.typed_formula.specs.declared.typed.Relation.TheVariants.{Eq, Neq, Lt, Leq, Gt, Geq}
-use Rattle.typed_formula.specs.Formula.{Formula, Formulas, Expression, Expressions, constant, compares, applies, negation, every, some, implies, iff, for_all, for_some, part, no_formula, and_formula, number, name, call, minus, total, product, choice, absolute, lesser, greater, no_expression, and_expression}
-use Rattle.purse.specs.Trace.{Traced, just, step, next, combining}
+use Rattle.form_typed.specs.declared.typed.Relation.{Relation}
+use Rattle.form_typed.specs.declared.typed.Relation.TheVariants.{Eq, Neq, Lt, Leq, Gt, Geq}
+use Rattle.form_typed.specs.Formula.{Formula, Formulas, Expression, Expressions, constant, compares, applies, negation, every, some, implies, iff, for_all, for_some, part, no_formula, and_formula, number, name, call, minus, total, product, choice, absolute, lesser, greater, no_expression, and_expression}
+use Rattle.base_budget.specs.Trace.{Traced, just, step, next, combining}
 use Rattle.pri_typing.specs.Everywhere.{Property, Everywhere, AllEverywhere, TermEverywhere, TermsEverywhere}
 use Rattle.pri_typing.specs.WellFormed.{is_numeric, of_terms}
 use Rattle.formula.specs.Form as tree
 use Rattle.formula.specs.Form.{Form, Forms, forms}
 use Rattle.elim_laws.proofs.Names.{number-lacks}
-use Rattle.encoding.specs.Encoding.{named, multiple, related, signed_relation, product_of, junction, quantified, SortBound, least, greatest, bounds, within, outside, limits, restricted, bound_by, cases, encoded, all_encoded, with_value, with_values, with_sum, with_more}
-use Rattle.typed_formula.specs.declared.typed.Sort.{Sort}
-use Rattle.encoding.specs.Occurrences.{occurs}
-use Rattle.encoding.specs.Problems.{append, constants, parts_root, types}
-use Rattle.encoding.specs.Root.{conditions, names_from}
-use Rattle.encoding.proofs.Arithmetic.{no_test}
+use Rattle.form_encoding.specs.Encoding.{named, multiple, related, signed_relation, product_of, junction, quantified, SortBound, least, greatest, bounds, within, outside, limits, restricted, bound_by, cases, encoded, all_encoded, with_value, with_values, with_sum, with_more}
+use Rattle.form_typed.specs.declared.typed.Sort.{Sort}
+use Rattle.form_encoding.specs.Occurrences.{occurs}
+use Rattle.form_encoding.specs.Problems.{append, constants, parts_root, types}
+use Rattle.form_encoding.specs.Root.{conditions, names_from}
+use Rattle.form_encoding.proofs.Arithmetic.{no_test}
 use Rattle.pri_typing.specs.declared.problem.Problem.{Problem}
 use Rattle.pri_typing.specs.Problems.{assumed_by}
 use Rattle.interpolant.specs.Sides.{IsOtherName, LacksName}

@@ -3,24 +3,24 @@ use Rattle.std.proofs.Common.{◌≡◌, ◌≢◌, ◌<◌, ◌≤◌, ℕ, zer
 use Rattle.std.specs.List.{AllByRecursion}
 use Rattle.std.proofs.lemmas.Bool.{cases_lt}
 use Rattle.std.proofs.lemmas.Bool.Decides.{nat_tests}
-use Rattle.integers.specs.Entry.{entry, put}
-use Rattle.integers.proofs.Entries.{entry-past, entry-put_other, entry-put_same, length-put}
-use Rattle.typed_formula.specs.declared.typed.Sort.{Sort}
-use Rattle.typed_formula.specs.declared.typed.Sort.TheVariants.{Int}
-use Rattle.typed_formula.specs.Formula.{Formula}
-use Rattle.typed_formula.specs.Sorts.{IsValueOf, AreValuesOf}
-use Rattle.typed_formula.specs.Truth.{Meaning, Truth}
+use Rattle.base_integers.specs.Entry.{entry, put}
+use Rattle.base_integers.proofs.Entries.{entry-past, entry-put_other, entry-put_same, length-put}
+use Rattle.form_typed.specs.declared.typed.Sort.{Sort}
+use Rattle.form_typed.specs.declared.typed.Sort.TheVariants.{Int}
+use Rattle.form_typed.specs.Formula.{Formula}
+use Rattle.form_typed.specs.Sorts.{IsValueOf, AreValuesOf}
+use Rattle.form_typed.specs.Truth.{Meaning, Truth}
 use Rattle.pri_typing.specs.declared.problem.Problem.{Problem}
 use Rattle.clause_set.specs.declared.literal.Literal.{Literal}
 use Rattle.clause_set.specs.Literals.{clause_truth, dnf_truth}
 use Rattle.clause_set.specs.Names.{has}
-use Rattle.equation_laws.proofs.Lists.{none-any}
-use Rattle.equation_laws.proofs.Solving.{unused-truth}
+use Rattle.elim_rule_laws.proofs.EquationLists.{none-any}
+use Rattle.elim_rule_laws.proofs.Solving.{unused-truth}
 use Rattle.elim_laws.specs.Whole as clauses
-use Rattle.encoding.specs.Meaning.{AreTypedIn, type_at}
-use Rattle.encoding.specs.Occurrences.{occurs}
-use Rattle.encoding.specs.Problems.{constants, types}
-use Rattle.encoding.proofs.Conditions.{pointwise}
+use Rattle.form_encoding.specs.Meaning.{AreTypedIn, type_at}
+use Rattle.form_encoding.specs.Occurrences.{occurs}
+use Rattle.form_encoding.specs.Problems.{constants, types}
+use Rattle.form_encoding.proofs.Conditions.{pointwise}
 use Rattle.interpolant.proofs.Alike.{put_alike}
 use Rattle.interpolant.proofs.Occurrences.{absent_is}
 

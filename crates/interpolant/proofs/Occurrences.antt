@@ -2,12 +2,12 @@
 use Rattle.std.proofs.Common.{◌≡◌, ◌≢◌, ◌↔◌, ℕ, suc, false, nat_eq, List, [], ◌∷◌, ◌++◌, arith}
 use Rattle.std.specs.List.{AllByRecursion}
 use Rattle.std.proofs.lemmas.Bool.Decides.{nat_tests}
-use Rattle.typed_formula.specs.Formula.{Formula, Formulas, Expression, Expressions, constant, compares, applies, negation, every, some, implies, iff, for_all, for_some, part, no_formula, and_formula, number, name, call, minus, total, product, choice, absolute, lesser, greater, no_expression, and_expression}
+use Rattle.form_typed.specs.Formula.{Formula, Formulas, Expression, Expressions, constant, compares, applies, negation, every, some, implies, iff, for_all, for_some, part, no_formula, and_formula, number, name, call, minus, total, product, choice, absolute, lesser, greater, no_expression, and_expression}
 use Rattle.pri_typing.specs.Everywhere.{Property, Everywhere, AllEverywhere, TermEverywhere, TermsEverywhere}
 use Rattle.pri_typing.specs.WellFormed.{of_terms}
 use Rattle.clause_set.proofs.Divisors.{kept-append}
-use Rattle.equation_laws.proofs.Lists.{any-none, none-any}
-use Rattle.encoding.specs.Occurrences.{names_in, names_in_all, names_in_term, names_in_terms, occurs}
+use Rattle.elim_rule_laws.proofs.EquationLists.{any-none, none-any}
+use Rattle.form_encoding.specs.Occurrences.{names_in, names_in_all, names_in_term, names_in_terms, occurs}
 use Rattle.interpolant.specs.Sides.{IsOtherName, LacksName}
 
 abbrev Others : ℕ → List ℕ → Type 0

@@ -2,15 +2,15 @@
 use Rattle.std.proofs.Common.{◌≡◌, ◌<◌, ◌≤◌, ℕ, zero, suc, ℤ, Bool, true, false, nat_eq, List, length, refl, sym, ◌∙◌, ap, subst, arith}
 use Rattle.std.specs.List.{AllByRecursion, list_any}
 use Rattle.std.proofs.lemmas.Bool.Decides.{nat_tests}
-use Rattle.integers.specs.Entry.{entry, put}
-use Rattle.integers.proofs.Entries.{put-entry}
-use Rattle.purse.specs.Trace.{just, step, next}
-use Rattle.purse.proofs.Tracing.{next-same}
+use Rattle.base_integers.specs.Entry.{entry, put}
+use Rattle.base_integers.proofs.Entries.{put-entry}
+use Rattle.base_budget.specs.Trace.{just, step, next}
+use Rattle.base_budget.proofs.Tracing.{next-same}
 use Rattle.clause_set.specs.declared.literal.Literal.{Literal}
 use Rattle.clause_set.specs.Kept.{AreFormed}
 use Rattle.clause_set.specs.Literals.{dnf_truth}
 use Rattle.clause_set.specs.Names.{has}
-use Rattle.equation_laws.proofs.Lists.{any-none, kept-weaker}
+use Rattle.elim_rule_laws.proofs.EquationLists.{any-none, kept-weaker}
 use Rattle.formula.specs.Form.{Form}
 use Rattle.elim_laws.specs.Elimination.{exists_name}
 use Rattle.elim_laws.specs.Whole.{AreOver, Lacks, eliminating}

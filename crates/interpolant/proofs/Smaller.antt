@@ -4,17 +4,17 @@ use Rattle.std.specs.Prelude.{Contains}
 use Rattle.std.specs.List.{AllByRecursion, IsDistinct, concat, filter}
 use Rattle.std.proofs.lemmas.Bool.Decides.{nat_tests}
 use Rattle.std.proofs.lemmas.List.Elements.{All-contains, recursion_from_All}
-use Rattle.typed_formula.specs.Formula.{Formula, Formulas, formula, formulas, constant, compares, applies, negation, every, some, implies, iff, for_all, for_some, part, no_formula, and_formula}
-use Rattle.purse.specs.Trace.{capped}
+use Rattle.form_typed.specs.Formula.{Formula, Formulas, formula, formulas, constant, compares, applies, negation, every, some, implies, iff, for_all, for_some, part, no_formula, and_formula}
+use Rattle.base_budget.specs.Trace.{capped}
 use Rattle.pri_typing.specs.declared.problem.Cut.{Cut}
 use Rattle.pri_typing.specs.declared.problem.Problem.{Problem}
 use Rattle.pri_typing.specs.Problems.{assumed, assumed_by, is_part_in}
 use Rattle.pri_typing.specs.WellFormed.{IsDivision, IsWellFormed, SignedFormula, all_formula_components, components_of, formula_components, part_number, part_numbers}
-use Rattle.typed_formula.specs.declared.typed.Sort.{Sort}
-use Rattle.encoding.specs.Encoding.{bounds}
-use Rattle.encoding.specs.Extent.{Extent, above, above_two, behind_atoms, beside, extent, extents, nothing, restricted_extent}
-use Rattle.encoding.specs.Occurrences.{occurs}
-use Rattle.encoding.specs.Problems.{is_large, parts_root, problem_root, types}
+use Rattle.form_typed.specs.declared.typed.Sort.{Sort}
+use Rattle.form_encoding.specs.Encoding.{bounds}
+use Rattle.form_encoding.specs.Extent.{Extent, above, above_two, behind_atoms, beside, extent, extents, nothing, restricted_extent}
+use Rattle.form_encoding.specs.Occurrences.{occurs}
+use Rattle.form_encoding.specs.Problems.{is_large, parts_root, problem_root, types}
 use Rattle.function_encoding.specs.Bounds.{below_types, extents_before, kept_bounds}
 use Rattle.function_encoding.proofs.Chosen.{parts_extent}
 use Rattle.function_encoding.proofs.Kept.{kept-two}

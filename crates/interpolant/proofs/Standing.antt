@@ -1,10 +1,10 @@
 -- The projection of what the first side assumes stands between the two sides.
 use Rattle.std.proofs.Common.{◌≡◌, ℕ, ℤ, Bool, true, false, List, [], length, inl, inr, refl, sym, ◌∙◌, subst, arith}
 use Rattle.std.specs.Prelude.{Ok, Contains}
-use Rattle.typed_formula.specs.Formula.{Formula}
-use Rattle.typed_formula.specs.Truth.{Meaning, Truth}
-use Rattle.purse.specs.Trace.{Funds, at, Traced}
-use Rattle.purse.proofs.Meaning.{passes_where_runs}
+use Rattle.form_typed.specs.Formula.{Formula}
+use Rattle.form_typed.specs.Truth.{Meaning, Truth}
+use Rattle.base_budget.specs.Trace.{Funds, at, Traced}
+use Rattle.base_budget.proofs.Meaning.{passes_where_runs}
 use Rattle.pri_typing.specs.declared.problem.Cut.{Cut}
 use Rattle.pri_typing.specs.declared.problem.Problem.{Problem}
 use Rattle.pri_typing.specs.Problems.{Holds, IsPlainlyValid, assumed_by}
@@ -18,18 +18,18 @@ use Rattle.elim_laws.specs.Elimination.{Reflects}
 use Rattle.elim_laws.specs.Presburger.{IsPresburger}
 use Rattle.elim_laws.specs.Whole.{eliminating, IsExact}
 use Rattle.elim_laws.proofs.Whole.{anywhere, eliminating-exact}
-use Rattle.encoding.specs.Meaning.{AreTypedIn}
-use Rattle.encoding.specs.Problems.{constants, parts_root, types}
-use Rattle.encoding.proofs.Conditions.{pointwise}
-use Rattle.encoding.proofs.Parts.{parts_are, parts_over, types_many}
+use Rattle.form_encoding.specs.Meaning.{AreTypedIn}
+use Rattle.form_encoding.specs.Problems.{constants, parts_root, types}
+use Rattle.form_encoding.proofs.Conditions.{pointwise}
+use Rattle.form_encoding.proofs.Parts.{parts_are, parts_over, types_many}
 use Rattle.function_encoding.specs.Encoded.{Encodes}
 use Rattle.quant_elim.proofs.Unfolded.{eliminating-over}
-use Rattle.encoding.specs.Occurrences.{occurs}
+use Rattle.form_encoding.specs.Occurrences.{occurs}
 use Rattle.interpolant.specs.Run.{IsEncodable, others_out, interpolating}
-use Rattle.cut_sides.specs.Between.{AgreeOn, AreTyped, IsStrongest}
-use Rattle.cut_sides.specs.Sides.{first_side, other_side}
-use Rattle.cut_sides.proofs.Lines.{sides_apart}
-use Rattle.cut_sides.proofs.Standing.{strongest_contradicts, strongest_follows}
+use Rattle.itp_sides.specs.Between.{AgreeOn, AreTyped, IsStrongest}
+use Rattle.itp_sides.specs.Sides.{first_side, other_side}
+use Rattle.itp_sides.proofs.Lines.{sides_apart}
+use Rattle.itp_sides.proofs.Standing.{strongest_contradicts, strongest_follows}
 use Rattle.interpolant.specs.Sides.{IsInterpolant}
 use Rattle.interpolant.proofs.Mixing.{IsSameAt, agree_past, left_same, mixed, length-mixed, mixed_same, mixed_typed, mixed_first, same_put}
 use Rattle.interpolant.proofs.Eliminated.{eliminating-lacks}

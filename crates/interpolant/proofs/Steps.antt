@@ -1,16 +1,16 @@
 -- Eliminations one after the other, each in a log of its own.
 use Rattle.std.proofs.Common.{◌≡◌, ◌<◌, ◌-◌, ℕ, zero, suc, Bool, true, false, arith, List, [], ◌∷◌, ◌++◌, map, Result, Ok, Err, IsErrAnd, refl, sym, ◌∙◌, ap, subst, append_assoc}
 use Rattle.std.proofs.lemmas.List.{append-nil}
-use Rattle.purse.specs.declared.fault.StepFault.{StepFault}
-use Rattle.purse.specs.declared.fault.StepFault.TheVariants as step_fault
-use Rattle.purse.specs.declared.fault.ElimFault.{ElimFault}
-use Rattle.purse.specs.declared.fault.ElimFault.TheVariants.{Steps, Overflow, Memory}
-use Rattle.purse.specs.declared.log.Entry.{Entry}
-use Rattle.purse.specs.declared.log.ElimLog.{ElimLog}
-use Rattle.purse.specs.Followed.{after_notes, Followed, UnlessMemory}
-use Rattle.purse.specs.Trace.{Funds, entry, new_log, at, Traced, just, next}
-use Rattle.purse.specs.Work.{ChargedAt, Logged, marks_of}
-use Rattle.purse.proofs.Following.{follow_ok, follow_fault, follow_just, follow_memory, follow_note, followed_value}
+use Rattle.base_budget.specs.declared.fault.StepFault.{StepFault}
+use Rattle.base_budget.specs.declared.fault.StepFault.TheVariants as step_fault
+use Rattle.base_budget.specs.declared.fault.ElimFault.{ElimFault}
+use Rattle.base_budget.specs.declared.fault.ElimFault.TheVariants.{Steps, Overflow, Memory}
+use Rattle.base_budget.specs.declared.log.Entry.{Entry}
+use Rattle.base_budget.specs.declared.log.ElimLog.{ElimLog}
+use Rattle.base_budget.specs.Followed.{after_notes, Followed, UnlessMemory}
+use Rattle.base_budget.specs.Trace.{Funds, entry, new_log, at, Traced, just, next}
+use Rattle.base_budget.specs.Work.{ChargedAt, Logged, marks_of}
+use Rattle.base_budget.proofs.Following.{follow_ok, follow_fault, follow_just, follow_memory, follow_note, followed_value}
 use Rattle.quant_elim.proofs.Budgets.{below_budget}
 use Rattle.clause_set.specs.declared.literal.Literal.{Literal}
 use Rattle.elim_laws.specs.Elimination.{exists_name}

@@ -1,25 +1,25 @@
 -- The run of an interpolant, and what its call answers.
 use Rattle.std.specs.Prelude.{◌≡◌, ℕ, zero, suc, Bool, true, false, List, [], ◌∷◌, ◌++◌, Result, Ok, Err}
-use Rattle.purse.specs.declared.fault.StepFault.{StepFault}
-use Rattle.purse.specs.declared.fault.StepFault.TheVariants as step_fault
-use Rattle.purse.specs.declared.fault.ElimFault.{ElimFault}
-use Rattle.purse.specs.declared.fault.ElimFault.TheVariants.{Steps, Overflow, Memory}
-use Rattle.purse.specs.declared.log.Entry.{Entry}
-use Rattle.purse.specs.Followed.{Followed}
-use Rattle.purse.specs.Runs.{raw_stay}
-use Rattle.purse.specs.Trace.{Funds, Mark, entry, new_log, round, enter, back, Traced, just, next, note}
+use Rattle.base_budget.specs.declared.fault.StepFault.{StepFault}
+use Rattle.base_budget.specs.declared.fault.StepFault.TheVariants as step_fault
+use Rattle.base_budget.specs.declared.fault.ElimFault.{ElimFault}
+use Rattle.base_budget.specs.declared.fault.ElimFault.TheVariants.{Steps, Overflow, Memory}
+use Rattle.base_budget.specs.declared.log.Entry.{Entry}
+use Rattle.base_budget.specs.Followed.{Followed}
+use Rattle.base_budget.specs.Runs.{raw_stay}
+use Rattle.base_budget.specs.Trace.{Funds, Mark, entry, new_log, round, enter, back, Traced, just, next, note}
 use Rattle.pri_typing.specs.declared.problem.Problem.{Problem}
 use Rattle.pri_typing.specs.Problems.{assumed_by}
 use Rattle.clause_set.specs.declared.literal.Literal.{Literal}
 use Rattle.formula.specs.Form.{Form}
 use Rattle.elim_laws.specs.Elimination.{exists_name}
 use Rattle.elim_laws.specs.Whole.{eliminating}
-use Rattle.encoding.specs.Problems.{constants, is_large, parts_root}
+use Rattle.form_encoding.specs.Problems.{constants, is_large, parts_root}
 use Rattle.function_encoding.specs.Encoded.{Encodes}
 use Rattle.interpolant.specs.declared.fault.Interpolant.{Interpolant}
 use Rattle.interpolant.specs.declared.fault.InterpolantFault.{InterpolantFault}
 use Rattle.interpolant.specs.declared.fault.InterpolantFault.TheVariants.{Elim, Encode}
-use Rattle.encoding.specs.Occurrences.{occurs}
+use Rattle.form_encoding.specs.Occurrences.{occurs}
 
 -- the work in a log of its own
 abbrev pub in_new_log : {A : Type 0} → Traced A → Traced A

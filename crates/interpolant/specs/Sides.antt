@@ -2,8 +2,8 @@
 -- and proof theory, 1957).
 use Rattle.std.specs.Prelude.{◌≡◌, ◌≢◌, ◌⊎◌, ◌<◌, ℕ, ℤ, true, List}
 use Rattle.std.specs.List.{AllByRecursion}
-use Rattle.typed_formula.specs.Formula.{Formula, Expression, name}
-use Rattle.typed_formula.specs.Truth.{Meaning, Truth}
+use Rattle.form_typed.specs.Formula.{Formula, Expression, name}
+use Rattle.form_typed.specs.Truth.{Meaning, Truth}
 use Rattle.pri_typing.specs.declared.problem.Problem.{Problem}
 use Rattle.pri_typing.specs.Everywhere.{Everywhere}
 use Rattle.pri_typing.specs.WellFormed.{of_terms}
@@ -11,8 +11,8 @@ use Rattle.clause_set.specs.declared.literal.Literal.{Literal}
 use Rattle.clause_set.specs.Literals.{dnf_truth}
 use Rattle.elim_laws.specs.Whole as clauses
 use Rattle.elim_laws.specs.Whole.{AreOver}
-use Rattle.encoding.specs.Problems.{constants}
-use Rattle.cut_sides.specs.Between.{AreTyped, Contradict}
+use Rattle.form_encoding.specs.Problems.{constants}
+use Rattle.itp_sides.specs.Between.{AreTyped, Contradict}
 
 -- the term is no name, or another one than x
 abbrev pub IsOtherName : ℕ → ℕ → Expression → Type 0

@@ -1,12 +1,12 @@
 // What a call for an interpolant answers.
 
 ghost use Rattle.std.specs.Prelude.{◌≡◌};
-ghost use Rattle.purse.specs.declared.fault.ElimFault.TheVariants.{Memory};
+ghost use Rattle.base_budget.specs.declared.fault.ElimFault.TheVariants.{Memory};
 ghost use Rattle.interpolant.specs.declared.fault.InterpolantFault.TheVariants.{Elim, Encode};
 
+use base_budget::ElimFault;
 use clause_set::Dnf;
 use function_encoding::EncodeRefusal;
-use purse::ElimFault;
 use std::alloc::AllocError;
 
 /// What stands between two sets of parts.

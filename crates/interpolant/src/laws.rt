@@ -1,18 +1,18 @@
 // What interpolants are good for, each the contract of a function with nothing to do.
 
 ghost use Rattle.std.specs.Prelude.{◌≡◌, ◌↔◌, ℕ, ℤ, false, true, List, [], Contains};
-ghost use Rattle.typed_formula.specs.Formula.{Formula};
-ghost use Rattle.typed_formula.specs.Truth.{Meaning, Truth};
+ghost use Rattle.form_typed.specs.Formula.{Formula};
+ghost use Rattle.form_typed.specs.Truth.{Meaning, Truth};
 ghost use Rattle.pri_typing.specs.declared.problem.Cut.{Cut};
 ghost use Rattle.pri_typing.specs.declared.problem.Problem.{Problem};
 ghost use Rattle.pri_typing.specs.Problems.{Holds, IsPlainlyValid, IsPure, IsWithoutApplication, assumed_by};
 ghost use Rattle.pri_typing.specs.WellFormed.{IsWellFormed};
 ghost use Rattle.clause_set.specs.declared.literal.Literal.{Literal};
 ghost use Rattle.clause_set.specs.Literals.{dnf_truth};
-ghost use Rattle.encoding.specs.Problems.{constants, is_large, parts_root, problem_root};
-ghost use Rattle.encoding.specs.Occurrences.{occurs};
-ghost use Rattle.cut_sides.specs.Between.{AreTyped};
-ghost use Rattle.cut_sides.specs.Sides.{first_side, other_side};
+ghost use Rattle.form_encoding.specs.Problems.{constants, is_large, parts_root, problem_root};
+ghost use Rattle.form_encoding.specs.Occurrences.{occurs};
+ghost use Rattle.itp_sides.specs.Between.{AreTyped};
+ghost use Rattle.itp_sides.specs.Sides.{first_side, other_side};
 ghost use Rattle.interpolant.specs.Sides.{IsInterpolant, LacksName};
 
 /// Where a problem holds and no component is plainly true, what stands between the two sides of a cut and the second side are

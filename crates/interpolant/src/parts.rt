@@ -2,21 +2,21 @@
 
 ghost use Rattle.std.specs.Prelude.{◌≡◌, ◌≤◌, ◌<◌, ◌^◌, true, IfOk, IfErr, length};
 ghost use Rattle.std.specs.List.{concat};
-ghost use Rattle.typed_formula.specs.Truth.{Meaning};
+ghost use Rattle.form_typed.specs.Truth.{Meaning};
 ghost use Rattle.pri_typing.specs.Problems.{IsWithoutApplication, assumed_by};
 ghost use Rattle.pri_typing.specs.WellFormed.{IsWellFormed};
 ghost use Rattle.clause_set.specs.Literals.{dnf_truth};
 ghost use Rattle.function_encoding.specs.declared.answer.EncodeRefusal.TheVariants.{Memory};
-ghost use Rattle.cut_sides.specs.Between.{IsStrongest};
-ghost use Rattle.cut_sides.specs.Sides.{cut_of, first_sets, first_side, other_sets, other_side};
+ghost use Rattle.itp_sides.specs.Between.{IsStrongest};
+ghost use Rattle.itp_sides.specs.Sides.{cut_of, first_sets, first_side, other_sets, other_side};
 ghost use Rattle.interpolant.specs.Run.{AnswersInterpolant};
 ghost use Rattle.interpolant.specs.Sides.{IsInterpolant};
 
 use crate::fault::{Interpolant, InterpolantFault};
 use crate::projection::project;
+use base_budget::Purse;
 use function_encoding::{EncodeRefusal, encode_parts, marks_of};
 use pri_typing::{Cut, Problem};
-use purse::Purse;
 use sqlite_items::Items;
 use std::alloc::Global;
 

@@ -1,6 +1,6 @@
 // A formula without its quantifiers, and without the names that do not stay.
 
-ghost use Rattle.limits.specs.Limits.{most_constants};
+ghost use Rattle.base_limits.specs.Limits.{most_constants};
 ghost use Rattle.std.specs.Prelude.{◌≡◌, ◌≤◌, ◌<◌, ◌+◌, ◌^◌, length};
 ghost use Rattle.formula.specs.Sizes.{depth};
 ghost use Rattle.formula.specs.Tree.{form};
@@ -8,9 +8,9 @@ ghost use Rattle.function_encoding.specs.Marks.{is_marked};
 ghost use Rattle.interpolant.specs.Run as run;
 ghost use Rattle.interpolant.specs.Run.{DoesElimination, others_out, projecting};
 
+use base_budget::{ElimFault, Purse};
 use clause_set::Dnf;
 use formula::Core;
-use purse::{ElimFault, Purse};
 use quant_elim::{eliminate, exists_name};
 use std::alloc::Global;
 

@@ -3,8 +3,8 @@ use Rattle.std.proofs.Common.{◌≡◌, ◌∙◌, ◌&&◌, ℕ, Bool, true, f
 use Rattle.std.specs.List.{slice_index_or}
 use Rattle.clap.specs.Matches.{first_value, one_text}
 use Rattle.clap.specs.declared.parser.matches.Found.{Found}
-use Rattle.answers.specs.declared.form.ProofForm.{ProofForm}
-use Rattle.answers.specs.declared.form.ProofForm.TheVariants.{Whole, Short}
+use Rattle.base_answers.specs.declared.form.ProofForm.{ProofForm}
+use Rattle.base_answers.specs.declared.form.ProofForm.TheVariants.{Whole, Short}
 use Rattle.job_words.specs.Uses.{Text, listed, operands, tally, times, values_of}
 use Rattle.job_words.specs.Jobs.{IsBudget, IsNumber, NamesCheck, NamesDrill, NamesFile, NamesLeast, NamesSolve, asks_short, asks_whole, budget_option, solve_options}
 use Rattle.job_words.specs.Shapes.{command_app}

@@ -3,8 +3,8 @@ use Rattle.std.proofs.Common.{◌≡◌, ◌∙◌, ℕ, Bool, true, false, List
 use Rattle.std.specs.List.{slice_index_or}
 use Rattle.std.specs.Str.{bytes_eq}
 use Rattle.std.specs.Str.Parse.{digits_value}
-use Rattle.answers.specs.declared.form.ProofForm.{ProofForm}
-use Rattle.answers.specs.declared.form.ProofForm.TheVariants.{Whole, Short}
+use Rattle.base_answers.specs.declared.form.ProofForm.{ProofForm}
+use Rattle.base_answers.specs.declared.form.ProofForm.TheVariants.{Whole, Short}
 use Rattle.job_words.specs.Uses.{Text, operands, times, values_of}
 use Rattle.job_words.specs.Jobs.{IsBudget, NamesCheck, NamesDrill, NamesFile, NamesJob, NamesLeast, NamesSolve, Task, asks_short, asks_whole, solve, eliminate, run_script, minimise, check, drill}
 use Rattle.job_words.proofs.Answering.{one_flag}

@@ -1,9 +1,9 @@
 -- The job that the words after the program's name ask for.
 use Rattle.std.specs.Prelude.{◌≡◌, ◌≤◌, ℕ, Bool, true, false, List, [], ◌∷◌, Option, Some, None, codes, length, string_bytes}
 use Rattle.std.specs.Str.Parse.{digits_value, IsNumeral}
-use Rattle.limits.specs.Limits.{most_budget, most_count}
-use Rattle.answers.specs.declared.form.ProofForm.{ProofForm}
-use Rattle.answers.specs.declared.form.ProofForm.TheVariants.{Whole, Short}
+use Rattle.base_limits.specs.Limits.{most_budget, most_count}
+use Rattle.base_answers.specs.declared.form.ProofForm.{ProofForm}
+use Rattle.base_answers.specs.declared.form.ProofForm.TheVariants.{Whole, Short}
 use Rattle.job_words.specs.declared.jobs.Job.{Job}
 use Rattle.job_words.specs.declared.jobs.Job.TheVariants as job
 use Rattle.job_words.specs.Uses.{Text, Use, Options, Spells, operands, tally, times, values_of}

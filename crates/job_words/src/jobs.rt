@@ -2,7 +2,7 @@
 
 ghost use Rattle.std.specs.Prelude.{◌≡◌};
 
-use answers::ProofForm;
+use base_answers::ProofForm;
 use std::alloc::AllocError;
 
 /// A job that words name.

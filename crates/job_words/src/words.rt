@@ -3,7 +3,7 @@
 ghost use Rattle.clap.specs.Words.{first_value, found_of};
 ghost use Rattle.job_words.specs.Jobs.{IsBudget, IsNumber, NamesJob, Task, asks_short, asks_whole, task_of};
 ghost use Rattle.job_words.specs.Uses.{listed, Text};
-ghost use Rattle.limits.specs.Limits.{most_count};
+ghost use Rattle.base_limits.specs.Limits.{most_count};
 ghost use Rattle.std.specs.Prelude.{◌≡◌, ◌∷◌, ◌&&◌, ℕ, List, map, codes, string_bytes, true, false, None, Some, IfOk, IfErr, MatchResult};
 
 use crate::commands::{
@@ -11,9 +11,9 @@ use crate::commands::{
 };
 use crate::jobs::{Job, WordsFault};
 use crate::numbers::number;
-use answers::ProofForm;
+use base_answers::ProofForm;
+use base_limits::{MOST_BUDGET, MOST_COUNT};
 use clap::ArgMatches;
-use limits::{MOST_BUDGET, MOST_COUNT};
 use std::alloc::Global;
 
 // The budget where none is given.

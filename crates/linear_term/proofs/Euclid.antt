@@ -3,8 +3,8 @@ use Rattle.std.proofs.Common.{◌≡◌, ◌*◌, ◌+◌, ◌-◌, ◌<◌, ◌
 use Rattle.std.specs.Prelude.{unsigned_abs}
 use Rattle.std.specs.Int.{IsGcd}
 use Rattle.std.proofs.lemmas.Int.{ints}
-use Rattle.integers.proofs.Ring.{neg-mul}
-use Rattle.integers.specs.Gcd.{IsGcdOf}
+use Rattle.base_integers.proofs.Ring.{neg-mul}
+use Rattle.base_integers.specs.Gcd.{IsGcdOf}
 use Rattle.linear_term.specs.Range.{InRange}
 use Rattle.std.proofs.Math.Nat.{dvd-sub, dvd-mul_left, dvd-mul_left_of_dvd, mul-div_left, mul-le-mul_left, mul-le-mul_right}
 use Rattle.std.proofs.lemmas.Nat.{div-add-mod'}

@@ -7,9 +7,9 @@ use Rattle.linear_term.specs.declared.merge.Aligned.{Aligned}
 use Rattle.std.proofs.lemmas.Int.{ints}
 use Rattle.std.proofs.lemmas.Bool.Decides.{nat_tests}
 use Rattle.std.proofs.lemmas.List.Elements.{All-from_recursion, recursion_from_All, All-filter, All-weaker}
-use Rattle.integers.specs.Entry.{entry, put}
-use Rattle.integers.proofs.Entries.{entry-put_same, entry-put_other}
-use Rattle.integers.proofs.Ring.{add-mul}
+use Rattle.base_integers.specs.Entry.{entry, put}
+use Rattle.base_integers.proofs.Entries.{entry-put_same, entry-put_other}
+use Rattle.base_integers.proofs.Ring.{add-mul}
 use Rattle.linear_term.specs.Linear.{Linear, total, coef_at, value_at, coef_of, value_of, without, mentions, has_name, IsRisingFrom, IsCoefficient, IsNormal, IsOver, IsReduced}
 use Rattle.linear_term.specs.Range.{InRange}
 use Rattle.linear_term.specs.Combination.{aligned, combined, combination}

@@ -5,7 +5,7 @@ use Rattle.std.proofs.lemmas.Int.{ints}
 use Rattle.std.proofs.lemmas.List.Elements.{All-from_recursion, recursion_from_All}
 use Rattle.linear_term.specs.Range.{InRange}
 use Rattle.linear_term.specs.Linear.{Linear, total, value_at, value_of, IsRisingFrom, IsCoefficient, IsNormal, IsOver, with_monomial}
-use Rattle.integers.specs.Entry.{entry}
+use Rattle.base_integers.specs.Entry.{entry}
 
 all_push : (P : (ℕ × ℤ) → Type 0) (ps : List (ℕ × ℤ)) (q : ℕ × ℤ) → AllByRecursion P ps → P q → AllByRecursion P (ps ++ q ∷ [])
 all_push P [] q h k = (k, tt)

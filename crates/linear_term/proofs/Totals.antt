@@ -3,8 +3,8 @@ use Rattle.std.proofs.Common.{◌≡◌, ◌<◌, ℕ, ℤ, pos, ◌+ℤ◌, ◌
 use Rattle.std.specs.Ordering.{int_eq}
 use Rattle.std.proofs.lemmas.Int.{ints}
 use Rattle.std.proofs.lemmas.Bool.Decides.{nat_tests}
-use Rattle.integers.specs.Entry.{entry}
-use Rattle.integers.proofs.Ring.{mul-add, add-mul, mul_assoc}
+use Rattle.base_integers.specs.Entry.{entry}
+use Rattle.base_integers.proofs.Ring.{mul-add, add-mul, mul_assoc}
 use Rattle.linear_term.specs.Linear.{Linear, total, coef_at, value_at, coef_of, value_of, number, name}
 use Rattle.linear_term.specs.Combination.{aligned_right, aligned_behind, aligned, combined, with_pair, combination}
 use Rattle.linear_term.specs.declared.merge.Aligned.{Aligned}

@@ -1,6 +1,6 @@
 -- Linear terms over the integers: what they are, their coefficients and their value.
 use Rattle.std.specs.Prelude.{ℕ, ◌+◌, ◌<◌, ◌^◌, ◌≢◌, ℤ, pos, ◌+ℤ◌, ◌*ℤ◌, List, [], ◌∷◌, ◌++◌, All, filter, Bool, true, false, not, cond, nat_eq}
-use Rattle.integers.specs.Entry.{entry}
+use Rattle.base_integers.specs.Entry.{entry}
 use Rattle.linear_term.specs.Range.{InRange}
 
 -- a linear term: names with their coefficients, and a constant

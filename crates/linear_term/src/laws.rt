@@ -2,7 +2,7 @@
 
 ghost use Rattle.linear_term.specs.Linear.{Linear, coef_of, value_of, number, name, mentions, with_monomial, without, IsNormal, IsOver, IsReduced};
 ghost use Rattle.linear_term.specs.Combination.{combination, raw_numbers};
-ghost use Rattle.integers.specs.Entry.{entry, put};
+ghost use Rattle.base_integers.specs.Entry.{entry, put};
 ghost use Rattle.linear_term.specs.Range.{InRange, Stays, IsPlace, stays, all_stay};
 ghost use Rattle.linear_term.specs.Order.{linear_cmp};
 ghost use Rattle.linear_term.specs.declared.range.Place.{Place};

@@ -1,7 +1,7 @@
 // Greatest common divisors and quotients of coefficients.
 
-ghost use Rattle.integers.specs.Gcd.{gcd as gcd_of};
-ghost use Rattle.integers.specs.Floor.{IsFloor};
+ghost use Rattle.base_integers.specs.Gcd.{gcd as gcd_of};
+ghost use Rattle.base_integers.specs.Floor.{IsFloor};
 ghost use Rattle.linear_term.specs.Range.{InRange};
 ghost use Rattle.linear_term.specs.Cross.{Crosses};
 ghost use Rattle.std.specs.Int.{IsGcd, int_div_euclid};

@@ -7,7 +7,7 @@ use Rattle.elim_laws.specs.Presburger.{plain}
 use Rattle.elim_laws.specs.Whole.{IsExact}
 use Rattle.formula.specs.Form.{Form, FormTruth, is_pure}
 use Rattle.formula.proofs.Anywhere.{truth_anywhere}
-use Rattle.typed_formula.specs.Truth.{Meaning}
+use Rattle.form_typed.specs.Truth.{Meaning}
 use Rattle.model_check.specs.Judged.{Judges}
 
 pub none_seen : (d : List (List Literal)) (n : ℕ) → n ≡ length d → n ≡ 0 → false ≡ dnf_truth d []

@@ -1,6 +1,6 @@
 -- What a judgement says.
 use Rattle.std.specs.Prelude.{◌≡◌, ℤ, Bool, true, false, List, []}
-use Rattle.typed_formula.specs.Truth.{Meaning}
+use Rattle.form_typed.specs.Truth.{Meaning}
 use Rattle.formula.specs.Form.{Form, FormTruth}
 
 -- b tells whether f is true at no integers

@@ -6,10 +6,10 @@ ghost use Rattle.formula.specs.Tree.{form};
 ghost use Rattle.model_check.specs.Judged.{Judges};
 ghost use Rattle.std.specs.Prelude.{◌≡◌, [], true, IfOk, IfSome};
 
+use base_budget::Purse;
 use clause_set::Dnf;
 use formula::{Core, depth};
 use model_formulas::{Effort, Fault};
-use purse::Purse;
 use quant_elim::eliminate;
 use std::alloc::Global;
 

@@ -7,12 +7,11 @@ ghost use Rattle.model_table.specs.Models.{meaning_of};
 ghost use Rattle.std.specs.Prelude.{◌≡◌, map, IfOk};
 
 use super::deciding::decide;
+use base_budget::Purse;
 use formula::Core;
 use linear_term::Term;
-
 use model_formulas::{Effort, Fault, expand, is_true, number};
 use model_table::Model;
-use purse::Purse;
 use sqlite_items::Items;
 use std::alloc::Global;
 

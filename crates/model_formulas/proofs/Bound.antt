@@ -1,6 +1,6 @@
 -- Quantifiers before formulas.
 use Rattle.std.proofs.Common.{◌≡◌, ℤ, pos, true, List, [], ◌∷◌, ◌++◌, refl, sym, ap, ◌∙◌, subst}
-use Rattle.typed_formula.specs.Truth.{Meaning}
+use Rattle.form_typed.specs.Truth.{Meaning}
 use Rattle.formula.specs.Form.{Form, FormTruth, conjunction, disjunction, universal, existential, no_form, is_pure}
 use Rattle.formula.specs.Tree.{form}
 use Rattle.formula.specs.declared.calculus.Core.{Core}

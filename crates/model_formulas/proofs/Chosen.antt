@@ -5,9 +5,9 @@ use Rattle.std.specs.List.{AllByRecursion, slice_get}
 use Rattle.std.specs.Option.{option_copied}
 use Rattle.linear_term.specs.Linear.{Linear, value_of}
 use Rattle.linear_term.specs.declared.range.TermFault.{TermFault}
-use Rattle.purse.proofs.Charging.{drop-item, drop_all, worked_value}
-use Rattle.purse.specs.Trace.{Traced}
-use Rattle.typed_formula.specs.Truth.{Meaning}
+use Rattle.base_budget.proofs.Charging.{drop-item, drop_all, worked_value}
+use Rattle.base_budget.specs.Trace.{Traced}
+use Rattle.form_typed.specs.Truth.{Meaning}
 use Rattle.formula.specs.Form.{Form, FormTruth, AreFormsTrue, AreFormsFalse, conjunction, disjunction, no_form, and_form, is_pure, are_pure, values_of}
 use Rattle.formula.specs.Duals.{dual}
 use Rattle.formula.specs.Made.{Made}

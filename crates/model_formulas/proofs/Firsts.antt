@@ -4,8 +4,8 @@ use Rattle.std.specs.Borrow.{Bor}
 use Rattle.std.specs.List.{slice_get}
 use Rattle.std.specs.Option.{option_copied}
 use Rattle.linear_term.specs.Linear.{Linear}
-use Rattle.purse.proofs.Charging.{drop-item, drop_all}
-use Rattle.typed_formula.specs.Truth.{Meaning}
+use Rattle.base_budget.proofs.Charging.{drop-item, drop_all}
+use Rattle.form_typed.specs.Truth.{Meaning}
 use Rattle.formula.specs.Form.{Form, FormTruth, conjunction, disjunction, no_form, and_form, is_pure, values_of}
 use Rattle.formula.specs.Duals.{dual}
 use Rattle.formula.specs.Made.{Made}

@@ -1,8 +1,8 @@
 -- The expansion of conjunctions and disjunctions, member by member.
 use Rattle.std.proofs.Common.{◌≡◌, ℕ, zero, suc, ◌+◌, ◌<◌, ◌≤◌, ℤ, true, List, [], ◌∷◌, ◌++◌, length, drop, get_or, refl, sym, ap, ◌∙◌, subst, arith}
 use Rattle.linear_term.specs.Linear.{Linear}
-use Rattle.purse.proofs.Charging.{drop-item, drop_all}
-use Rattle.typed_formula.specs.Truth.{Meaning}
+use Rattle.base_budget.proofs.Charging.{drop-item, drop_all}
+use Rattle.form_typed.specs.Truth.{Meaning}
 use Rattle.formula.specs.Form.{Form, FormTruth, AreFormsTrue, AreFormsFalse, conjunction, disjunction, no_form, is_pure, are_pure, values_of}
 use Rattle.formula.specs.Tree.{form, forms_of}
 use Rattle.formula.specs.declared.calculus.Core.{Core}

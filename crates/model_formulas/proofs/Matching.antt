@@ -5,8 +5,8 @@ use Rattle.std.proofs.lemmas.List.{append-nil, append_assoc}
 use Rattle.linear_term.specs.Linear.{Linear, value_of, number}
 use Rattle.linear_term.specs.Combination.{combination}
 use Rattle.linear_term.proofs.Totals.{value_of-combination, value_of-number}
-use Rattle.purse.proofs.Charging.{drop-item, drop_all}
-use Rattle.typed_formula.specs.Truth.{Meaning}
+use Rattle.base_budget.proofs.Charging.{drop-item, drop_all}
+use Rattle.form_typed.specs.Truth.{Meaning}
 use Rattle.formula.specs.Form.{Form, FormTruth, AreFormsTrue, conjunction, disjunction, no_form, is_pure, are_pure, values_of}
 use Rattle.formula.specs.declared.calculus.Core.{Core}
 use Rattle.formula.specs.Tree.{form, forms_of}

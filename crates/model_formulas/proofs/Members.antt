@@ -1,7 +1,7 @@
 -- Conjunctions and disjunctions.
 use Rattle.std.proofs.Common.{◌≡◌, ℕ, zero, suc, ◌≤◌, ℤ, Bool, true, false, ◌&&◌, List, [], ◌∷◌, ◌++◌, length, map, refl, sym, ap, ◌∙◌, subst, arith}
 use Rattle.std.proofs.lemmas.Bool.{and_parts}
-use Rattle.typed_formula.specs.Truth.{Meaning}
+use Rattle.form_typed.specs.Truth.{Meaning}
 use Rattle.formula.specs.Form.{Form, Forms, FormTruth, AreFormsTrue, AreFormsFalse, conjunction, disjunction, no_form, and_form, forms, is_pure, are_pure}
 use Rattle.formula.specs.declared.calculus.Core.{Core}
 use Rattle.formula.specs.declared.calculus.Core.TheVariants as c
@@ -174,7 +174,6 @@ same_more_any n fs gs g h = record {
 
     flop : (w : Meaning) (e : List ℤ) → length e ≡ n → (FormTruth w (disjunction (forms_of fs)) e → FormTruth w (disjunction (forms_of gs)) e) → AreFormsFalse w (forms_of gs) e → AreFormsFalse w (forms_of fs) e
     flop w e l k none = falses_stable w (forms_of fs) e (λ m. k m none)
-
 
 two_all : (n : ℕ) (f g : Core) (a b out : List Core) → a ≡ [] → Same n (conjunction (forms_of (a ++ f ∷ []))) (conjunction (forms_of b)) → Same n (conjunction (forms_of (b ++ g ∷ []))) (conjunction (forms_of out))
     → Same n (conjunction (and_form (form f) (and_form (form g) no_form))) (conjunction (forms_of out))

@@ -5,7 +5,7 @@ use Rattle.std.proofs.lemmas.List.{map-append}
 use Rattle.std.proofs.lemmas.List.Elements.{All-from_recursion}
 use Rattle.linear_term.specs.Linear.{Linear, value_of, name, IsOver}
 use Rattle.linear_term.proofs.Totals.{value_of-name}
-use Rattle.typed_formula.specs.Truth.{Meaning}
+use Rattle.form_typed.specs.Truth.{Meaning}
 use Rattle.formula.specs.Duals.{dual}
 use Rattle.formula.specs.Form.{Form, FormTruth, equal, unequal, at_least, holds, fails, differs, conjunction, disjunction, universal, existential, is_pure, values_of}
 use Rattle.formula.specs.Made.{Made}

@@ -4,7 +4,7 @@ use Rattle.std.specs.List.{AllByRecursion}
 use Rattle.std.proofs.lemmas.List.Elements.{All-from_recursion}
 use Rattle.linear_term.specs.Linear.{Linear, value_of, name, number, IsOver}
 use Rattle.linear_term.proofs.Totals.{value_of-name, value_of-number}
-use Rattle.typed_formula.specs.Truth.{Meaning}
+use Rattle.form_typed.specs.Truth.{Meaning}
 use Rattle.formula.specs.Form.{Form, Forms, FormTruth, AreFormsFalse, equal, unequal, at_least, holds, fails, differs, conjunction, disjunction, universal, existential, no_form, and_form, is_pure, values_of}
 use Rattle.formula.specs.Tree.{form, forms_of}
 use Rattle.formula.specs.declared.calculus.Core.{Core}
@@ -52,14 +52,15 @@ first_parts m n (existential g) f us vs u len over h = absurd h
 
 reading_means : (m : Model) (ts : List Linear) (ms : List Core) (f : ℕ) (us : List Linear) (e : List ℤ) → Reads (length ts) f us (disjunction (forms_of ms)) → are_over (length ts) us ≡ true
     → (RestTruth m ts ms e (value_at m.functions f (values_of us (values_of ts e))) → FormTruth (meaning_of m) (universal (disjunction (forms_of ms))) (values_of ts e))
-        × (FormTruth (meaning_of m) (universal (disjunction (forms_of ms))) (values_of ts e) → RestTruth m ts ms e (value_at m.functions f (values_of us (values_of ts e))))
+    × (FormTruth (meaning_of m) (universal (disjunction (forms_of ms))) (values_of ts e) → RestTruth m ts ms e (value_at m.functions f (values_of us (values_of ts e))))
 reading_means m ts [] f us e h over = absurd h
 reading_means m ts (d ∷ ms) f us e h over =
     let vs = values_of ts e in
     let V = value_at m.functions f (values_of us vs) in
-    let parts = λ (u : ℤ). first_parts m (length ts) (form d) f us vs u (values_length ts e) over h in
-    ((λ t u none. none.0 ((parts u).1 (λ eq. t (subst (λ z. AreFormsFalse (meaning_of m) (forms_of ms) (vs ++ z ∷ [])) (sym eq) none.1)))),
-      (λ t none. t V ((λ x. (parts V).0 x refl), none)))
+    let parts = λ (u : ℤ). first_parts m (length ts) (form d) f us vs u (values_length ts e) over h in (
+      (λ t u none. none.0 ((parts u).1 (λ eq. t (subst (λ z. AreFormsFalse (meaning_of m) (forms_of ms) (vs ++ z ∷ [])) (sym eq) none.1)))),
+      (λ t none. t V ((λ x. (parts V).0 x refl), none)),
+    )
 
 -- ---- one guard
 case_said : (m : Model) (ts inner us : List Linear) (ms ns : List Core) (n : ℕ) (v : ℤ) (r : Form) → inner ≡ ts ++ number v ∷ [] → us ≡ inner → ns ≡ ms

@@ -2,7 +2,7 @@
 use Rattle.std.proofs.Common.{◌≡◌, ℕ, ℤ, pos, ◌≤ℤ◌, ◌<ℤ◌, ◌+ℤ◌, Bool, true, false, List, [], ◌∷◌, length, refl, sym, ap, ◌∙◌, subst, arith}
 use Rattle.std.proofs.lemmas.Int.{ints}
 use Rattle.linear_term.specs.Linear.{Linear, value_of, total, value_at}
-use Rattle.typed_formula.specs.Truth.{Meaning}
+use Rattle.form_typed.specs.Truth.{Meaning}
 use Rattle.formula.specs.Form.{Form, FormTruth, equal, unequal, at_least, conjunction, disjunction, no_form}
 use Rattle.formula.specs.declared.calculus.Core.{Core}
 use Rattle.formula.specs.declared.calculus.Core.TheVariants as c

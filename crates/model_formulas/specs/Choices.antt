@@ -2,7 +2,7 @@
 use Rattle.std.specs.Prelude.{◌≡◌, ℤ, Bool, true, false, List, [], ◌∷◌, Option, None, Some, if◌then◌else◌}
 use Rattle.std.specs.List.{AllByRecursion}
 use Rattle.linear_term.specs.Linear.{Linear}
-use Rattle.typed_formula.specs.Truth.{Meaning}
+use Rattle.form_typed.specs.Truth.{Meaning}
 use Rattle.formula.specs.Form.{FormTruth, is_pure, values_of}
 use Rattle.formula.specs.Tree.{form}
 use Rattle.formula.specs.declared.calculus.Core.{Core}

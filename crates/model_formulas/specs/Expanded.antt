@@ -2,7 +2,7 @@
 use Rattle.std.specs.Prelude.{◌≡◌, ℕ, ℤ, Bool, true, nat_lt, List, length, map}
 use Rattle.std.specs.List.{AllByRecursion, list_all}
 use Rattle.linear_term.specs.Linear.{Linear, IsOver, name}
-use Rattle.typed_formula.specs.Truth.{Meaning}
+use Rattle.form_typed.specs.Truth.{Meaning}
 use Rattle.formula.specs.Form.{Form, Forms, FormTruth, equal, unequal, at_least, holds, fails, differs, conjunction, disjunction, universal, existential, no_form, and_form, is_pure, values_of}
 use Rattle.model_table.specs.declared.model.Model.{Model}
 use Rattle.model_table.specs.Models.{meaning_of, value_at}

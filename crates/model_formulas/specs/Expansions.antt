@@ -1,6 +1,6 @@
 -- Formulas without predicates and functions that say what others say.
 use Rattle.std.specs.Prelude.{◌≡◌, ℕ, ℤ, true, List, length}
-use Rattle.typed_formula.specs.Truth.{Meaning}
+use Rattle.form_typed.specs.Truth.{Meaning}
 use Rattle.formula.specs.Form.{Form, FormTruth, is_pure}
 
 -- g has no predicate and no function, and is true exactly where P is

@@ -1,6 +1,6 @@
 -- A row of a predicate before the others.
 use Rattle.std.specs.Prelude.{◌≡◌, ℤ, Bool, true, false, List}
-use Rattle.typed_formula.specs.Truth.{Meaning}
+use Rattle.form_typed.specs.Truth.{Meaning}
 use Rattle.formula.specs.Form.{Form, FormTruth, is_pure}
 
 -- with true: P or, where not, Q (the stable form); with false: not P, and Q

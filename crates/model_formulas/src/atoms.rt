@@ -68,7 +68,13 @@ pub fn equation(alloc: Global, t: Term) -> Core
 {
     match constant_of(&t) {
         None => Core::Eq(t),
-        Some(k) => { if k == 0 { truth(alloc, true) } else { truth(alloc, false) } }
+        Some(k) => {
+            if k == 0 {
+                truth(alloc, true)
+            } else {
+                truth(alloc, false)
+            }
+        }
     }
 }
 
@@ -79,7 +85,13 @@ pub fn inequation(alloc: Global, t: Term) -> Core
 {
     match constant_of(&t) {
         None => Core::Neq(t),
-        Some(k) => { if k == 0 { truth(alloc, false) } else { truth(alloc, true) } }
+        Some(k) => {
+            if k == 0 {
+                truth(alloc, false)
+            } else {
+                truth(alloc, true)
+            }
+        }
     }
 }
 
@@ -90,7 +102,13 @@ pub fn inequality(alloc: Global, t: Term) -> Core
 {
     match constant_of(&t) {
         None => Core::Geq(t),
-        Some(k) => { if k < 0 { truth(alloc, false) } else { truth(alloc, true) } }
+        Some(k) => {
+            if k < 0 {
+                truth(alloc, false)
+            } else {
+                truth(alloc, true)
+            }
+        }
     }
 }
 
@@ -121,12 +139,7 @@ pub fn equals(alloc: Global, effort: &mut Effort, t: &Term, n: i128) -> Result<C
 
 /// The terms have these values.
 #[tactic(auto, using(crate::proofs::Matching::matching))]
-pub fn matches(
-    alloc: Global,
-    effort: &mut Effort,
-    ts: &[Term],
-    xs: &[i128],
-) -> Result<Core, Fault>
+pub fn matches(alloc: Global, effort: &mut Effort, ts: &[Term], xs: &[i128]) -> Result<Core, Fault>
     ensures { IfOk result (λ g. Tells (form g) (λ e. values_of ts.now e ≡ xs.now)) }
 {
     if ts.len() != xs.len() {

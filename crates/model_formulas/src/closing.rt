@@ -5,9 +5,9 @@ ghost use Rattle.formula.specs.Form.{existential, universal};
 ghost use Rattle.formula.specs.Tree.{form};
 ghost use Rattle.model_formulas.specs.Expanded.{IsBound};
 
+use crate::atoms::{is_false, is_true};
 use formula::{Core, Shared};
 use linear_term::Memory;
-use crate::atoms::{is_false, is_true};
 use std::alloc::Global;
 
 /// For all integers the formula.

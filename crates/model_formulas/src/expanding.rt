@@ -14,8 +14,8 @@ use crate::connecting::{all, any, both, push_all, push_any};
 use crate::effort::Effort;
 use crate::fault::Fault;
 use crate::placing::{
-    differing_at, equation_at, inequality_at, inequation_at, no_predicate_at, predicate_at, with_name,
-    with_value,
+    differing_at, equation_at, inequality_at, inequation_at, no_predicate_at, predicate_at,
+    with_name, with_value,
 };
 use crate::reading::read;
 use formula::Core;
@@ -75,7 +75,15 @@ pub fn expand(
         }
         Core::Forall(body) => match read(alloc, effort, model, body.get(), ts)? {
             Some(guards) => {
-                let g = rest_of(alloc, effort, model, body.get(), guards.as_slice(), ts, names)?;
+                let g = rest_of(
+                    alloc,
+                    effort,
+                    model,
+                    body.get(),
+                    guards.as_slice(),
+                    ts,
+                    names,
+                )?;
                 Ok(g)
             }
             None => {
@@ -83,7 +91,14 @@ pub fn expand(
                     return Err(Fault::Room);
                 }
                 let inner = with_name(alloc, effort, ts, names)?;
-                let g = expand(alloc, effort, model, body.get(), inner.as_slice(), names + 1)?;
+                let g = expand(
+                    alloc,
+                    effort,
+                    model,
+                    body.get(),
+                    inner.as_slice(),
+                    names + 1,
+                )?;
                 let h = for_all(alloc, g)?;
                 Ok(h)
             }
@@ -93,7 +108,14 @@ pub fn expand(
                 return Err(Fault::Room);
             }
             let inner = with_name(alloc, effort, ts, names)?;
-            let g = expand(alloc, effort, model, body.get(), inner.as_slice(), names + 1)?;
+            let g = expand(
+                alloc,
+                effort,
+                model,
+                body.get(),
+                inner.as_slice(),
+                names + 1,
+            )?;
             let h = for_some(alloc, g)?;
             Ok(h)
         }
@@ -174,7 +196,15 @@ fn rest_of(
     let mut out = Items::new(alloc);
     for guard in guards {
         let inner = with_value(alloc, effort, ts, guard)?;
-        let rest = any_of(alloc, effort, model, members.as_slice(), 1, inner.as_slice(), names)?;
+        let rest = any_of(
+            alloc,
+            effort,
+            model,
+            members.as_slice(),
+            1,
+            inner.as_slice(),
+            names,
+        )?;
         let when = guard.when.copy(alloc)?;
         let g = both(alloc, when, rest)?;
         push_any(&mut out, g)?;

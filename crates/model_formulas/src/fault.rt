@@ -1,7 +1,7 @@
 // Why a formula is not judged.
 
+use base_budget::{ElimFault, Spent};
 use linear_term::{Memory, TermFault};
-use purse::{ElimFault, Spent};
 use std::alloc::{AllocError, AllocFailed};
 
 /// What cuts a judgement.

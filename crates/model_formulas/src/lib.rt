@@ -14,7 +14,9 @@ mod predicates;
 mod putting;
 mod reading;
 
-pub use atoms::{equals, equation, inequality, inequation, is_false, is_true, known, matches, truth};
+pub use atoms::{
+    equals, equation, inequality, inequation, is_false, is_true, known, matches, truth,
+};
 pub use choosing::{Guard, choices, differing};
 pub use connecting::{all, any, both, either, push_all, push_any};
 pub use effort::Effort;

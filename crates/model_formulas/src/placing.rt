@@ -21,7 +21,12 @@ use std::alloc::Global;
 
 /// t = 0.
 #[tactic(auto, using(crate::proofs::Placed::equations))]
-pub(crate) fn equation_at(alloc: Global, effort: &mut Effort, t: &Term, ts: &[Term]) -> Result<Core, Fault>
+pub(crate) fn equation_at(
+    alloc: Global,
+    effort: &mut Effort,
+    t: &Term,
+    ts: &[Term],
+) -> Result<Core, Fault>
     ensures { IfOk result (λ g. (m : Model) (n : ℕ) → IsExpansion m (equal t.now) ts.now n (form g)) }
 {
     let u = put_in(alloc, effort, ts, t)?;
@@ -30,7 +35,12 @@ pub(crate) fn equation_at(alloc: Global, effort: &mut Effort, t: &Term, ts: &[Te
 
 /// t is not 0.
 #[tactic(auto, using(crate::proofs::Placed::equations))]
-pub(crate) fn inequation_at(alloc: Global, effort: &mut Effort, t: &Term, ts: &[Term]) -> Result<Core, Fault>
+pub(crate) fn inequation_at(
+    alloc: Global,
+    effort: &mut Effort,
+    t: &Term,
+    ts: &[Term],
+) -> Result<Core, Fault>
     ensures { IfOk result (λ g. (m : Model) (n : ℕ) → IsExpansion m (unequal t.now) ts.now n (form g)) }
 {
     let u = put_in(alloc, effort, ts, t)?;
@@ -39,7 +49,12 @@ pub(crate) fn inequation_at(alloc: Global, effort: &mut Effort, t: &Term, ts: &[
 
 /// t is at least 0.
 #[tactic(auto, using(crate::proofs::Placed::equations))]
-pub(crate) fn inequality_at(alloc: Global, effort: &mut Effort, t: &Term, ts: &[Term]) -> Result<Core, Fault>
+pub(crate) fn inequality_at(
+    alloc: Global,
+    effort: &mut Effort,
+    t: &Term,
+    ts: &[Term],
+) -> Result<Core, Fault>
     ensures { IfOk result (λ g. (m : Model) (n : ℕ) → IsExpansion m (at_least t.now) ts.now n (form g)) }
 {
     let u = put_in(alloc, effort, ts, t)?;
@@ -101,7 +116,12 @@ pub(crate) fn differing_at(
 }
 
 /// The terms, and behind them the name x.
-pub(crate) fn with_name(alloc: Global, effort: &mut Effort, ts: &[Term], x: u32) -> Result<Items<Term>, Fault>
+pub(crate) fn with_name(
+    alloc: Global,
+    effort: &mut Effort,
+    ts: &[Term],
+    x: u32,
+) -> Result<Items<Term>, Fault>
     ensures { IfOk result (λ r. r ≡ ts.now ++ linear.name x ∷ []) }
 {
     let r = with_term(alloc, effort, ts, Term::name(alloc, x))?;
@@ -109,7 +129,12 @@ pub(crate) fn with_name(alloc: Global, effort: &mut Effort, ts: &[Term], x: u32)
 }
 
 /// The terms, and behind them the value of the guard.
-pub(crate) fn with_value(alloc: Global, effort: &mut Effort, ts: &[Term], guard: &Guard) -> Result<Items<Term>, Fault>
+pub(crate) fn with_value(
+    alloc: Global,
+    effort: &mut Effort,
+    ts: &[Term],
+    guard: &Guard,
+) -> Result<Items<Term>, Fault>
     ensures { IfOk result (λ r. r ≡ ts.now ++ linear.number guard.now.value ∷ []) }
 {
     let value = number(alloc, guard.value)?;

@@ -28,7 +28,11 @@ fn combine(effort: &mut Effort, m: i128, s: &Term, n: i128, t: &Term) -> Result<
     requires n_in_range { InRange n }
     ensures { IfOk result (λ r. r ≡ combination m s.now n t.now) }
 {
-    effort.step((s.len() as u64).saturating_add(t.len() as u64).saturating_add(1))?;
+    effort.step(
+        (s.len() as u64)
+            .saturating_add(t.len() as u64)
+            .saturating_add(1),
+    )?;
     Ok(Term::combine(m, s, n, t)?)
 }
 
@@ -69,12 +73,7 @@ fn put_one(
 
 /// The term with the terms ts for its names.
 #[tactic(auto, using(crate::proofs::Puts::puts))]
-pub fn put_in(
-    alloc: Global,
-    effort: &mut Effort,
-    ts: &[Term],
-    t: &Term,
-) -> Result<Term, Fault>
+pub fn put_in(alloc: Global, effort: &mut Effort, ts: &[Term], t: &Term) -> Result<Term, Fault>
     ensures { IfOk result (λ r. r ≡ terms.put_in ts.now t.now) }
 {
     let mut sum = Term::number(alloc, t.constant());

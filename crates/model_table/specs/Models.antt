@@ -3,7 +3,7 @@ use Rattle.std.specs.Prelude.{◌≡◌, ℕ, zero, suc, ℤ, pos, Bool, true, f
 use Rattle.std.specs.List.{AllByRecursion}
 use Rattle.std.specs.Ordering.{int_eq}
 use Rattle.std.specs.Cmp.Lexicographic.{pointwise}
-use Rattle.typed_formula.specs.Truth.{Meaning}
+use Rattle.form_typed.specs.Truth.{Meaning}
 use Rattle.model_table.specs.declared.model.ValueEntry.{ValueEntry}
 use Rattle.model_table.specs.declared.model.TruthEntry.{TruthEntry}
 use Rattle.model_table.specs.declared.model.FunctionModel.{FunctionModel}

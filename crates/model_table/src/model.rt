@@ -41,7 +41,7 @@ pub struct Model {
     pub predicates: Items<PredicateModel>,
 }
 
-impl typed_formula::World for Model {
+impl form_typed::World for Model {
     ghost use Rattle.model_table.specs.Models.{truth_at, value_at};
 
     ghost truth = { λ m p xs. truth_at m.predicates p xs };

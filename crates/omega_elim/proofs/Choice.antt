@@ -7,12 +7,12 @@ use Rattle.std.proofs.lemmas.Bool.Decides.{nat_tests}
 use Rattle.std.proofs.lemmas.Bool.{cond-false}
 use Rattle.std.proofs.lemmas.List.Elements.{All-weaker}
 use Rattle.std.proofs.lemmas.List.Sums.{AllPass-from_list_all, position_or_len_is}
-use Rattle.purse.specs.declared.fault.StepFault.{StepFault}
-use Rattle.purse.specs.declared.log.Entry.{Entry}
-use Rattle.purse.specs.declared.log.Entry.TheVariants.{OneSided, Exact, Dark}
-use Rattle.purse.specs.Trace.{Funds, Traced, just, next}
-use Rattle.purse.specs.Work.{Charged}
-use Rattle.purse.proofs.Charging.{then_ok, then_err, then_just, charged_value}
+use Rattle.base_budget.specs.declared.fault.StepFault.{StepFault}
+use Rattle.base_budget.specs.declared.log.Entry.{Entry}
+use Rattle.base_budget.specs.declared.log.Entry.TheVariants.{OneSided, Exact, Dark}
+use Rattle.base_budget.specs.Trace.{Funds, Traced, just, next}
+use Rattle.base_budget.specs.Work.{Charged}
+use Rattle.base_budget.proofs.Charging.{then_ok, then_err, then_just, charged_value}
 use Rattle.clause_set.specs.declared.literal.Literal.{Literal}
 use Rattle.clause_set.specs.declared.literal.Literal.TheVariants.{Eq, Geq, Div, NDiv}
 use Rattle.clause_set.specs.Literals.{IsLiteral}
@@ -20,7 +20,7 @@ use Rattle.clause_set.specs.Met.{IsMet}
 use Rattle.clause_set.specs.Names.{has, coefficient, is_equation, is_bound, is_divisibility, is_indivisibility, is_lower, is_upper}
 use Rattle.clause_set.specs.Rules.{applies, rule, first_rule, first_of, when, has_unit, is_bounded, is_two_sided, is_exact, is_one_sided, is_least_equation, measure}
 use Rattle.clause_set.specs.Shadows.{lowers, uppers, one_sided, exact, dark}
-use Rattle.shadow_laws.proofs.Forms.{one_sided-kept, exact-kept, dark-kept, one_sided-nearer, exact-nearer, dark-nearer}
+use Rattle.elim_rule_laws.proofs.Forms.{one_sided-kept, exact-kept, dark-kept, one_sided-nearer, exact-nearer, dark-nearer}
 use Rattle.omega_elim.specs.Projection.{bounds_entry, with_entry, projection}
 
 -- ---- which rule

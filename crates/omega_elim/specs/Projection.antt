@@ -1,8 +1,8 @@
 -- A name out of a clause that only bounds it, by the first rule that applies.
 use Rattle.std.specs.Prelude.{ℕ, cond, List}
-use Rattle.purse.specs.Trace.{Traced, just, next}
-use Rattle.purse.specs.declared.log.Entry.{Entry}
-use Rattle.purse.specs.declared.log.Entry.TheVariants.{OneSided, Exact, Dark}
+use Rattle.base_budget.specs.Trace.{Traced, just, next}
+use Rattle.base_budget.specs.declared.log.Entry.{Entry}
+use Rattle.base_budget.specs.declared.log.Entry.TheVariants.{OneSided, Exact, Dark}
 use Rattle.clause_set.specs.declared.literal.Literal.{Literal}
 use Rattle.clause_set.specs.Rules.{is_one_sided, is_exact, rule}
 

@@ -6,13 +6,13 @@ ghost use Rattle.clause_set.specs.Met.{IsMet};
 ghost use Rattle.clause_set.specs.Rules.{first_rule, has_unit, is_bounded, measure};
 ghost use Rattle.clause_set.specs.Shadows.{lowers, uppers};
 ghost use Rattle.omega_elim.specs.Projection.{bounds_entry, projection};
-ghost use Rattle.purse.specs.Work.{Charged};
+ghost use Rattle.base_budget.specs.Work.{Charged};
 ghost use Rattle.std.specs.List.{list_all};
 ghost use Rattle.std.specs.Prelude.{◌≡◌, ◌<◌, ◌↔◌, ◌&&◌, ◌||◌, [], ◌∷◌, All, IfOk, length, List, nat_lt, Some, true, ℕ, ℤ};
 
+use base_budget::{Entry, Purse, StepFault};
 use clause_set::{Clause, Literal};
-use purse::{Entry, Purse, StepFault};
-use rule_code::{Side, all_units, bounds_alone, dark, exact, has_name, literals_on, one_sided};
+use elim_rules::{Side, all_units, bounds_alone, dark, exact, has_name, literals_on, one_sided};
 use sqlite_items::Items;
 use std::alloc::Global;
 
@@ -29,7 +29,7 @@ pub fn is_bounded(c: &Clause, x: u32) -> bool
 ///
 /// Refused with Steps where the rule's charge passes the budget, and then nothing is spent; else with Overflow where a
 /// number that the rule computes leaves the range, which it names.
-#[tactic(auto, using(purse::proofs::Charging::charging))]
+#[tactic(auto, using(base_budget::proofs::Charging::charging))]
 pub fn project(
     alloc: Global,
     c: &Clause,
@@ -67,7 +67,7 @@ fn is_unit(lows: &[Literal], ups: &[Literal], x: u32) -> bool
 }
 
 /// The first rule that applies, by the bounds of x.
-#[tactic(auto, using(purse::proofs::Charging::charging))]
+#[tactic(auto, using(base_budget::proofs::Charging::charging))]
 fn by_bounds(
     alloc: Global,
     c: &Clause,

@@ -1,17 +1,17 @@
 -- The work of `least`, call by call, and what its answer says.
 use Rattle.std.proofs.Common.{◌≡◌, ℕ, ℤ, false, List, [], ◌++◌, length, Result, Ok, Err, IsErrAnd, refl, sym, ◌∙◌, ap, subst}
 use Rattle.std.specs.Prelude.{All, IfOk, OnOk}
-use Rattle.purse.specs.declared.fault.StepFault.{StepFault}
-use Rattle.purse.specs.declared.fault.StepFault.TheVariants as step_fault
-use Rattle.purse.specs.declared.fault.ElimFault.{ElimFault}
-use Rattle.purse.specs.declared.fault.ElimFault.TheVariants.{Steps, Overflow, Memory}
-use Rattle.purse.specs.declared.log.Entry.{Entry}
-use Rattle.purse.specs.declared.log.ElimLog.{ElimLog}
-use Rattle.purse.specs.Trace.{Funds, Traced, just, next, new_log}
-use Rattle.purse.specs.Work.{Charged}
-use Rattle.purse.specs.Followed.{Followed}
-use Rattle.purse.proofs.Following.{follow_ok, follow_err, follow_fault, follow_just, follow_unnoted, follow_note, followed_value}
-use Rattle.purse.proofs.Charging.{charged_value}
+use Rattle.base_budget.specs.declared.fault.StepFault.{StepFault}
+use Rattle.base_budget.specs.declared.fault.StepFault.TheVariants as step_fault
+use Rattle.base_budget.specs.declared.fault.ElimFault.{ElimFault}
+use Rattle.base_budget.specs.declared.fault.ElimFault.TheVariants.{Steps, Overflow, Memory}
+use Rattle.base_budget.specs.declared.log.Entry.{Entry}
+use Rattle.base_budget.specs.declared.log.ElimLog.{ElimLog}
+use Rattle.base_budget.specs.Trace.{Funds, Traced, just, next, new_log}
+use Rattle.base_budget.specs.Work.{Charged}
+use Rattle.base_budget.specs.Followed.{Followed}
+use Rattle.base_budget.proofs.Following.{follow_ok, follow_err, follow_fault, follow_just, follow_unnoted, follow_note, followed_value}
+use Rattle.base_budget.proofs.Charging.{charged_value}
 use Rattle.linear_term.specs.Linear.{Linear, IsNormal, IsOver, value_of}
 use Rattle.linear_term.proofs.Names.{reduced-normal}
 use Rattle.clause_set.specs.declared.literal.Literal.{Literal}
@@ -19,17 +19,17 @@ use Rattle.clause_set.specs.Clause.{IsClause}
 use Rattle.clause_set.specs.Literals.{dnf_truth}
 use Rattle.elim_laws.specs.Logs.{entries_of}
 use Rattle.elim_laws.specs.Whole.{AreOver, names_out}
-use Rattle.solution_laws.specs.Solutions.{solving}
+use Rattle.solve_laws.specs.Solutions.{solving}
 use Rattle.parameter_solver.specs.Logs.{Solves, in_log}
 use Rattle.parameter_solver.specs.Names.{IsOfName}
 use Rattle.parameter_solver.specs.declared.solving.Solved.TheVariants as solved
 use Rattle.parameter_solver.proofs.Parting.{to_names}
 use Rattle.parameter_solver.proofs.Spanning.{given, given_names}
-use Rattle.least_laws.specs.declared.floor.Floor.{Floor}
-use Rattle.least_laws.specs.declared.floor.Floor.TheVariants.{Nowhere, At, Unbounded}
-use Rattle.least_laws.specs.OneName.{dnf_floor}
-use Rattle.least_laws.specs.Least.{IsAttained, IsMinimum, IsTask, Minimum, nothing, no_least, least_at, at_values, by_floor, minimising, values_floor, with_level, with_objective}
-use Rattle.least_laws.proofs.Least.{least-exact, level-over, level-satisfied, objective-alone, task, values-attained}
+use Rattle.optimiser.specs.declared.floor.Floor.{Floor}
+use Rattle.optimiser.specs.declared.floor.Floor.TheVariants.{Nowhere, At, Unbounded}
+use Rattle.optimiser.specs.OneName.{dnf_floor}
+use Rattle.optimiser.specs.Least.{IsAttained, IsMinimum, IsTask, Minimum, nothing, no_least, least_at, at_values, by_floor, minimising, values_floor, with_level, with_objective}
+use Rattle.optimiser.proofs.LeastProofs.{least-exact, level-over, level-satisfied, objective-alone, task, values-attained}
 use Rattle.optimiser.specs.Answers.{Minimises, MinimisesFrom, minimum_of, with_log}
 use Rattle.optimiser.specs.declared.found.Least.{Least}
 use Rattle.optimiser.specs.declared.found.Least.TheVariants as least

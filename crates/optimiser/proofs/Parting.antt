@@ -2,24 +2,24 @@
 use Rattle.std.proofs.Common.{◌≡◌, ℕ, ℤ, List, Option, Some, None, Result, Ok, Err, IsErrAnd, sym, ◌∙◌, ap, subst}
 use Rattle.std.specs.Prelude.{position}
 use Rattle.std.proofs.lemmas.Bool.{cond-true, cond-false}
-use Rattle.purse.specs.declared.fault.StepFault.{StepFault}
-use Rattle.purse.specs.declared.log.Entry.{Entry}
-use Rattle.purse.specs.Trace.{Funds, Traced, just, next}
-use Rattle.purse.specs.Work.{Charged, Worked}
-use Rattle.purse.proofs.Charging.{then_ok, then_err, free, work_ok, work_just}
-use Rattle.purse.proofs.Tracing.{next-same, next-just, next-assoc}
+use Rattle.base_budget.specs.declared.fault.StepFault.{StepFault}
+use Rattle.base_budget.specs.declared.log.Entry.{Entry}
+use Rattle.base_budget.specs.Trace.{Funds, Traced, just, next}
+use Rattle.base_budget.specs.Work.{Charged, Worked}
+use Rattle.base_budget.proofs.Charging.{then_ok, then_err, free, work_ok, work_just}
+use Rattle.base_budget.proofs.Tracing.{next-same, next-just, next-assoc}
 use Rattle.clause_set.specs.declared.literal.Literal.{Literal}
 use Rattle.clause_set.specs.Names.{is_equation}
 use Rattle.clause_set.specs.Rules.{rule}
-use Rattle.solution_laws.specs.Candidates.{first_split, lower, root_at}
+use Rattle.solve_laws.specs.Candidates.{first_split, lower, root_at}
 use Rattle.parameter_solver.specs.Names.{IsOfName}
 use Rattle.parameter_solver.specs.Splits.{split_at, splitting}
 use Rattle.parameter_solver.proofs.Parting.{any_place, no_place, of_name}
-use Rattle.least_laws.specs.declared.floor.Floor.{Floor}
-use Rattle.least_laws.specs.declared.floor.Floor.TheVariants.{Nowhere}
-use Rattle.least_laws.specs.Floors.{first_floor}
-use Rattle.least_laws.specs.OneName.{clause_floor, floor_by, floor_from, floors}
-use Rattle.least_laws.proofs.OneName.{clause_floor-unfold}
+use Rattle.optimiser.specs.declared.floor.Floor.{Floor}
+use Rattle.optimiser.specs.declared.floor.Floor.TheVariants.{Nowhere}
+use Rattle.optimiser.specs.Floors.{first_floor}
+use Rattle.optimiser.specs.OneName.{clause_floor, floor_by, floor_from, floors}
+use Rattle.optimiser.proofs.OneName.{clause_floor-unfold}
 
 -- ---- with an equation
 pub root_done : (j i : ℕ) (c : List Literal) (vs us : List ℤ) (f : Floor) → Worked (root_at j c (Some i)) (Ok vs) → us ≡ vs → f ≡ first_floor us

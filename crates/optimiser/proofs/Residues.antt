@@ -2,27 +2,27 @@
 use Rattle.std.proofs.Common.{◌≡◌, ◌<◌, ◌≤◌, ℕ, ℤ, pos, ◌-ℤ◌, ◌<ℤ◌, true, List, length, get_or, drop, Some, Result, Ok, Err, IsErrAnd, refl, sym, ◌∙◌, ap, subst, arith}
 use Rattle.std.specs.Int.{int_rem_euclid}
 use Rattle.std.proofs.lemmas.Int.{ints}
-use Rattle.integers.proofs.Residues.{residue-is, residue-only}
-use Rattle.integers.proofs.Ring.{sub-mul}
+use Rattle.base_integers.proofs.Residues.{residue-is, residue-only}
+use Rattle.base_integers.proofs.Ring.{sub-mul}
 use Rattle.linear_term.specs.Linear.{Linear, coef_of}
 use Rattle.linear_term.specs.declared.range.Place.{Place}
-use Rattle.purse.specs.declared.fault.StepFault.{StepFault}
-use Rattle.purse.specs.Trace.{Traced, just, next}
-use Rattle.purse.specs.Work.{Worked}
-use Rattle.purse.proofs.Charging.{work_ok, work_err, work_just}
-use Rattle.purse.proofs.Tracing.{next-assoc, next-same, next-just}
+use Rattle.base_budget.specs.declared.fault.StepFault.{StepFault}
+use Rattle.base_budget.specs.Trace.{Traced, just, next}
+use Rattle.base_budget.specs.Work.{Worked}
+use Rattle.base_budget.proofs.Charging.{work_ok, work_err, work_just}
+use Rattle.base_budget.proofs.Tracing.{next-assoc, next-same, next-just}
 use Rattle.clause_set.specs.declared.literal.Literal.{Literal}
 use Rattle.clause_set.specs.Literals.{term_of}
 use Rattle.clause_set.specs.Names.{is_divisibility}
 use Rattle.clause_set.specs.Order.{divisor_of}
-use Rattle.solution_laws.specs.Nearest.{is_at_most}
-use Rattle.solution_laws.specs.Candidates.{Class, class_of, computed, solutions, upper}
+use Rattle.solve_laws.specs.Nearest.{is_at_most}
+use Rattle.solve_laws.specs.Candidates.{Class, class_of, computed, solutions, upper}
 use Rattle.parameter_solver.proofs.Nearness.{rem-range}
 use Rattle.parameter_solver.proofs.OneName.{class_then, at_literal, class_here, class_none}
 use Rattle.parameter_solver.proofs.Rests.{residue_work}
-use Rattle.least_laws.specs.declared.floor.Floor.{Floor}
-use Rattle.least_laws.specs.Floors.{floor_when}
-use Rattle.least_laws.specs.OneName.{floor_from, up_to_class}
+use Rattle.optimiser.specs.declared.floor.Floor.{Floor}
+use Rattle.optimiser.specs.Floors.{floor_when}
+use Rattle.optimiser.specs.OneName.{floor_from, up_to_class}
 
 -- the remainder of a difference is that of the difference from a remainder
 pub rem-back : (r k m : ℤ) → pos 0 <ℤ m → int_rem_euclid (r -ℤ int_rem_euclid k m) m ≡ int_rem_euclid (r -ℤ k) m

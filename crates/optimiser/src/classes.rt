@@ -3,23 +3,23 @@
 ghost use Rattle.clause_set.specs.Literals.{HasDivisor, term_of};
 ghost use Rattle.clause_set.specs.Names.{is_divisibility};
 ghost use Rattle.clause_set.specs.Order.{divisor_of};
-ghost use Rattle.least_laws.specs.OneName.{floor_from, up_to_class};
+ghost use Rattle.optimiser.specs.OneName.{floor_from, up_to_class};
 ghost use Rattle.linear_term.specs.Range.{InRange};
 ghost use Rattle.optimiser.specs.Ranges.{IsFloorInRange};
 ghost use Rattle.parameter_solver.specs.Classes.{IsClass};
-ghost use Rattle.purse.specs.Trace.{just, next};
-ghost use Rattle.purse.specs.Work.{Worked};
-ghost use Rattle.solution_laws.specs.Candidates.{IsAlone, class_of, computed, lower, solutions};
+ghost use Rattle.base_budget.specs.Trace.{just, next};
+ghost use Rattle.base_budget.specs.Work.{Worked};
+ghost use Rattle.solve_laws.specs.Candidates.{IsAlone, class_of, computed, lower, solutions};
 ghost use Rattle.std.specs.Int.{int_rem_euclid};
 ghost use Rattle.std.specs.Prelude.{◌≡◌, ◌-ℤ◌, All, IfOk, Some, true};
 
 use super::floors::floor_when;
+use crate::floor::Floor;
+use base_budget::StepFault;
 use clause_set::{Clause, Literal};
-use least_laws::Floor;
+use elim_steps::is_divisibility;
 use linear_term::Place;
 use parameter_solver::{is_at_most, lower, residue, upper};
-use purse::StepFault;
-use step_code::is_divisibility;
 
 /// How far the least number of the class from k on is from k. `r - k` itself may be too great for an i128.
 #[tactic(auto, using(crate::proofs::Residues::remainders))]

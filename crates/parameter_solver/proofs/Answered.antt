@@ -1,18 +1,18 @@
 -- What the answer of `solve` says.
 use Rattle.std.proofs.Common.{◌≡◌, ℕ, ℤ, false, List, [], ◌∷◌, ◌++◌, length, Option, Some, None, Result, Ok, Err, IsErrAnd, refl, sym, ◌∙◌, ap, subst, arith}
-use Rattle.purse.specs.declared.fault.StepFault.{StepFault}
-use Rattle.purse.specs.declared.fault.StepFault.TheVariants as step_fault
-use Rattle.purse.specs.declared.fault.ElimFault.{ElimFault}
-use Rattle.purse.specs.declared.log.Entry.{Entry}
-use Rattle.purse.specs.declared.log.ElimLog.{ElimLog}
-use Rattle.purse.specs.Trace.{Funds, Traced, just, next}
-use Rattle.purse.specs.Followed.{Followed}
-use Rattle.purse.proofs.Following.{follow_ok, follow_just, follow_err, followed_value}
+use Rattle.base_budget.specs.declared.fault.StepFault.{StepFault}
+use Rattle.base_budget.specs.declared.fault.StepFault.TheVariants as step_fault
+use Rattle.base_budget.specs.declared.fault.ElimFault.{ElimFault}
+use Rattle.base_budget.specs.declared.log.Entry.{Entry}
+use Rattle.base_budget.specs.declared.log.ElimLog.{ElimLog}
+use Rattle.base_budget.specs.Trace.{Funds, Traced, just, next}
+use Rattle.base_budget.specs.Followed.{Followed}
+use Rattle.base_budget.proofs.Following.{follow_ok, follow_just, follow_err, followed_value}
 use Rattle.clause_set.specs.declared.literal.Literal.{Literal}
 use Rattle.clause_set.specs.Literals.{dnf_truth}
-use Rattle.solution_laws.specs.Best.{IsBest}
-use Rattle.solution_laws.specs.Solutions.{IsGiven, answered, values_at, solving}
-use Rattle.solution_laws.proofs.Solving.{solving-best, solving-none}
+use Rattle.solve_laws.specs.Best.{IsBest}
+use Rattle.solve_laws.specs.Solutions.{IsGiven, answered, values_at, solving}
+use Rattle.solve_laws.proofs.Solving.{solving-best, solving-none}
 use Rattle.parameter_solver.specs.Logs.{Solves, answer_with, in_log}
 use Rattle.parameter_solver.specs.declared.solving.Solved.{Solved}
 use Rattle.parameter_solver.specs.declared.solving.Solved.TheVariants as solved

@@ -4,14 +4,14 @@ use Rattle.std.proofs.lemmas.List.{append-nil}
 use Rattle.linear_term.specs.declared.range.Place.{Place}
 use Rattle.linear_term.specs.Range.{all_stay}
 use Rattle.elim_laws.specs.Logs.{entries_of}
-use Rattle.purse.specs.declared.fault.StepFault.{StepFault}
-use Rattle.purse.specs.declared.fault.StepFault.TheVariants.{Steps, Overflow, Memory}
-use Rattle.purse.specs.declared.log.Entry.{Entry}
-use Rattle.purse.specs.Runs.{notes}
-use Rattle.purse.specs.Trace.{Funds, Mark, entry, Event, charge, raw, mark, after_charge, after_mark, capped, At, at, End, done, refused, out_of_range, cut, stand, Traced}
-use Rattle.purse.specs.Work.{ChargedAt, Leaves}
-use Rattle.purse.specs.Followed.{after_notes, UnlessMemory, Followed}
-use Rattle.purse.proofs.Cutting.{behind, end_behind, cut-behind, stand-behind}
+use Rattle.base_budget.specs.declared.fault.StepFault.{StepFault}
+use Rattle.base_budget.specs.declared.fault.StepFault.TheVariants.{Steps, Overflow, Memory}
+use Rattle.base_budget.specs.declared.log.Entry.{Entry}
+use Rattle.base_budget.specs.Runs.{notes}
+use Rattle.base_budget.specs.Trace.{Funds, Mark, entry, Event, charge, raw, mark, after_charge, after_mark, capped, At, at, End, done, refused, out_of_range, cut, stand, Traced}
+use Rattle.base_budget.specs.Work.{ChargedAt, Leaves}
+use Rattle.base_budget.specs.Followed.{after_notes, UnlessMemory, Followed}
+use Rattle.base_budget.proofs.Cutting.{behind, end_behind, cut-behind, stand-behind}
 use Rattle.parameter_solver.specs.Logs.{in_log}
 
 -- ---- notes behind others

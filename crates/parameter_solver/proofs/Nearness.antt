@@ -3,15 +3,15 @@ use Rattle.std.proofs.Common.{◌≡◌, ◌+◌, ◌<◌, ◌≤◌, ℕ, ℤ, 
 use Rattle.std.specs.Int.{int_rem_euclid}
 use Rattle.std.proofs.lemmas.Int.{ints}
 use Rattle.std.proofs.lemmas.List.{drop_more}
-use Rattle.purse.proofs.Charging.{drop_all}
-use Rattle.integers.proofs.Residues.{residue-is, residue-only}
-use Rattle.integers.proofs.Ring.{add-mul}
+use Rattle.base_budget.proofs.Charging.{drop_all}
+use Rattle.base_integers.proofs.Residues.{residue-is, residue-only}
+use Rattle.base_integers.proofs.Ring.{add-mul}
 use Rattle.linear_term.specs.Range.{InRange}
 use Rattle.clause_set.specs.Literals.{IsDivisor}
 use Rattle.clause_set.proofs.Quotients.{rem_in_range}
-use Rattle.solution_laws.specs.Best.{rank}
-use Rattle.solution_laws.specs.Nearest.{nearer, nearest_of, nearest}
-use Rattle.solution_laws.proofs.Ranks.{rank-up}
+use Rattle.solve_laws.specs.Best.{rank}
+use Rattle.solve_laws.specs.Nearest.{nearer, nearest_of, nearest}
+use Rattle.solve_laws.proofs.Ranks.{rank-up}
 
 -- the remainder of a difference is that of the difference of a remainder
 pub rem-rem : (a r m : ℤ) → pos 0 <ℤ m → int_rem_euclid (int_rem_euclid a m -ℤ r) m ≡ int_rem_euclid (a -ℤ r) m

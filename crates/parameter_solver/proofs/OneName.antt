@@ -7,30 +7,30 @@ use Rattle.std.specs.List.{AllByRecursion}
 use Rattle.std.proofs.lemmas.Int.{ints}
 use Rattle.std.proofs.lemmas.List.{get_or-map, length-map}
 use Rattle.std.proofs.lemmas.List.Elements.{All-append, All-from_recursion, recursion_from_All, Contains-get_or}
-use Rattle.integers.specs.Entry.{put}
+use Rattle.base_integers.specs.Entry.{put}
 use Rattle.linear_term.specs.Range.{InRange, stays, all_stay}
 use Rattle.linear_term.specs.Linear.{Linear, coef_of, value_of}
 use Rattle.linear_term.proofs.Ranges.{Stays-from_test}
 use Rattle.linear_term.specs.declared.range.Place.{Place}
 use Rattle.linear_term.specs.declared.range.TermFault.{TermFault}
 use Rattle.linear_term.specs.declared.range.TermFault.TheVariants as term_fault
-use Rattle.purse.specs.declared.fault.StepFault.{StepFault}
-use Rattle.purse.specs.declared.fault.StepFault.TheVariants.{Memory}
-use Rattle.purse.specs.Trace.{Traced, raw, at, just, step, next, compute}
-use Rattle.purse.specs.Work.{Worked, step_fault_of}
-use Rattle.purse.proofs.Charging.{work_ok, work_err, work_just, work_memory, raw_ok, raw_leaves, worked_value, drop-item, drop_all}
-use Rattle.purse.proofs.Meaning.{passes_where_runs}
-use Rattle.purse.proofs.Tracing.{next-assoc, next-same, next-just}
+use Rattle.base_budget.specs.declared.fault.StepFault.{StepFault}
+use Rattle.base_budget.specs.declared.fault.StepFault.TheVariants.{Memory}
+use Rattle.base_budget.specs.Trace.{Traced, raw, at, just, step, next, compute}
+use Rattle.base_budget.specs.Work.{Worked, step_fault_of}
+use Rattle.base_budget.proofs.Charging.{work_ok, work_err, work_just, work_memory, raw_ok, raw_leaves, worked_value, drop-item, drop_all}
+use Rattle.base_budget.proofs.Meaning.{passes_where_runs}
+use Rattle.base_budget.proofs.Tracing.{next-assoc, next-same, next-just}
 use Rattle.clause_set.specs.declared.literal.Literal.{Literal}
 use Rattle.clause_set.specs.declared.literal.Literal.TheVariants.{Eq, Geq, Div, NDiv}
 use Rattle.clause_set.specs.Literals.{HasDivisor, IsDivisor, term_of, literal_truth, clause_truth}
 use Rattle.clause_set.specs.Names.{coefficient, is_divisibility, is_equation}
 use Rattle.clause_set.specs.Order.{divisor_of}
 use Rattle.clause_set.specs.Rules.{passes}
-use Rattle.equation_laws.proofs.Lists.{kept-removed}
-use Rattle.solution_laws.specs.Nearest.{when, is_at_most, is_at_least}
-use Rattle.solution_laws.specs.Candidates.{IsAlone, IsSingle, solutions, class_of, value_number, root, root_of, root_at, computed, up_from, down_from, two_between, lower, upper, bounded}
-use Rattle.solution_laws.proofs.Alone.{single-value, single-coefficient, single-mentions}
+use Rattle.elim_rule_laws.proofs.EquationLists.{kept-removed}
+use Rattle.solve_laws.specs.Nearest.{when, is_at_most, is_at_least}
+use Rattle.solve_laws.specs.Candidates.{IsAlone, IsSingle, solutions, class_of, value_number, root, root_of, root_at, computed, up_from, down_from, two_between, lower, upper, bounded}
+use Rattle.solve_laws.proofs.Alone.{single-value, single-coefficient, single-mentions}
 use Rattle.parameter_solver.specs.Values.{is_true_of}
 use Rattle.parameter_solver.proofs.Rests.{residue_work}
 

@@ -6,9 +6,9 @@ use Rattle.std.proofs.lemmas.Bool.Decides.{nat_tests}
 use Rattle.linear_term.specs.Linear.{mentions, has_name}
 use Rattle.clause_set.specs.declared.literal.Literal.{Literal}
 use Rattle.clause_set.specs.Literals.{term_of}
-use Rattle.equation_laws.proofs.Lists.{and_left, and_right, and_both}
+use Rattle.elim_rule_laws.proofs.EquationLists.{and_left, and_right, and_both}
 use Rattle.elim_laws.specs.Whole.{AreOver, Lacks}
-use Rattle.solution_laws.proofs.Alone.{same_name}
+use Rattle.solve_laws.proofs.Alone.{same_name}
 use Rattle.parameter_solver.specs.Over.{term_is_over, clause_is_over}
 
 pairs_lack : (n y : ℕ) (ps : List (ℕ × ℤ)) → n ≤ y → list_all (λ p. nat_lt p.0 n) ps ≡ true → has_name ps y ≡ false

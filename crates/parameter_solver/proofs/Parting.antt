@@ -10,13 +10,13 @@ use Rattle.std.proofs.lemmas.Bool.Decides.{nat_tests}
 use Rattle.linear_term.specs.Linear.{number}
 use Rattle.linear_term.specs.Range.{InRange}
 use Rattle.linear_term.proofs.Totals.{by_test}
-use Rattle.purse.specs.declared.fault.StepFault.{StepFault}
-use Rattle.purse.specs.declared.log.Entry.{Entry}
-use Rattle.purse.specs.declared.log.Entry.TheVariants.{Apart, Merge}
-use Rattle.purse.specs.Trace.{Funds, Traced, just, next, each}
-use Rattle.purse.specs.Work.{Charged, Worked}
-use Rattle.purse.proofs.Charging.{then_ok, then_err, then_just, free, charged_value}
-use Rattle.purse.proofs.Tracing.{next-same, next-just, next-assoc}
+use Rattle.base_budget.specs.declared.fault.StepFault.{StepFault}
+use Rattle.base_budget.specs.declared.log.Entry.{Entry}
+use Rattle.base_budget.specs.declared.log.Entry.TheVariants.{Apart, Merge}
+use Rattle.base_budget.specs.Trace.{Funds, Traced, just, next, each}
+use Rattle.base_budget.specs.Work.{Charged, Worked}
+use Rattle.base_budget.proofs.Charging.{then_ok, then_err, then_just, free, charged_value}
+use Rattle.base_budget.proofs.Tracing.{next-same, next-just, next-assoc}
 use Rattle.clause_set.specs.declared.literal.Literal.{Literal}
 use Rattle.clause_set.specs.declared.literal.Literal.TheVariants.{Geq}
 use Rattle.clause_set.specs.Formed.{IsFormed}
@@ -24,14 +24,14 @@ use Rattle.clause_set.specs.Primitive.{IsShaped}
 use Rattle.clause_set.specs.Names.{is_equation, is_divisibility, is_indivisibility}
 use Rattle.clause_set.specs.Rules.{applies, passes, rule, measure, first_of, first_merge}
 use Rattle.std.specs.Option.{option_map}
-use Rattle.equation_laws.proofs.Lists.{any-got, none-any, kept-weaker}
-use Rattle.solution_laws.specs.Nearest.{nearer, nearest_of, nearest}
-use Rattle.solution_laws.specs.Best.{rank}
-use Rattle.solution_laws.specs.Candidates.{IsAlone, root_at, bounded, first_split, split_by, candidates}
-use Rattle.solution_laws.proofs.Spans.{IsIn, IsName, in-formed, in-shaped, all_lack}
-use Rattle.solution_laws.proofs.Candidates.{position-none, position-got, get-drop}
-use Rattle.solution_laws.proofs.Ranks.{both}
-use Rattle.solution_laws.proofs.Splits.{IsCase, case_of, alone_in, in-alone, clause-splits}
+use Rattle.elim_rule_laws.proofs.EquationLists.{any-got, none-any, kept-weaker}
+use Rattle.solve_laws.specs.Nearest.{nearer, nearest_of, nearest}
+use Rattle.solve_laws.specs.Best.{rank}
+use Rattle.solve_laws.specs.Candidates.{IsAlone, root_at, bounded, first_split, split_by, candidates}
+use Rattle.solve_laws.proofs.Spans.{IsIn, IsName, in-formed, in-shaped, all_lack}
+use Rattle.solve_laws.proofs.Candidates.{position-none, position-got, get-drop}
+use Rattle.solve_laws.proofs.Ranks.{both}
+use Rattle.solve_laws.proofs.Splits.{IsCase, case_of, alone_in, in-alone, clause-splits}
 use Rattle.parameter_solver.specs.Names.{IsOfName}
 use Rattle.parameter_solver.specs.Splits.{split_at, splitting}
 

@@ -3,20 +3,20 @@ use Rattle.std.proofs.Common.{◌≡◌, ℤ, pos, neg_ℤ, ◌+ℤ◌, ◌*ℤ�
 use Rattle.std.specs.Int.{int_rem_euclid}
 use Rattle.std.proofs.lemmas.Int.{ints}
 use Rattle.std.proofs.lemmas.List.Elements.{Contains-get_or}
-use Rattle.integers.specs.Gcd.{gcd}
-use Rattle.integers.proofs.Residues.{rem-bounds}
+use Rattle.base_integers.specs.Gcd.{gcd}
+use Rattle.base_integers.proofs.Residues.{rem-bounds}
 use Rattle.linear_term.specs.Range.{stays}
 use Rattle.linear_term.specs.declared.range.Place.{Place}
 use Rattle.linear_term.specs.declared.range.TermFault.{TermFault}
 use Rattle.linear_term.specs.declared.range.TermFault.TheVariants as term_fault
-use Rattle.purse.specs.declared.fault.StepFault.{StepFault}
-use Rattle.purse.specs.Trace.{Traced, just, next, compute}
-use Rattle.purse.specs.Work.{Worked, step_fault_of}
-use Rattle.purse.proofs.Charging.{work_ok, work_err, work_just, raw_ok, raw_leaves}
+use Rattle.base_budget.specs.declared.fault.StepFault.{StepFault}
+use Rattle.base_budget.specs.Trace.{Traced, just, next, compute}
+use Rattle.base_budget.specs.Work.{Worked, step_fault_of}
+use Rattle.base_budget.proofs.Charging.{work_ok, work_err, work_just, raw_ok, raw_leaves}
 use Rattle.clause_set.specs.Bezout.{Bezout, bezout}
 use Rattle.clause_set.specs.Literals.{IsDivisor}
 use Rattle.clause_set.specs.Names.{product}
-use Rattle.rule_code.proofs.Named.{bezout_found}
+use Rattle.elim_rules.proofs.Named.{bezout_found}
 use Rattle.parameter_solver.specs.Classes.{IsClass}
 use Rattle.parameter_solver.proofs.Computed.{one_stays}
 

@@ -5,15 +5,15 @@ use Rattle.std.specs.List.{AllByRecursion}
 use Rattle.std.proofs.lemmas.Bool.{cases_lt}
 use Rattle.std.proofs.lemmas.List.Elements.{recursion_from_All}
 use mathlib.Core.Logic.{inl, inr}
-use Rattle.purse.specs.declared.fault.StepFault.{StepFault}
-use Rattle.purse.specs.declared.log.Entry.{Entry}
-use Rattle.purse.specs.Trace.{Funds, Traced, just, step, next, note, new_log, at, entry}
-use Rattle.purse.specs.Work.{ChargedAt}
-use Rattle.purse.specs.Followed.{Followed}
+use Rattle.base_budget.specs.declared.fault.StepFault.{StepFault}
+use Rattle.base_budget.specs.declared.log.Entry.{Entry}
+use Rattle.base_budget.specs.Trace.{Funds, Traced, just, step, next, note, new_log, at, entry}
+use Rattle.base_budget.specs.Work.{ChargedAt}
+use Rattle.base_budget.specs.Followed.{Followed}
 use Rattle.elim_laws.specs.Logs.{entries_of}
 use Rattle.parameter_solver.proofs.Logging.{follow_entries, entries_added}
-use Rattle.purse.proofs.Following.{followed_value}
-use Rattle.purse.proofs.Tracing.{next-same, next-just, next-assoc}
+use Rattle.base_budget.proofs.Following.{followed_value}
+use Rattle.base_budget.proofs.Tracing.{next-same, next-just, next-assoc}
 use Rattle.clause_set.specs.declared.literal.Literal.{Literal}
 use Rattle.clause_set.specs.Clause.{IsClause}
 use Rattle.clause_set.specs.Formed.{IsFormed}
@@ -21,13 +21,13 @@ use Rattle.clause_set.specs.Primitive.{IsShaped}
 use Rattle.clause_set.specs.Literals.{term_of}
 use Rattle.clause_set.proofs.Formed.{clause-is_formed}
 use Rattle.clause_set.proofs.Shapes.{clause-shaped}
-use Rattle.equation_laws.proofs.Lists.{kept-weaker}
+use Rattle.elim_rule_laws.proofs.EquationLists.{kept-weaker}
 use Rattle.elim_laws.specs.Elimination.{exists_name}
 use Rattle.elim_laws.specs.Whole.{AreOver, Lacks, names_out}
-use Rattle.solution_laws.specs.Solutions.{IsGiven, names_from, values_at, chosen, with_value}
-use Rattle.solution_laws.proofs.Spans.{IsIn, IsName, IsFrom, Spans, all_lack, all_from_lacks, spans-formed, spans-shaped}
-use Rattle.solution_laws.proofs.Outs.{exists_name-spans}
-use Rattle.solution_laws.proofs.Solving.{with_value-spans}
+use Rattle.solve_laws.specs.Solutions.{IsGiven, names_from, values_at, chosen, with_value}
+use Rattle.solve_laws.proofs.Spans.{IsIn, IsName, IsFrom, Spans, all_lack, all_from_lacks, spans-formed, spans-shaped}
+use Rattle.solve_laws.proofs.Outs.{exists_name-spans}
+use Rattle.solve_laws.proofs.Solving.{with_value-spans}
 use Rattle.parameter_solver.specs.Names.{IsOfName, IsOfNames}
 use Rattle.parameter_solver.specs.Logs.{in_log, value_step}
 use Rattle.parameter_solver.proofs.Parting.{to_names}

@@ -1,15 +1,15 @@
 -- What `solve` did, by its answer and the log that the answer carries.
 use Rattle.std.specs.Prelude.{ℕ, suc, ℤ, List, [], ◌∷◌, ◌++◌, Option, Some, None, Result, Ok, Err}
-use Rattle.purse.specs.declared.fault.StepFault.{StepFault}
-use Rattle.purse.specs.declared.fault.StepFault.TheVariants as step_fault
-use Rattle.purse.specs.declared.fault.ElimFault.{ElimFault}
-use Rattle.purse.specs.declared.fault.ElimFault.TheVariants.{Steps, Overflow, Memory}
-use Rattle.purse.specs.declared.log.Entry.{Entry}
-use Rattle.purse.specs.declared.log.ElimLog.{ElimLog}
-use Rattle.purse.specs.Trace.{Funds, Mark, entry, new_log, round, enter, back, Traced, just, next, note}
-use Rattle.purse.specs.Followed.{Followed}
+use Rattle.base_budget.specs.declared.fault.StepFault.{StepFault}
+use Rattle.base_budget.specs.declared.fault.StepFault.TheVariants as step_fault
+use Rattle.base_budget.specs.declared.fault.ElimFault.{ElimFault}
+use Rattle.base_budget.specs.declared.fault.ElimFault.TheVariants.{Steps, Overflow, Memory}
+use Rattle.base_budget.specs.declared.log.Entry.{Entry}
+use Rattle.base_budget.specs.declared.log.ElimLog.{ElimLog}
+use Rattle.base_budget.specs.Trace.{Funds, Mark, entry, new_log, round, enter, back, Traced, just, next, note}
+use Rattle.base_budget.specs.Followed.{Followed}
 use Rattle.clause_set.specs.declared.literal.Literal.{Literal}
-use Rattle.solution_laws.specs.Solutions.{names_from, chosen, with_value}
+use Rattle.solve_laws.specs.Solutions.{names_from, chosen, with_value}
 use Rattle.parameter_solver.specs.declared.solving.Solved.{Solved}
 use Rattle.parameter_solver.specs.declared.solving.Solved.TheVariants as solved
 

@@ -1,10 +1,10 @@
 -- A clause in one name and its first split.
 use Rattle.std.specs.Prelude.{ℕ, List, Option, Some, None}
-use Rattle.purse.specs.declared.log.Entry.{Entry}
-use Rattle.purse.specs.Trace.{Traced, just, next}
+use Rattle.base_budget.specs.declared.log.Entry.{Entry}
+use Rattle.base_budget.specs.Trace.{Traced, just, next}
 use Rattle.clause_set.specs.declared.literal.Literal.{Literal}
 use Rattle.clause_set.specs.Rules.{rule}
-use Rattle.solution_laws.specs.Candidates.{first_split}
+use Rattle.solve_laws.specs.Candidates.{first_split}
 
 -- what the rule of the entry leaves, if there is one
 abbrev pub split_at : ℕ → List Literal → Option Entry → Traced (Option (List (List Literal)))

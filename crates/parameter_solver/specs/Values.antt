@@ -1,7 +1,7 @@
 -- Literals whose term is a number.
 use Rattle.std.specs.Prelude.{ℤ, pos, Bool, not, unsigned_abs, int_le}
 use Rattle.std.specs.Ordering.{int_eq}
-use Rattle.integers.specs.Divides.{divides}
+use Rattle.base_integers.specs.Divides.{divides}
 use Rattle.clause_set.specs.declared.literal.Literal.{Literal}
 use Rattle.clause_set.specs.declared.literal.Literal.TheVariants.{Eq, Geq, Div, NDiv}
 

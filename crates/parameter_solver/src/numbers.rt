@@ -2,15 +2,15 @@
 
 ghost use Rattle.linear_term.specs.Range.{InRange};
 ghost use Rattle.parameter_solver.specs.Classes.{IsClass};
-ghost use Rattle.purse.specs.Work.{Worked};
-ghost use Rattle.solution_laws.specs.Best.{rank};
-ghost use Rattle.solution_laws.specs.Candidates.{computed, down_from, two_between, up_from};
-ghost use Rattle.solution_laws.specs.Nearest.{below_zero, is_at_least, is_at_most, nearest, not_below_zero, when};
+ghost use Rattle.base_budget.specs.Work.{Worked};
+ghost use Rattle.solve_laws.specs.Best.{rank};
+ghost use Rattle.solve_laws.specs.Candidates.{computed, down_from, two_between, up_from};
+ghost use Rattle.solve_laws.specs.Nearest.{below_zero, is_at_least, is_at_most, nearest, not_below_zero, when};
 ghost use Rattle.std.specs.Int.{int_rem_euclid};
 ghost use Rattle.std.specs.Prelude.{◌≡◌, ◌≤ℤ◌, ◌<ℤ◌, ◌-ℤ◌, ◌++◌, nat_lt, neg_ℤ, pos, IfSome, OnOk};
 
+use base_budget::StepFault;
 use linear_term::{Memory, Place};
-use purse::StepFault;
 use sqlite_items::Items;
 use std::alloc::Global;
 
@@ -155,7 +155,7 @@ pub(crate) fn opposite(k: i128) -> i128
 }
 
 /// The two numbers of the class r modulo m next to 0, those of them that are between the bounds.
-#[tactic(auto, using(purse::proofs::Charging::working))]
+#[tactic(auto, using(base_budget::proofs::Charging::working))]
 pub(crate) fn two_between(
     alloc: Global,
     m: i128,

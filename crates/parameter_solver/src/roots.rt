@@ -1,19 +1,19 @@
 // The candidate of an equation j + k = 0: −k, if the other literals are true there.
 
 ghost use Rattle.clause_set.specs.Literals.{HasDivisor, IsDivisor, clause_truth};
-ghost use Rattle.integers.specs.Divides.{divides};
-ghost use Rattle.integers.specs.Entry.{put};
+ghost use Rattle.base_integers.specs.Divides.{divides};
+ghost use Rattle.base_integers.specs.Entry.{put};
 ghost use Rattle.linear_term.specs.Range.{InRange};
 ghost use Rattle.parameter_solver.specs.Values.{is_true_of};
-ghost use Rattle.purse.specs.Trace.{compute, just, next};
-ghost use Rattle.purse.specs.Work.{Worked};
-ghost use Rattle.solution_laws.specs.Candidates.{IsAlone, root, value_number};
+ghost use Rattle.base_budget.specs.Trace.{compute, just, next};
+ghost use Rattle.base_budget.specs.Work.{Worked};
+ghost use Rattle.solve_laws.specs.Candidates.{IsAlone, root, value_number};
 ghost use Rattle.std.specs.Prelude.{◌≡◌, ◌&&◌, [], All, IfOk, map, unsigned_abs};
 
 use super::numbers::push_when;
+use base_budget::StepFault;
 use clause_set::Literal;
 use linear_term::Place;
-use purse::StepFault;
 use sqlite_items::Items;
 use std::alloc::Global;
 

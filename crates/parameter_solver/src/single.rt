@@ -6,9 +6,9 @@ ghost use Rattle.clause_set.specs.Literals.{HasDivisor, IsDivisor, term_of};
 ghost use Rattle.clause_set.specs.Order.{divisor_of};
 ghost use Rattle.linear_term.specs.Range.{InRange};
 ghost use Rattle.parameter_solver.specs.Classes.{IsClass};
-ghost use Rattle.purse.specs.Trace.{compute, just, next};
-ghost use Rattle.purse.specs.Work.{Worked};
-ghost use Rattle.solution_laws.specs.Candidates.{IsAlone, bounded, lower, root_at, solutions, two_between, upper};
+ghost use Rattle.base_budget.specs.Trace.{compute, just, next};
+ghost use Rattle.base_budget.specs.Work.{Worked};
+ghost use Rattle.solve_laws.specs.Candidates.{IsAlone, bounded, lower, root_at, solutions, two_between, upper};
 ghost use Rattle.clause_set.specs.Names.{is_divisibility, is_equation, product};
 ghost use Rattle.clause_set.specs.Rules.{passes};
 ghost use Rattle.std.specs.Int.{int_rem_euclid};
@@ -16,13 +16,13 @@ ghost use Rattle.std.specs.Prelude.{◌≡◌, ◌<ℤ◌, ◌*ℤ◌, [], ◌�
 
 use super::numbers::{opposite, two_between};
 use super::roots::root;
+use base_budget::StepFault;
 use clause_set::bounds::slack;
 use clause_set::{Clause, Literal, copy_literals};
+use elim_steps::is_divisibility;
 use linear_term::{Place, bezout};
-use purse::StepFault;
 use sqlite_items::Items;
 use std::alloc::Global;
-use step_code::is_divisibility;
 
 /// The greatest lower bound of j.
 pub fn lower(c: &Clause, j: u32) -> Option<i128>

@@ -5,21 +5,21 @@ ghost use Rattle.clause_set.specs.Rules.{applies, rule};
 ghost use Rattle.linear_term.specs.Range.{InRange};
 ghost use Rattle.parameter_solver.specs.Names.{IsOfName};
 ghost use Rattle.parameter_solver.specs.Splits.{splitting};
-ghost use Rattle.purse.specs.Trace.{each};
-ghost use Rattle.purse.specs.Work.{Charged};
-ghost use Rattle.purse.specs.declared.log.Entry.TheVariants.{Apart, Merge};
-ghost use Rattle.solution_laws.specs.Candidates.{candidates, charged_candidates};
-ghost use Rattle.solution_laws.specs.Solutions.{chosen};
+ghost use Rattle.base_budget.specs.Trace.{each};
+ghost use Rattle.base_budget.specs.Work.{Charged};
+ghost use Rattle.base_budget.specs.declared.log.Entry.TheVariants.{Apart, Merge};
+ghost use Rattle.solve_laws.specs.Candidates.{candidates, charged_candidates};
+ghost use Rattle.solve_laws.specs.Solutions.{chosen};
 ghost use Rattle.std.specs.Prelude.{◌≡◌, ◌<◌, ◌+◌, [], All, IfOk, drop, length, position, true};
 
 use super::numbers::nearest;
 use super::single::{at_root, bounded};
+use base_budget::{Purse, StepFault};
 use clause_set::{Clause, Literal};
-use purse::{Purse, StepFault};
-use rule_code::{apart_rule, merge_rule};
+use elim_rules::{apart_rule, merge_rule};
+use elim_steps::{is_divisibility, is_equation, is_indivisibility, whole_charge};
 use sqlite_items::Items;
 use std::alloc::Global;
-use step_code::{is_divisibility, is_equation, is_indivisibility, whole_charge};
 
 /// The place of the first equation with j.
 pub fn equation_place(ls: &[Literal], j: u32) -> Option<usize>
@@ -51,7 +51,7 @@ fn behind(ls: &[Literal], i: usize) -> &[Literal]
 }
 
 /// The clauses that the negated divisibility at i splits the clause into.
-#[tactic(auto, using(purse::proofs::Charging::charging))]
+#[tactic(auto, using(base_budget::proofs::Charging::charging))]
 fn apart(
     alloc: Global,
     c: &Clause,
@@ -66,7 +66,7 @@ fn apart(
 }
 
 /// The two divisibilities at i and k as one, with the rest of the clause.
-#[tactic(auto, using(purse::proofs::Charging::charging))]
+#[tactic(auto, using(base_budget::proofs::Charging::charging))]
 fn merged(
     alloc: Global,
     c: &Clause,
@@ -145,7 +145,7 @@ fn all_candidates(
 }
 
 /// The candidates of a clause that an elimination left, which is charged once.
-#[tactic(auto, using(purse::proofs::Charging::charging))]
+#[tactic(auto, using(base_budget::proofs::Charging::charging))]
 fn charged_candidates(
     alloc: Global,
     c: &Clause,

@@ -2,16 +2,16 @@
 
 ghost use Rattle.clause_set.specs.Weight.{weight};
 ghost use Rattle.linear_term.specs.Range.{InRange};
-ghost use Rattle.purse.specs.Trace.{capped};
-ghost use Rattle.purse.specs.Work.{Charged};
-ghost use Rattle.solution_laws.specs.Solutions.{with_value};
+ghost use Rattle.base_budget.specs.Trace.{capped};
+ghost use Rattle.base_budget.specs.Work.{Charged};
+ghost use Rattle.solve_laws.specs.Solutions.{with_value};
 ghost use Rattle.std.specs.Prelude.{◌≡◌, ◌+◌};
 
+use base_budget::{Purse, StepFault};
 use clause_set::weight::weight;
 use clause_set::{Clause, Dnf};
-use purse::{Purse, StepFault};
+use solve_values::valued_clauses;
 use std::alloc::Global;
-use value_steps::valued_clauses;
 
 /// 1 and the weight of the clauses.
 fn charge(cs: &[Clause]) -> u64
@@ -21,7 +21,7 @@ fn charge(cs: &[Clause]) -> u64
 }
 
 /// The disjunction of the clauses where j is v.
-#[tactic(auto, using(purse::proofs::Charging::charging))]
+#[tactic(auto, using(base_budget::proofs::Charging::charging))]
 pub(crate) fn with_value(
     alloc: Global,
     cs: &[Clause],

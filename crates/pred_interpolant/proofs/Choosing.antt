@@ -5,14 +5,14 @@ use Rattle.std.specs.List.{AllByRecursion, list_all, list_any}
 use Rattle.std.proofs.lemmas.Bool.{false≢true}
 use Rattle.std.proofs.lemmas.Bool.Decides.{nat_tests}
 use Rattle.std.proofs.lemmas.List.{length-replicate, length-set, get_or-set_same, get_or-set_other, get_or-replicate}
-use Rattle.typed_formula.specs.Formula.{Formula, Formulas, Expression, Expressions, constant, compares, applies, negation, every, some, implies, iff, for_all, for_some, part, no_formula, and_formula, number, name, call, minus, total, product, choice, absolute, lesser, greater, no_expression, and_expression}
+use Rattle.form_typed.specs.Formula.{Formula, Formulas, Expression, Expressions, constant, compares, applies, negation, every, some, implies, iff, for_all, for_some, part, no_formula, and_formula, number, name, call, minus, total, product, choice, absolute, lesser, greater, no_expression, and_expression}
 use Rattle.pri_typing.specs.declared.problem.Problem.{Problem}
 use Rattle.pri_typing.specs.Everywhere.{Everywhere, AllEverywhere, TermEverywhere, TermsEverywhere}
 use Rattle.pri_typing.specs.WellFormed.{size}
 use Rattle.function_encoding.specs.Marks.{is_marked, with_mark}
-use Rattle.cut_sides.specs.Sides.{arithmetic, case_between, first_itself, second_denied, none}
-use Rattle.cut_sides.specs.Symbols.{is_empty, is_symbol, is_within, symbols_in, symbols_in_all, symbols_in_term, symbols_in_terms, uses}
-use Rattle.typed_printer.proofs.Together.{arity_below}
+use Rattle.itp_sides.specs.Sides.{arithmetic, case_between, first_itself, second_denied, none}
+use Rattle.itp_sides.specs.Symbols.{is_empty, is_symbol, is_within, symbols_in, symbols_in_all, symbols_in_term, symbols_in_terms, uses}
+use Rattle.itp_printer.proofs.Together.{arity_below}
 use Rattle.pred_interpolant.specs.Fit.{IsFitFormula, fit}
 use Rattle.pred_interpolant.specs.Marks.{AreSymbolMarks, AreUnset, AreMarkedWithin, no_marks, noted, symbol_place}
 

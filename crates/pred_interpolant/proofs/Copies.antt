@@ -1,9 +1,9 @@
 -- Copies of formulas with other names.
 use Rattle.std.proofs.Common.{◌≡◌, ◌≤◌, ℕ, List, [], ◌∷◌, map, length, take, take_all, refl, sym, ap, ◌∙◌}
-use Rattle.typed_formula.specs.declared.typed.Typed.{Typed}
-use Rattle.typed_formula.specs.declared.typed.TypedTerm.{TypedTerm}
-use Rattle.typed_formula.specs.Formula.{and_expression, and_formula, expression, expressions, expressions_of, formula, formulas, formulas_of}
-use Rattle.cut_sides.specs.Closing.{renamed, renamed_all, renamed_term, renamed_terms}
+use Rattle.form_typed.specs.declared.typed.Typed.{Typed}
+use Rattle.form_typed.specs.declared.typed.TypedTerm.{TypedTerm}
+use Rattle.form_typed.specs.Formula.{and_expression, and_formula, expression, expressions, expressions_of, formula, formulas, formulas_of}
+use Rattle.itp_sides.specs.Closing.{renamed, renamed_all, renamed_term, renamed_terms}
 
 renamed_all-map : (r : ℕ → ℕ) (fs : List Typed) → renamed_all r (formulas_of fs) ≡ formulas (map (λ f. renamed r (formula f)) fs)
 renamed_all-map r [] = refl

@@ -1,7 +1,7 @@
 -- Which steps of the call for obligations end early.
 use Rattle.std.proofs.Common.{◌≡◌, ℕ, Result, Ok, Err, IsErrAnd, refl, sym, subst}
-use Rattle.purse.specs.Trace.{Funds}
-use Rattle.typed_formula.specs.Formula.{Formula}
+use Rattle.base_budget.specs.Trace.{Funds}
+use Rattle.form_typed.specs.Formula.{Formula}
 use Rattle.pri_typing.specs.declared.problem.Problem.{Problem}
 use Rattle.formula.specs.declared.calculus.Core.{Core}
 use Rattle.function_encoding.specs.declared.answer.Encoded.{Encoded}

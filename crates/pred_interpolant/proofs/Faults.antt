@@ -1,13 +1,13 @@
 -- When obligations are refused with Symbols, and that they are never refused with Branch.
 use Rattle.std.proofs.Common.{◌≡◌, ◌↔◌, ℕ, Err, refl}
-use Rattle.purse.specs.Trace.{Funds}
-use Rattle.purse.specs.declared.fault.ElimFault.TheVariants as elimination
+use Rattle.base_budget.specs.Trace.{Funds}
+use Rattle.base_budget.specs.declared.fault.ElimFault.TheVariants as elimination
 use Rattle.pri_typing.specs.declared.problem.Problem.{Problem}
 use Rattle.function_encoding.specs.declared.answer.EncodeRefusal.{EncodeRefusal}
 use Rattle.function_encoding.specs.declared.answer.EncodeRefusal.TheVariants as refusal
 use Rattle.interpolant.specs.declared.fault.InterpolantFault.{InterpolantFault}
 use Rattle.interpolant.specs.declared.fault.InterpolantFault.TheVariants as interpolant
-use Rattle.cut_sides.specs.Sides.{case_of, cut_of, none}
+use Rattle.itp_sides.specs.Sides.{case_of, cut_of, none}
 use Rattle.pred_interpolant.specs.declared.fault.MiddleFault.TheVariants.{Branch, Symbols}
 use Rattle.pred_interpolant.specs.Made.{ObligationsEndEarly, MakesObligations, Misses, first_obligation, second_obligation, memory, run, symbols, uninterpolated, unencoded, unfound}
 use Rattle.pred_interpolant.specs.Made as made

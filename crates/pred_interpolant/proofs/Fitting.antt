@@ -5,21 +5,21 @@ use Rattle.std.specs.List.{AllByRecursion, list_any}
 use Rattle.std.proofs.lemmas.Bool.{false≢true}
 use Rattle.std.proofs.lemmas.Bool.Decides.{nat_tests}
 use Rattle.std.proofs.lemmas.List.Elements.{recursion_from_All}
-use Rattle.typed_formula.specs.declared.typed.Typed.{Typed}
-use Rattle.typed_formula.specs.declared.typed.Sort.{Sort}
-use Rattle.typed_formula.specs.Sorts.{IsSortRanged}
-use Rattle.typed_formula.specs.Formula.{Formula, Formulas, Expression, Expressions, formula, formulas, constant, compares, applies, negation, every, some, implies, iff, for_all, for_some, part, no_formula, and_formula, number, name, call, minus, total, product, choice, absolute, lesser, greater, no_expression, and_expression}
+use Rattle.form_typed.specs.declared.typed.Typed.{Typed}
+use Rattle.form_typed.specs.declared.typed.Sort.{Sort}
+use Rattle.form_typed.specs.Sorts.{IsSortRanged}
+use Rattle.form_typed.specs.Formula.{Formula, Formulas, Expression, Expressions, formula, formulas, constant, compares, applies, negation, every, some, implies, iff, for_all, for_some, part, no_formula, and_formula, number, name, call, minus, total, product, choice, absolute, lesser, greater, no_expression, and_expression}
 use Rattle.pri_typing.specs.declared.problem.Problem.{Problem}
 use Rattle.pri_typing.specs.Problems.{assumed_by}
 use Rattle.pri_typing.specs.Everywhere.{Property, Everywhere, AllEverywhere, TermEverywhere, TermsEverywhere}
 use Rattle.pri_typing.specs.WellFormed.{IsWellFormed, HasArity, IsNumberRanged, IsNameBelow, IsFunctionDeclared, HasMember, IsLinear, IsPredicateDeclared, IsBinderRanged, IsPartBelow, of_formulas, of_terms, size, is_numeric, are_numeric}
 use Rattle.pri_typing.proofs.Everywhere.{everywhere_more}
-use Rattle.encoding.specs.Meaning.{type_at}
-use Rattle.encoding.specs.Problems.{constants, types}
-use Rattle.encoding.proofs.Parts.{assumed_everywhere}
-use Rattle.cut_sides.specs.Closing.{closed, place_of, quantified, rebound, renamed, renamed_all, renamed_term, renamed_terms, types_of}
-use Rattle.typed_printer.specs.Replaced.{with_formula}
-use Rattle.typed_printer.proofs.Sayable.{both, both_everywhere}
+use Rattle.form_encoding.specs.Meaning.{type_at}
+use Rattle.form_encoding.specs.Problems.{constants, types}
+use Rattle.form_encoding.proofs.Parts.{assumed_everywhere}
+use Rattle.itp_sides.specs.Closing.{closed, place_of, quantified, rebound, renamed, renamed_all, renamed_term, renamed_terms, types_of}
+use Rattle.itp_printer.specs.Replaced.{with_formula}
+use Rattle.itp_printer.proofs.Sayable.{both, both_everywhere}
 use Rattle.pred_interpolant.specs.Fit.{IsFitFormula, IsFormulaFit, IsTermFit, fit}
 
 -- ---- well-formed problems

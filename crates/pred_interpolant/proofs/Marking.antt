@@ -1,13 +1,13 @@
 -- Marks of symbols.
 use Rattle.std.proofs.Common.{◌≡◌, ℕ, Bool, List, [], ◌∷◌, ◌++◌, refl, sym, ◌∙◌, ap}
-use Rattle.typed_formula.specs.declared.typed.Relation.{Relation}
-use Rattle.typed_formula.specs.declared.typed.Typed.{Typed}
-use Rattle.typed_formula.specs.declared.typed.Typed.TheVariants as f
-use Rattle.typed_formula.specs.declared.typed.TypedTerm.TheVariants as e
-use Rattle.typed_formula.specs.declared.typed.TypedTerm.{TypedTerm}
-use Rattle.typed_formula.specs.Formula.{formula, formulas_of, expression, expressions_of}
-use Rattle.typed_formula.proofs.Folds.{formula-Iff, formula-Implies, formula-Rel, expression-If, expression-Max, expression-Min, expression-Product}
-use Rattle.cut_sides.specs.Symbols.{symbols_in, symbols_in_all, symbols_in_term, symbols_in_terms}
+use Rattle.form_typed.specs.declared.typed.Relation.{Relation}
+use Rattle.form_typed.specs.declared.typed.Typed.{Typed}
+use Rattle.form_typed.specs.declared.typed.Typed.TheVariants as f
+use Rattle.form_typed.specs.declared.typed.TypedTerm.TheVariants as e
+use Rattle.form_typed.specs.declared.typed.TypedTerm.{TypedTerm}
+use Rattle.form_typed.specs.Formula.{formula, formulas_of, expression, expressions_of}
+use Rattle.form_typed.proofs.Folds.{formula-Iff, formula-Implies, formula-Rel, expression-If, expression-Max, expression-Min, expression-Product}
+use Rattle.itp_sides.specs.Symbols.{symbols_in, symbols_in_all, symbols_in_term, symbols_in_terms}
 use Rattle.function_encoding.specs.Marks.{with_mark}
 use Rattle.pred_interpolant.specs.Marks.{noted, symbol_place}
 

@@ -6,8 +6,8 @@ use Rattle.std.proofs.lemmas.Bool.{false≢true}
 use Rattle.std.proofs.lemmas.Bool.Decides.{nat_tests}
 use Rattle.linear_term.specs.Linear.{Linear}
 use Rattle.linear_term.specs.Range.{InRange}
-use Rattle.typed_formula.specs.Formula.{Formula, Formulas, Expression, Expressions, expressions, formulas, constant, compares, applies, negation, every, some, implies, iff, for_all, for_some, part, no_formula, and_formula, number, name, call, minus, total, product, choice, absolute, lesser, greater, no_expression, and_expression}
-use Rattle.typed_formula.specs.Truth.{Meaning, Truth}
+use Rattle.form_typed.specs.Formula.{Formula, Formulas, Expression, Expressions, expressions, formulas, constant, compares, applies, negation, every, some, implies, iff, for_all, for_some, part, no_formula, and_formula, number, name, call, minus, total, product, choice, absolute, lesser, greater, no_expression, and_expression}
+use Rattle.form_typed.specs.Truth.{Meaning, Truth}
 use Rattle.clause_set.specs.declared.literal.Literal.{Literal}
 use Rattle.clause_set.specs.declared.literal.Literal.TheVariants.{Eq, Geq, Div, NDiv}
 use Rattle.clause_set.specs.Literals.{dnf_truth}
@@ -25,12 +25,12 @@ use Rattle.pri_printer.proofs.Bridge.{dnf_printable}
 use Rattle.pri_printer.proofs.Outer.{constants_true}
 use Rattle.pri_printer.proofs.Plain.{printed_names}
 use Rattle.pri_printer.proofs.Standing.{AllPrintable, AreFit, ArePrintable, Fits, IsPrintable}
-use Rattle.constraint_text.proofs.Printed.{all_below}
+use Rattle.pri_lines.proofs.Printed.{all_below}
 use Rattle.elim_laws.specs.Whole.{AreOver, Lacks}
-use Rattle.encoding.specs.Occurrences.{names_in, names_in_all, names_in_term, names_in_terms, occurs}
-use Rattle.encoding.specs.Problems.{constants}
-use Rattle.cut_sides.specs.Between.{IsStrongest}
-use Rattle.cut_sides.specs.Symbols.{is_empty, symbols_in, symbols_in_all, symbols_in_term, symbols_in_terms}
+use Rattle.form_encoding.specs.Occurrences.{names_in, names_in_all, names_in_term, names_in_terms, occurs}
+use Rattle.form_encoding.specs.Problems.{constants}
+use Rattle.itp_sides.specs.Between.{IsStrongest}
+use Rattle.itp_sides.specs.Symbols.{is_empty, symbols_in, symbols_in_all, symbols_in_term, symbols_in_terms}
 use Rattle.interpolant.specs.Sides.{IsInterpolant}
 use Rattle.interpolant.specs.Sides as sides
 use Rattle.interpolant.proofs.Occurrences.{absent_is}

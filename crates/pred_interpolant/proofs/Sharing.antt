@@ -5,13 +5,13 @@ use Rattle.std.specs.List.{list_all, list_any}
 use Rattle.std.proofs.lemmas.Bool.{cases_lt, false≢true}
 use Rattle.std.proofs.lemmas.Bool.Decides.{nat_tests}
 use Rattle.std.proofs.lemmas.List.{map-append}
-use Rattle.typed_formula.specs.declared.typed.Sort.{Sort}
-use Rattle.typed_formula.specs.Formula.{Formula, Formulas, Expression, Expressions, constant, compares, applies, negation, every, some, implies, iff, for_all, for_some, part, no_formula, and_formula, number, name, call, minus, total, product, choice, absolute, lesser, greater, no_expression, and_expression}
+use Rattle.form_typed.specs.declared.typed.Sort.{Sort}
+use Rattle.form_typed.specs.Formula.{Formula, Formulas, Expression, Expressions, constant, compares, applies, negation, every, some, implies, iff, for_all, for_some, part, no_formula, and_formula, number, name, call, minus, total, product, choice, absolute, lesser, greater, no_expression, and_expression}
 use Rattle.pri_typing.specs.declared.problem.Problem.{Problem}
-use Rattle.encoding.specs.Occurrences.{names_in, names_in_all, names_in_term, names_in_terms, occurs}
-use Rattle.encoding.specs.Problems.{constants}
-use Rattle.cut_sides.specs.Closing.{closed, numbers_from, own_constants, place_of, quantified, rebound, renamed, renamed_all, renamed_term, renamed_terms, strongest_formula, types_of, weakest_formula}
-use Rattle.cut_sides.specs.Symbols.{is_symbol, is_within, symbols_in, symbols_in_all, symbols_in_term, symbols_in_terms, uses}
+use Rattle.form_encoding.specs.Occurrences.{names_in, names_in_all, names_in_term, names_in_terms, occurs}
+use Rattle.form_encoding.specs.Problems.{constants}
+use Rattle.itp_sides.specs.Closing.{closed, numbers_from, own_constants, place_of, quantified, rebound, renamed, renamed_all, renamed_term, renamed_terms, strongest_formula, types_of, weakest_formula}
+use Rattle.itp_sides.specs.Symbols.{is_symbol, is_within, symbols_in, symbols_in_all, symbols_in_term, symbols_in_terms, uses}
 use Rattle.pred_interpolant.specs.Middle.{Shares}
 
 -- ---- symbols

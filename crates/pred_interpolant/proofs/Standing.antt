@@ -1,9 +1,9 @@
 -- The formula between two sides, and why there is none.
 use Rattle.std.proofs.Common.{◌≡◌, ℕ, pos, true, false, List, refl, sym, ◌∙◌, subst, Result, Ok, Err, IsErrAnd}
-use Rattle.typed_formula.specs.declared.typed.Typed.{Typed}
-use Rattle.typed_formula.specs.Formula.{formula, negation}
-use Rattle.typed_formula.specs.Truth.{Meaning, Truth}
-use Rattle.purse.specs.Trace.{Funds}
+use Rattle.form_typed.specs.declared.typed.Typed.{Typed}
+use Rattle.form_typed.specs.Formula.{formula, negation}
+use Rattle.form_typed.specs.Truth.{Meaning, Truth}
+use Rattle.base_budget.specs.Trace.{Funds}
 use Rattle.clause_set.specs.declared.literal.Literal.{Literal}
 use Rattle.clause_set.specs.Literals.{dnf_truth}
 use Rattle.pri_typing.specs.declared.problem.Problem.{Problem}
@@ -11,14 +11,14 @@ use Rattle.pri_typing.specs.Problems.{IsWithoutApplication, assumed_by}
 use Rattle.pri_typing.specs.WellFormed.{IsWellFormed}
 use Rattle.pri_typing.proofs.Everywhere.{everywhere_more}
 use Rattle.pri_printer.specs.Printed.{dnf_formula}
-use Rattle.cut_sides.specs.Between.{IsStrongest, IsWeakest}
-use Rattle.cut_sides.specs.Closing.{strongest_formula, weakest_formula}
-use Rattle.cut_sides.specs.Sides.{Case, arithmetic, case_between, case_of, cut_of, first_itself, first_sets, first_side, other_sets, second_denied, StandsBy}
-use Rattle.cut_sides.proofs.Quantifying.{strongest, weakest}
+use Rattle.itp_sides.specs.Between.{IsStrongest, IsWeakest}
+use Rattle.itp_sides.specs.Closing.{strongest_formula, weakest_formula}
+use Rattle.itp_sides.specs.Sides.{Case, arithmetic, case_between, case_of, cut_of, first_itself, first_sets, first_side, other_sets, second_denied, StandsBy}
+use Rattle.itp_sides.proofs.Quantifying.{strongest, weakest}
 use Rattle.interpolant.specs.declared.fault.Interpolant.{Interpolant}
 use Rattle.interpolant.specs.Run.{AnswersInterpolant}
 use Rattle.interpolant.specs.Sides.{IsInterpolant}
-use Rattle.typed_printer.specs.Replaced.{with_formula}
+use Rattle.itp_printer.specs.Replaced.{with_formula}
 use Rattle.pred_interpolant.specs.declared.fault.MiddleFormula.{MiddleFormula}
 use Rattle.pred_interpolant.specs.declared.fault.MiddleFormula.TheVariants.{Arithmetic, General}
 use Rattle.pred_interpolant.specs.declared.fault.MiddleFault.{MiddleFault}
@@ -31,8 +31,8 @@ use Rattle.pred_interpolant.proofs.Choosing.{arithmetic_empty, first_within, sec
 use Rattle.pred_interpolant.proofs.Fitting.{assumed_fit, closed_fit, denied_fit, fit_formed, formed_fit}
 use Rattle.pred_interpolant.proofs.NormalForms.{dnf_shares, dnf_strongest, plain_side}
 use Rattle.pred_interpolant.proofs.Sharing.{strongest_shares, weakest_shares}
-use Rattle.cut_sides.specs.Closing.{own_constants}
-use Rattle.encoding.specs.Problems.{constants}
+use Rattle.itp_sides.specs.Closing.{own_constants}
+use Rattle.form_encoding.specs.Problems.{constants}
 
 -- a formula of a well-formed problem can stand in it
 pub over_fit : (p : Problem) (f : Typed) → IsWellFormed (with_formula p f) → IsFitFormula p (formula f)

@@ -4,8 +4,8 @@ use Rattle.std.specs.Prelude.{All}
 use Rattle.std.specs.Ordering.{int_eq}
 use Rattle.linear_term.specs.Range.{InRange}
 use Rattle.std.proofs.lemmas.List.{map-append}
-use Rattle.typed_formula.specs.declared.typed.TypedTerm.{TypedTerm}
-use Rattle.typed_formula.specs.Formula.{expression, expressions, expressions_of, total}
+use Rattle.form_typed.specs.declared.typed.TypedTerm.{TypedTerm}
+use Rattle.form_typed.specs.Formula.{expression, expressions, expressions_of, total}
 use Rattle.pri_printer.specs.Summands.{SignedSummand, constant, monomial, summands}
 use Rattle.pri_printer.specs.Formulas.{first_value, later, later_part, sum_value}
 

@@ -3,14 +3,14 @@ use Rattle.std.proofs.Common.{◌≡◌, ◌≢◌, ◌+◌, ◌-◌, ◌<◌, �
 use Rattle.std.specs.List.{list_any}
 use Rattle.std.proofs.lemmas.Bool.{cases_lt}
 use Rattle.std.proofs.lemmas.Bool.Decides.{nat_tests}
-use Rattle.purse.proofs.Charging.{drop-item, drop_all}
-use Rattle.typed_formula.specs.declared.typed.Sort.{Sort}
-use Rattle.typed_formula.specs.declared.typed.Sort.TheVariants.{Int}
-use Rattle.typed_formula.specs.Formula.{Formula, for_all, for_some}
-use Rattle.encoding.specs.Meaning.{type_at}
-use Rattle.encoding.specs.Occurrences.{occurs}
+use Rattle.base_budget.proofs.Charging.{drop-item, drop_all}
+use Rattle.form_typed.specs.declared.typed.Sort.{Sort}
+use Rattle.form_typed.specs.declared.typed.Sort.TheVariants.{Int}
+use Rattle.form_typed.specs.Formula.{Formula, for_all, for_some}
+use Rattle.form_encoding.specs.Meaning.{type_at}
+use Rattle.form_encoding.specs.Occurrences.{occurs}
 use Rattle.function_encoding.specs.Marks.{AreMarks, is_marked}
-use Rattle.cut_sides.specs.Closing.{numbers_from, own_constants, place_of, quantified, rebound}
+use Rattle.itp_sides.specs.Closing.{numbers_from, own_constants, place_of, quantified, rebound}
 use Rattle.pred_interpolant.specs.Copies.{sent}
 
 -- Quantifiers, the innermost first.

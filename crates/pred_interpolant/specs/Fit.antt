@@ -1,10 +1,10 @@
 -- Formulas over the symbols of a problem.
 use Rattle.std.specs.Prelude.{ℕ, length}
-use Rattle.typed_formula.specs.Formula.{Formula, Expression}
+use Rattle.form_typed.specs.Formula.{Formula, Expression}
 use Rattle.pri_typing.specs.declared.problem.Problem.{Problem}
 use Rattle.pri_typing.specs.Everywhere.{Property, Everywhere}
 use Rattle.pri_typing.specs.WellFormed.{IsNumberRanged, IsNameBelow, IsPredicateDeclared, IsFunctionDeclared, HasMember, IsLinear, IsPartBelow, IsBinderRanged}
-use Rattle.encoding.specs.Problems.{constants}
+use Rattle.form_encoding.specs.Problems.{constants}
 
 -- a formula under n binders: a predicate is declared, the bounds of a type are coefficients, a part is one of the problem
 pub record IsFormulaFit (p : Problem) (n : ℕ) (f : Formula) : Type 0 where

@@ -1,15 +1,15 @@
 -- What the call for obligations answers: one case for each step that may end early.
 use Rattle.std.specs.Prelude.{◌≡◌, ℕ, Result, Ok, Err}
-use Rattle.typed_formula.specs.Formula.{Formula, formula}
-use Rattle.purse.specs.declared.fault.ElimFault.TheVariants as elimination
-use Rattle.purse.specs.Trace.{Funds}
+use Rattle.form_typed.specs.Formula.{Formula, formula}
+use Rattle.base_budget.specs.declared.fault.ElimFault.TheVariants as elimination
+use Rattle.base_budget.specs.Trace.{Funds}
 use Rattle.pri_typing.specs.declared.problem.Problem.{Problem}
 use Rattle.formula.specs.declared.calculus.Core.{Core}
 use Rattle.function_encoding.specs.declared.answer.EncodeRefusal.{EncodeRefusal}
 use Rattle.function_encoding.specs.declared.answer.EncodeRefusal.TheVariants as refusal
 use Rattle.function_encoding.specs.Encoded.{Encodes}
-use Rattle.cut_sides.specs.Closing.{strongest_formula, weakest_formula}
-use Rattle.cut_sides.specs.Sides.{Case, arithmetic, first_itself, second_denied, none, case_of, cut_of, first_sets, first_side, other_sets, other_side}
+use Rattle.itp_sides.specs.Closing.{strongest_formula, weakest_formula}
+use Rattle.itp_sides.specs.Sides.{Case, arithmetic, first_itself, second_denied, none, case_of, cut_of, first_sets, first_side, other_sets, other_side}
 use Rattle.interpolant.specs.declared.fault.InterpolantFault.{InterpolantFault}
 use Rattle.interpolant.specs.declared.fault.InterpolantFault.TheVariants as interpolant
 use Rattle.interpolant.specs.Run.{AnswersInterpolant}

@@ -1,10 +1,10 @@
 -- Marks for the predicates and functions of a formula, and the case that they give.
 use Rattle.std.specs.Prelude.{◌≡◌, ◌<◌, ℕ, ◌+◌, ◌*◌, Bool, true, false, cond, List, [], ◌∷◌, length, replicate}
-use Rattle.typed_formula.specs.Formula.{Formula}
+use Rattle.form_typed.specs.Formula.{Formula}
 use Rattle.pri_typing.specs.declared.problem.Problem.{Problem}
 use Rattle.function_encoding.specs.Marks.{is_marked, with_mark}
-use Rattle.cut_sides.specs.Sides as sides
-use Rattle.cut_sides.specs.Symbols.{symbols_in}
+use Rattle.itp_sides.specs.Sides as sides
+use Rattle.itp_sides.specs.Symbols.{symbols_in}
 use Rattle.pred_interpolant.specs.declared.symbols.Choice.{Choice}
 use Rattle.pred_interpolant.specs.declared.symbols.Choice.TheVariants.{Arithmetic, First, Second, Neither}
 

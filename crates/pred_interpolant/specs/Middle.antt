@@ -1,23 +1,23 @@
 -- The formula that stands between the sides of a cut of a problem with predicates and functions, and the two obligations that say so.
 use Rattle.std.specs.Prelude.{◌≡◌, ◌<◌, ℕ, Bool, true, false, [], ◌∷◌}
-use Rattle.typed_formula.specs.declared.typed.Typed.{Typed}
-use Rattle.typed_formula.specs.Formula.{Formula, formula, formulas, constant, every, implies}
-use Rattle.typed_formula.specs.Truth.{Meaning, Truth}
-use Rattle.purse.specs.Trace.{Traced}
+use Rattle.form_typed.specs.declared.typed.Typed.{Typed}
+use Rattle.form_typed.specs.Formula.{Formula, formula, formulas, constant, every, implies}
+use Rattle.form_typed.specs.Truth.{Meaning, Truth}
+use Rattle.base_budget.specs.Trace.{Traced}
 use Rattle.pri_typing.specs.declared.problem.Problem.{Problem}
 use Rattle.pri_typing.specs.WellFormed.{IsWellFormed}
 use Rattle.pri_printer.specs.Printed.{dnf_formula}
 use Rattle.formula.specs.Form.{Form}
 use Rattle.elim_laws.specs.Whole.{AreOver}
-use Rattle.encoding.specs.Occurrences.{occurs}
-use Rattle.encoding.specs.Problems.{constants, over_constants}
-use Rattle.encoding.specs.Root.{root}
+use Rattle.form_encoding.specs.Occurrences.{occurs}
+use Rattle.form_encoding.specs.Problems.{constants, over_constants}
+use Rattle.form_encoding.specs.Root.{root}
 use Rattle.function_encoding.specs.declared.answer.Encoded.{Encoded}
-use Rattle.problem_file.specs.Encoded.{IsEncoded}
-use Rattle.cut_sides.specs.Closing.{strongest_formula, weakest_formula}
-use Rattle.cut_sides.specs.Sides.{Case, arithmetic, Stands, first_itself, second_denied, case_of, cut_of, first_side, other_side}
-use Rattle.cut_sides.specs.Symbols.{uses}
-use Rattle.typed_printer.specs.Replaced.{with_formula}
+use Rattle.pri_problem.specs.Encoded.{IsEncoded}
+use Rattle.itp_sides.specs.Closing.{strongest_formula, weakest_formula}
+use Rattle.itp_sides.specs.Sides.{Case, arithmetic, Stands, first_itself, second_denied, case_of, cut_of, first_side, other_side}
+use Rattle.itp_sides.specs.Symbols.{uses}
+use Rattle.itp_printer.specs.Replaced.{with_formula}
 use Rattle.pred_interpolant.specs.declared.fault.MiddleFormula.{MiddleFormula}
 use Rattle.pred_interpolant.specs.declared.fault.MiddleFormula.TheVariants.{Arithmetic, General}
 

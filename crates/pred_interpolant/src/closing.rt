@@ -1,24 +1,24 @@
 // A formula with some of the problem's constants under quantifiers.
 
-ghost use Rattle.limits.specs.Limits.{most_constants};
+ghost use Rattle.base_limits.specs.Limits.{most_constants};
 ghost use Rattle.std.specs.Prelude.{◌≡◌, ◌&&◌, ◌++◌, ◌<◌, ◌≤◌, ◌∷◌, [], cond, not, false, IfOk, OnOk, length, map};
 ghost use Rattle.std.specs.List.{filter};
-ghost use Rattle.typed_formula.specs.Formula.{formula};
+ghost use Rattle.form_typed.specs.Formula.{formula};
 ghost use Rattle.pri_typing.specs.Problems.{assumed_by};
 ghost use Rattle.pri_typing.specs.WellFormed.{IsWellFormed};
-ghost use Rattle.encoding.specs.Meaning.{type_at};
-ghost use Rattle.encoding.specs.Problems.{constants, types};
+ghost use Rattle.form_encoding.specs.Meaning.{type_at};
+ghost use Rattle.form_encoding.specs.Problems.{constants, types};
 ghost use Rattle.function_encoding.specs.Marks.{is_marked};
-ghost use Rattle.cut_sides.specs.Closing as closing;
-ghost use Rattle.cut_sides.specs.Closing.{numbers_from};
+ghost use Rattle.itp_sides.specs.Closing as closing;
+ghost use Rattle.itp_sides.specs.Closing.{numbers_from};
 
 use crate::copying::renamed;
+use form_typed::{Sort, Typed};
 use function_encoding::marks_of;
 use linear_term::Memory;
 use pri_typing::Problem;
 use sqlite_items::Boxed;
 use std::alloc::Global;
-use typed_formula::{Sort, Typed};
 
 /// Whether the constant has a mark in the first list and none in the second.
 fn is_only_first(first: &[bool], second: &[bool], x: usize) -> bool

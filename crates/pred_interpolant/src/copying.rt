@@ -1,15 +1,15 @@
 // A formula or a term once more, with its names sent through a table.
 
 ghost use Rattle.std.specs.Prelude.{◌≡◌, IfOk};
-ghost use Rattle.typed_formula.specs.Formula.{expression, expressions_of, formula, formulas_of};
-ghost use Rattle.cut_sides.specs.Closing as closing;
-ghost use Rattle.cut_sides.specs.Closing.{renamed_all, renamed_term, renamed_terms};
+ghost use Rattle.form_typed.specs.Formula.{expression, expressions_of, formula, formulas_of};
+ghost use Rattle.itp_sides.specs.Closing as closing;
+ghost use Rattle.itp_sides.specs.Closing.{renamed_all, renamed_term, renamed_terms};
 ghost use Rattle.pred_interpolant.specs.Copies.{sent};
 
+use form_typed::{Typed, TypedTerm};
 use linear_term::Memory;
 use sqlite_items::{Boxed, Items};
 use std::alloc::Global;
-use typed_formula::{Typed, TypedTerm};
 
 /// A name below the length of the table becomes its entry there, and one behind it has so many more before it. No memory holds a
 /// formula with so many quantifiers that a name leaves a `u32`.

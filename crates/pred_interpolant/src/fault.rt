@@ -4,13 +4,13 @@ ghost use Rattle.std.specs.Prelude.{◌≡◌};
 ghost use Rattle.pred_interpolant.specs.Made.{uninterpolated, unencoded};
 ghost use Rattle.pred_interpolant.specs.declared.fault.MiddleFault.TheVariants.{Memory};
 
+use base_budget::ElimFault;
 use clause_set::Dnf;
+use form_typed::Typed;
 use function_encoding::{EncodeRefusal, Encoded};
 use interpolant::InterpolantFault;
 use linear_term::Place;
-use purse::ElimFault;
 use std::alloc::{AllocError, AllocFailed};
-use typed_formula::Typed;
 
 /// What stands between two sides of a cut.
 #[derive(Drop)]

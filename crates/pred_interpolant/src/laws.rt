@@ -2,8 +2,8 @@
 
 ghost use Rattle.std.specs.Prelude.{◌≡◌, ◌↔◌, ℕ, Err};
 ghost use Rattle.pri_typing.specs.declared.problem.Problem.{Problem};
-ghost use Rattle.purse.specs.Trace.{Funds};
-ghost use Rattle.cut_sides.specs.Sides.{case_of, cut_of, none};
+ghost use Rattle.base_budget.specs.Trace.{Funds};
+ghost use Rattle.itp_sides.specs.Sides.{case_of, cut_of, none};
 ghost use Rattle.pred_interpolant.specs.Made.{MakesObligations};
 ghost use Rattle.pred_interpolant.specs.declared.fault.MiddleFault.TheVariants.{Branch, Symbols};
 

@@ -1,12 +1,12 @@
 // The formula between two sides, with its obligations.
 
 ghost use Rattle.std.specs.Prelude.{◌≡◌, ◌<◌, ◌≤◌, ◌^◌, IfOk, length};
-ghost use Rattle.typed_formula.specs.Formula.{formula};
+ghost use Rattle.form_typed.specs.Formula.{formula};
 ghost use Rattle.pri_typing.specs.Problems.{assumed_by};
 ghost use Rattle.pri_typing.specs.WellFormed.{IsWellFormed};
-ghost use Rattle.cut_sides.specs.Closing.{strongest_formula, weakest_formula};
+ghost use Rattle.itp_sides.specs.Closing.{strongest_formula, weakest_formula};
 ghost use Rattle.function_encoding.specs.Encoded.{Encodes, root_of};
-ghost use Rattle.cut_sides.specs.Sides.{cut_of};
+ghost use Rattle.itp_sides.specs.Sides.{cut_of};
 ghost use Rattle.pred_interpolant.specs.Fit.{IsFitFormula};
 ghost use Rattle.pred_interpolant.specs.Made.{AreSides, FindsOr, MakesObligations};
 ghost use Rattle.pred_interpolant.specs.Middle as middle;
@@ -18,14 +18,14 @@ use crate::normal_form::dnf_as_formula;
 use crate::replaced::encode_formula;
 use crate::sides::{side, together};
 use crate::symbols::{Choice, choose};
+use base_budget::Purse;
+use form_typed::Typed;
 use function_encoding::{EncodeRefusal, Encoded};
 use interpolant::between_at;
 use linear_term::Memory;
 use pri_typing::Problem;
-use purse::Purse;
 use sqlite_items::{Boxed, Items};
 use std::alloc::Global;
-use typed_formula::Typed;
 
 /// The formula that is meant.
 fn said(alloc: Global, p: &Problem, m: &MiddleFormula) -> Result<Typed, Memory>

@@ -2,7 +2,7 @@
 
 ghost use Rattle.std.specs.Prelude.{◌≡◌, ◌++◌, IfOk, OnOk, All, map, cond, length, unsigned_abs, pos, [], ◌∷◌};
 ghost use Rattle.std.specs.Ordering.{int_eq};
-ghost use Rattle.typed_formula.specs.Formula.{expression, formula};
+ghost use Rattle.form_typed.specs.Formula.{expression, formula};
 ghost use Rattle.clause_set.specs.Literals.{HasDivisor};
 ghost use Rattle.elim_laws.specs.Whole.{AreOver};
 ghost use Rattle.linear_term.specs.Range.{InRange};
@@ -12,16 +12,16 @@ ghost use Rattle.pri_printer.specs.Formulas.{clause_formula, divides_formula, fi
 ghost use Rattle.pri_printer.specs.Printed.{dnf_formula};
 ghost use Rattle.pri_printer.specs.Summands as summands;
 ghost use Rattle.pri_printer.specs.Summands.{monomial};
-ghost use Rattle.encoding.specs.Problems.{constants};
+ghost use Rattle.form_encoding.specs.Problems.{constants};
 ghost use Rattle.pred_interpolant.specs.Fit.{IsFitFormula};
 
 use clause_set::{Clause, Dnf, Literal};
+use form_typed::{Relation, Sort, Typed, TypedTerm};
 use linear_term::{Memory, Term};
 use pri_printer::know_clauses;
 use pri_typing::Problem;
 use sqlite_items::{Boxed, Items};
 use std::alloc::Global;
-use typed_formula::{Relation, Sort, Typed, TypedTerm};
 
 /// The absolute value of a coefficient.
 fn absolute(k: i128) -> i128

@@ -1,20 +1,20 @@
 // A problem with another formula, and its encoding.
 
 ghost use Rattle.std.specs.Prelude.{◌≡◌, IfOk};
-ghost use Rattle.typed_formula.specs.Formula.{formula};
+ghost use Rattle.form_typed.specs.Formula.{formula};
 ghost use Rattle.function_encoding.specs.Encoded.{Encodes, root_of};
 ghost use Rattle.pri_typing.specs.WellFormed.{IsWellFormed};
-ghost use Rattle.typed_printer.specs.Replaced.{with_formula};
+ghost use Rattle.itp_printer.specs.Replaced.{with_formula};
 ghost use Rattle.pred_interpolant.specs.Fit.{IsFitFormula};
 ghost use Rattle.pred_interpolant.specs.Replaced.{AreConstantsOf, AreOthersOf};
 ghost use Rattle.pred_interpolant.specs.Middle.{IsObligation, obligation_root};
 
+use form_typed::{Sort, Typed};
 use function_encoding::{EncodeRefusal, Encoded, encode};
 use linear_term::Memory;
 use pri_typing::{Problem, Symbol, copy_symbols, copy_texts};
 use sqlite_items::{Boxed, Items};
 use std::alloc::Global;
-use typed_formula::{Sort, Typed};
 
 /// The constants of a problem, with their types.
 #[derive(Drop)]

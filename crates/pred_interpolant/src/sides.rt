@@ -2,16 +2,16 @@
 
 ghost use Rattle.std.specs.Prelude.{◌≡◌, ◌++◌, true, IfOk, OnOk, map, nat_eq};
 ghost use Rattle.std.specs.List.{concat, filter, list_any};
-ghost use Rattle.typed_formula.specs.Formula.{formula, formulas_of};
+ghost use Rattle.form_typed.specs.Formula.{formula, formulas_of};
 ghost use Rattle.pri_typing.specs.Problems.{assumed, assumed_by};
 ghost use Rattle.pri_typing.specs.WellFormed.{all_formula_components, formula_components};
 ghost use Rattle.function_encoding.specs.Encoded.{is_in};
 
+use form_typed::Typed;
 use linear_term::Memory;
 use pri_typing::Problem;
 use sqlite_items::{Boxed, Items};
 use std::alloc::Global;
-use typed_formula::Typed;
 
 /// The numbers of several sets, in their order.
 pub fn together(alloc: Global, sets: &[Items<u32>]) -> Result<Vec<u32>, Memory>

@@ -1,17 +1,17 @@
 // The predicates and functions of a formula, by marks, and how those of two formulas stand to each other.
 
 ghost use Rattle.std.specs.Prelude.{◌≡◌, ◌↔◌, ◌+◌, ◌*◌, cond, true, false, IfOk, IsTrue, replicate, length};
-ghost use Rattle.typed_formula.specs.Formula.{expression, expressions_of, formula, formulas_of};
+ghost use Rattle.form_typed.specs.Formula.{expression, expressions_of, formula, formulas_of};
 ghost use Rattle.pri_typing.specs.WellFormed.{IsWellFormed};
 ghost use Rattle.function_encoding.specs.Marks.{with_mark};
-ghost use Rattle.cut_sides.specs.Sides.{case_between};
-ghost use Rattle.cut_sides.specs.Symbols.{symbols_in, symbols_in_all, symbols_in_term, symbols_in_terms};
+ghost use Rattle.itp_sides.specs.Sides.{case_between};
+ghost use Rattle.itp_sides.specs.Symbols.{symbols_in, symbols_in_all, symbols_in_term, symbols_in_terms};
 ghost use Rattle.pred_interpolant.specs.Fit.{IsFitFormula};
 ghost use Rattle.pred_interpolant.specs.Marks.{AreSymbolMarks, AreUnset, AreMarkedWithin, case_chosen, noted, symbol_place};
 
+use form_typed::{Typed, TypedTerm};
 use pri_typing::Problem;
 use std::alloc::{AllocError, Global};
-use typed_formula::{Typed, TypedTerm};
 
 /// Marks the symbols in a formula.
 #[cycle(marks)]

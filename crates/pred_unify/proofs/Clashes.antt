@@ -3,13 +3,13 @@ use Rattle.std.proofs.Common.{◌≡◌, ℕ, ◌≤◌, ℤ, pos, negsuc, Bool,
 use Rattle.std.specs.List.{AllByRecursion}
 use Rattle.std.proofs.lemmas.Int.{ints}
 use Rattle.std.proofs.lemmas.List.{take-append-drop, append-nil, length-take-le}
-use Rattle.integers.specs.Entry.{entry}
-use Rattle.integers.proofs.Entries.{entry-append_left}
+use Rattle.base_integers.specs.Entry.{entry}
+use Rattle.base_integers.proofs.Entries.{entry-append_left}
 use Rattle.linear_term.specs.Linear.{Linear, value_of, IsOver}
 use Rattle.linear_term.specs.Combination.{combination}
 use Rattle.linear_term.proofs.Totals.{value_of-combination}
-use Rattle.typed_formula.specs.Truth.{Meaning}
-use Rattle.purse.specs.Trace.{Traced, just, step, next, each}
+use Rattle.form_typed.specs.Truth.{Meaning}
+use Rattle.base_budget.specs.Trace.{Traced, just, step, next, each}
 use Rattle.formula.specs.Form.{Form, FormTruth, equal, unequal, at_least, holds, fails, differs, conjunction, disjunction, universal, existential, forms, values_of, AreFormsTrue, AreFormsFalse, IsFormOver}
 use Rattle.sequent.specs.Sequent.{Member, Sequent, IsMemberTrue, SequentTruth, IsMember, IsFormedSequent}
 use Rattle.formula.specs.Form.{is_pure}

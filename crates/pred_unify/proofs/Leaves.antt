@@ -8,9 +8,9 @@ use Rattle.std.proofs.lemmas.Bool.Decides.{Decides-eqb}
 use Rattle.std.proofs.lemmas.List.{append-nil}
 use Rattle.linear_term.specs.Linear.{Linear, value_of}
 use Rattle.linear_term.specs.Combination.{combination}
-use Rattle.typed_formula.specs.Truth.{Meaning}
-use Rattle.typed_formula.proofs.Stability.{equal_stable}
-use Rattle.purse.specs.Trace.{Traced, just, step, next, each}
+use Rattle.form_typed.specs.Truth.{Meaning}
+use Rattle.form_typed.proofs.Stability.{equal_stable}
+use Rattle.base_budget.specs.Trace.{Traced, just, step, next, each}
 use Rattle.formula.specs.Form.{Form, FormTruth, Forms, equal, unequal, holds, fails, differs, no_form, and_form, forms, values_of, AreFormsTrue, AreFormsFalse, IsFormOver}
 use Rattle.sequent.specs.Sequent.{Member, Sequent, AreFalse, IsMember, IsFormedSequent}
 use Rattle.formula.specs.Form.{is_pure}

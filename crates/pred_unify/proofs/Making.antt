@@ -3,12 +3,12 @@ use Rattle.std.proofs.Common.{◌≡◌, ℕ, zero, suc, ◌<◌, ◌≤◌, ◌
 use Rattle.std.proofs.lemmas.List.{take_all, length-drop, drop_more}
 use Rattle.linear_term.specs.Linear.{Linear}
 use Rattle.linear_term.specs.declared.range.TermFault.{TermFault}
-use Rattle.purse.specs.Trace.{Traced, just, next, each}
+use Rattle.base_budget.specs.Trace.{Traced, just, next, each}
 use Rattle.sequent.specs.Sequent as q
 use Rattle.sequent.specs.declared.member.Member.{Member}
 use Rattle.sequent.specs.Views.{member_of, members_of}
-use Rattle.purse.proofs.Charging.{Left, drop-item, drop_all}
-use Rattle.purse.proofs.Tracing.{next-assoc, next-just}
+use Rattle.base_budget.proofs.Charging.{Left, drop-item, drop_all}
+use Rattle.base_budget.proofs.Tracing.{next-assoc, next-just}
 use Rattle.std.specs.Borrow.{Bor}
 use Rattle.std.specs.List.{AllByRecursion}
 use Rattle.pred_unify.specs.Reading.{among, behind, is_differing, meetings, meetings_by, onto}

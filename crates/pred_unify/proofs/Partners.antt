@@ -2,8 +2,8 @@
 use Rattle.std.proofs.Common.{◌≡◌, ℕ, Bool, true, false, cond, List, [], ◌∷◌, ◌++◌, drop, map, filter, refl, sym, ap, ◌∙◌, append_assoc}
 use Rattle.std.proofs.lemmas.List.{append-nil}
 use Rattle.linear_term.specs.Linear.{Linear}
-use Rattle.purse.specs.Trace.{Traced, just, next, each}
-use Rattle.purse.proofs.Tracing.{next-assoc, next-just}
+use Rattle.base_budget.specs.Trace.{Traced, just, next, each}
+use Rattle.base_budget.proofs.Tracing.{next-assoc, next-just}
 use Rattle.formula.specs.Form.{Form, equal, unequal, at_least, holds, fails, differs, conjunction, disjunction, universal, existential, is_pure}
 use Rattle.formula.specs.Tree.{form}
 use Rattle.sequent.specs.Sequent as q

@@ -2,7 +2,7 @@
 use Rattle.std.proofs.Common.{◌≡◌, ℕ, ◌-◌, Bool, true, false, ◌&&◌, cond, List, [], ◌∷◌, ◌++◌, refl, ◌∙◌}
 use Rattle.std.specs.List.{AllByRecursion}
 use Rattle.linear_term.specs.Linear.{Linear}
-use Rattle.purse.specs.Trace.{just, step, next, each}
+use Rattle.base_budget.specs.Trace.{just, step, next, each}
 use Rattle.formula.specs.Form.{Form, equal, unequal, at_least, holds, fails, differs, conjunction, disjunction, universal, existential, forms}
 use Rattle.sequent.specs.Sequent.{Member, Sequent}
 use Rattle.formula.specs.Form.{is_pure, are_pure}

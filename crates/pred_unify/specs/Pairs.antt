@@ -1,7 +1,7 @@
 -- The pairs of a sequent and its closing formula, with the raw numbers of their terms.
 use Rattle.std.specs.Prelude.{ℕ, pos, negsuc, nat_eq, cond, Bool, ◌&&◌, List, [], ◌∷◌, ◌++◌, length}
 use Rattle.linear_term.specs.Linear.{Linear}
-use Rattle.purse.specs.Trace.{Traced, just, next, each, combining}
+use Rattle.base_budget.specs.Trace.{Traced, just, next, each, combining}
 use Rattle.formula.specs.Form.{Form, equal, unequal, holds, fails, differs, conjunction, disjunction, forms}
 use Rattle.sequent.specs.Sequent.{Member, Sequent}
 use Rattle.formula.specs.Form.{is_pure}

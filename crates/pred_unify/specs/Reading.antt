@@ -7,7 +7,7 @@ use Rattle.formula.specs.Form.{Form, holds, fails, differs, is_pure}
 use Rattle.formula.specs.Tree.{form}
 use Rattle.linear_term.specs.Linear.{Linear}
 use Rattle.pred_unify.specs.Pairs.{alike}
-use Rattle.purse.specs.Trace.{Traced, just, next}
+use Rattle.base_budget.specs.Trace.{Traced, just, next}
 use Rattle.sequent.specs.declared.member.Member.{Member}
 use Rattle.sequent.specs.declared.member.Sequent.{Sequent}
 use Rattle.pred_unify.specs.declared.leaf.Leaf.{Leaf}

@@ -2,7 +2,7 @@
 
 ghost use Rattle.std.specs.Prelude.{◌≡◌, ℕ, ℤ, Bool, List, length, true};
 ghost use Rattle.std.specs.List.{AllByRecursion};
-ghost use Rattle.typed_formula.specs.Truth.{Meaning};
+ghost use Rattle.form_typed.specs.Truth.{Meaning};
 ghost use Rattle.formula.specs.Form.{FormTruth, is_pure};
 ghost use Rattle.sequent.specs.Sequent.{Sequent, AreFalse, SequentTruth, IsFormedSequent};
 ghost use Rattle.sequent.specs.Leaf.{is_leaf};

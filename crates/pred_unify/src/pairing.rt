@@ -9,7 +9,7 @@ ghost use Rattle.formula.specs.Shifts.{IsBelow};
 ghost use Rattle.formula.specs.Tree.{form};
 ghost use Rattle.sequent.specs.Rules.{brought};
 ghost use Rattle.sequent.specs.Views.{members_of, sequent_of, HasRoom};
-ghost use Rattle.purse.specs.Trace.{each};
+ghost use Rattle.base_budget.specs.Trace.{each};
 
 use super::leaf::{Leaf, Met};
 use super::symbols::alike;

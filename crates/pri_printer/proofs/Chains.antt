@@ -3,7 +3,7 @@ use Rattle.std.proofs.Common.{ℕ, ◌≡◌, true, List, [], ◌∷◌, ◌++�
 use Rattle.pri_tokens.specs.declared.terminals.Lexeme.{Lexeme}
 use Rattle.pri_reader.specs.declared.tree.Expr.{Expr}
 use Rattle.pri_reader.specs.Grammar.{Setting, chain, disjunction, conjunction, chain_all, member_first, chained, listed, Members, member, chain_sign, Chain, member_next}
-use Rattle.typed_formula.specs.Formula.{Formula, Formulas, every, some, formulas}
+use Rattle.form_typed.specs.Formula.{Formula, Formulas, every, some, formulas}
 use Rattle.pri_typing.specs.declared.scope.Category.TheVariants as category
 use Rattle.pri_typing.specs.Phrase.{Phrase, phrase}
 use Rattle.pri_typing.specs.Phrase as ph

@@ -8,10 +8,10 @@ use Rattle.linear_term.specs.Range.{InRange}
 use Rattle.pri_reader.specs.declared.tree.Comparison.{Comparison}
 use Rattle.pri_reader.specs.declared.tree.Comparison.TheVariants as comparison
 use Rattle.pri_reader.specs.Grammar.{sum, unary, chain, conjunction, disjunction, whole, comparison_sign}
-use Rattle.typed_formula.specs.Formula.{Formula, Expression, number, name, minus, product, compares, for_some, negation}
-use Rattle.typed_formula.specs.declared.typed.Sort.TheVariants as sort
-use Rattle.typed_formula.specs.Formula as logic
-use Rattle.typed_formula.specs.declared.typed.Relation.TheVariants as relation
+use Rattle.form_typed.specs.Formula.{Formula, Expression, number, name, minus, product, compares, for_some, negation}
+use Rattle.form_typed.specs.declared.typed.Sort.TheVariants as sort
+use Rattle.form_typed.specs.Formula as logic
+use Rattle.form_typed.specs.declared.typed.Relation.TheVariants as relation
 use Rattle.clause_set.specs.declared.literal.Literal.{Literal}
 use Rattle.clause_set.specs.declared.literal.Literal.TheVariants.{Eq, Geq, Div, NDiv}
 use Rattle.pri_typing.specs.Phrase.{Phrase}

@@ -5,14 +5,14 @@ use Rattle.std.specs.List.{list_all}
 use Rattle.std.specs.Char.{is_ascii_digit}
 use Rattle.std.proofs.lemmas.Fmt.{decimal_injective}
 use Rattle.std.proofs.lemmas.Bool.{false≢true, cases_lt}
-use Rattle.numerals.proofs.Tests.{left_true, right_true}
+use Rattle.base_numerals.proofs.Tests.{left_true, right_true}
 use Rattle.pri_printer.proofs.Lexing.{digit_is_name_byte}
 use Rattle.pri_tokens.specs.Lexemes.{is_name_byte}
-use Rattle.texts.specs.Texts.{is_text, is_among}
+use Rattle.base_texts.specs.Texts.{is_text, is_among}
 use Rattle.pri_printer.specs.Quotient.{quotient_name, free_from}
 use Rattle.pri_tokens.specs.Written.{IsIdentifier}
 use Rattle.pri_typing.proofs.Distinct.{text_same}
-use Rattle.numerals.proofs.Decimals.{decimal_is}
+use Rattle.base_numerals.proofs.Decimals.{decimal_is}
 
 -- the others
 without : List ℕ → List (List ℕ) → List (List ℕ)

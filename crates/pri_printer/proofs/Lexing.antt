@@ -11,7 +11,7 @@ use Rattle.pri_tokens.specs.Lexemes.{lexemes_from, first_piece_of, piece_of, nam
 use Rattle.pri_tokens.specs.Bytes.{text_of}
 use Rattle.pri_tokens.specs.Spellings.{word_of, command_of}
 use Rattle.pri_tokens.proofs.Scan.{lexemes_piece}
-use Rattle.numerals.proofs.Tests.{left_true, right_true}
+use Rattle.base_numerals.proofs.Tests.{left_true, right_true}
 use Rattle.pri_printer.proofs.Writing.{Ends, tokens_at, is_parted, lexeme_at}
 
 -- what the bytes end with behind a text with which they go on

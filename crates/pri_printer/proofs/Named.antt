@@ -12,7 +12,7 @@ use Rattle.pri_typing.specs.declared.problem.Symbol.{Symbol}
 use Rattle.pri_typing.specs.declared.problem.Problem.{Problem}
 use Rattle.pri_typing.specs.declared.symbols.Entry.{Entry}
 use Rattle.pri_typing.specs.declared.scope.Referent.TheVariants as referent
-use Rattle.texts.specs.Texts.{is_text, is_among}
+use Rattle.base_texts.specs.Texts.{is_text, is_among}
 use Rattle.pri_typing.specs.Scope.{existentials, universals, existential_text, universal_text, declared_from, refers, bound_or_declared}
 use Rattle.pri_tokens.specs.declared.terminals.Terminal.TheVariants as t
 use Rattle.pri_tokens.specs.Kinds.{is_name}

@@ -4,10 +4,10 @@ use Rattle.std.proofs.lemmas.List.{length-map}
 use Rattle.pri_typing.specs.Problems.{IsTrueAt}
 use Rattle.std.specs.Prelude.{unsigned_abs}
 use Rattle.std.specs.Ordering.{int_eq}
-use Rattle.integers.specs.Divides.{divides}
-use Rattle.integers.proofs.Entries.{entry-append_left}
+use Rattle.base_integers.specs.Divides.{divides}
+use Rattle.base_integers.proofs.Entries.{entry-append_left}
 use Rattle.linear_term.specs.Linear.{Linear, value_of, value_at, total}
-use Rattle.typed_formula.specs.Truth.{Meaning, Truth}
+use Rattle.form_typed.specs.Truth.{Meaning, Truth}
 use Rattle.clause_set.specs.declared.literal.Literal.{Literal}
 use Rattle.clause_set.specs.declared.literal.Literal.TheVariants.{Eq, Geq, Div, NDiv}
 use Rattle.pri_typing.specs.declared.problem.Problem.{Problem}

@@ -4,10 +4,10 @@ use Rattle.std.specs.Prelude.{nat_eq}
 use Rattle.std.specs.List.{list_any}
 use Rattle.std.specs.Ordering.{int_eq}
 use Rattle.linear_term.specs.Linear.{Linear, mentions, has_name}
-use Rattle.typed_formula.specs.Formula.{Formula, Formulas, Expression, Expressions, expressions, formulas, number, name, minus, product, total, compares, negation, every, some, for_some}
-use Rattle.typed_formula.specs.declared.typed.Sort.TheVariants as sort
-use Rattle.typed_formula.specs.Formula as logic
-use Rattle.typed_formula.specs.declared.typed.Relation.{Relation}
+use Rattle.form_typed.specs.Formula.{Formula, Formulas, Expression, Expressions, expressions, formulas, number, name, minus, product, total, compares, negation, every, some, for_some}
+use Rattle.form_typed.specs.declared.typed.Sort.TheVariants as sort
+use Rattle.form_typed.specs.Formula as logic
+use Rattle.form_typed.specs.declared.typed.Relation.{Relation}
 use Rattle.clause_set.specs.declared.literal.Literal.{Literal}
 use Rattle.clause_set.specs.declared.literal.Literal.TheVariants.{Eq, Geq, Div, NDiv}
 use Rattle.clause_set.specs.Literals.{term_of}

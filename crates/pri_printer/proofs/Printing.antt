@@ -8,7 +8,7 @@ use Rattle.pri_reader.specs.Grammar.{whole}
 use Rattle.clause_set.specs.declared.literal.Literal.{Literal}
 use Rattle.pri_typing.specs.declared.problem.Problem.{Problem}
 use Rattle.pri_typing.specs.declared.problem.Symbol.{Symbol}
-use Rattle.texts.specs.Texts.{is_among}
+use Rattle.base_texts.specs.Texts.{is_among}
 use Rattle.pri_typing.specs.Problems.{Says, scope_of_problem}
 use Rattle.pri_printer.proofs.Standing.{AllPrintable}
 use Rattle.pri_typing.specs.WellFormed.{names_of_symbols, IsWellFormed, HasDistinctNames, HasIdentifiers}

@@ -1,7 +1,7 @@
 -- One step of the search for a free name.
 use Rattle.std.proofs.Common.{◌≡◌, ℕ, zero, suc, ◌+◌, ◌-◌, ◌<◌, ◌≤◌, true, false, cond, List, refl, sym, ap, ◌∙◌, arith}
 use Rattle.pri_typing.specs.declared.problem.Problem.{Problem}
-use Rattle.texts.specs.Texts.{is_among}
+use Rattle.base_texts.specs.Texts.{is_among}
 use Rattle.pri_printer.specs.Quotient.{quotient_name, quotient_number, free_from}
 use Rattle.pri_typing.specs.WellFormed.{names_of_symbols}
 use Rattle.pri_typing.proofs.Distinct.{among-append}

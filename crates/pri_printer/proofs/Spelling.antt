@@ -6,7 +6,7 @@ use Rattle.pri_tokens.specs.declared.terminals.Terminal.{Terminal}
 use Rattle.pri_tokens.specs.declared.terminals.Terminal.TheVariants as t
 use Rattle.pri_tokens.specs.Lexemes.{piece_of, named, first_piece_of}
 use Rattle.pri_tokens.specs.Kinds.{is_name, is_number}
-use Rattle.numerals.specs.Numerals.{decimal_value}
+use Rattle.base_numerals.specs.Numerals.{decimal_value}
 use Rattle.pri_tokens.specs.Spellings.{word_of}
 use Rattle.pri_reader.specs.declared.tree.Expr.{Expr}
 use Rattle.pri_reader.specs.declared.tree.Comparison.{Comparison}

@@ -3,7 +3,7 @@ use Rattle.std.specs.Prelude.{ℕ, ◌≡◌, ◌<◌, ◌+◌, ◌^◌, true, L
 use Rattle.pri_tokens.specs.declared.terminals.Lexeme.{Lexeme}
 use Rattle.pri_reader.specs.declared.tree.Expr.{Expr}
 use Rattle.pri_reader.specs.Grammar.{Setting, Derives, Part}
-use Rattle.typed_formula.specs.Formula.{Formula, Expression}
+use Rattle.form_typed.specs.Formula.{Formula, Expression}
 use Rattle.pri_typing.specs.declared.scope.Category.TheVariants as category
 use Rattle.pri_typing.specs.Phrase.{Phrase, phrase}
 use Rattle.pri_typing.specs.Scope.{Scope}

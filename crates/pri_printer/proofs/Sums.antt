@@ -5,7 +5,7 @@ use Rattle.pri_reader.specs.declared.tree.Expr.{Expr}
 use Rattle.pri_reader.specs.declared.tree.Form.TheVariants as form
 use Rattle.pri_reader.specs.declared.tree.Added.{Added}
 use Rattle.pri_reader.specs.Grammar.{Setting, right, sum, multiplication, sum_all, term_first, expr, Terms, summed, added, term_next, adding_sign}
-use Rattle.typed_formula.specs.Formula.{Expression, total, expressions}
+use Rattle.form_typed.specs.Formula.{Expression, total, expressions}
 use Rattle.pri_typing.specs.Phrase.{Phrase, phrase}
 use Rattle.pri_typing.specs.Phrase as ph
 use Rattle.pri_typing.specs.Scope.{Scope}

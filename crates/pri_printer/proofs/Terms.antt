@@ -6,12 +6,12 @@ use Rattle.std.specs.Char.{is_ascii_digit}
 use Rattle.std.specs.Fmt.{decimal}
 use Rattle.std.proofs.lemmas.Bool.Decides.{nat_tests}
 use Rattle.pri_tokens.specs.Kinds.{is_name, is_number}
-use Rattle.numerals.proofs.Decimals.{decimal_is}
-use Rattle.numerals.proofs.Tests.{left_true}
+use Rattle.base_numerals.proofs.Decimals.{decimal_is}
+use Rattle.base_numerals.proofs.Tests.{left_true}
 use Rattle.std.proofs.lemmas.Bool.{false≢true}
 use Rattle.pri_tokens.specs.Lexemes.{starts_name}
 use Rattle.pri_reader.specs.Grammar.{right, multiplication, primary, factor, sum}
-use Rattle.typed_formula.specs.Formula.{Expression, number, name, minus, product}
+use Rattle.form_typed.specs.Formula.{Expression, number, name, minus, product}
 use Rattle.pri_typing.specs.Phrase.{Phrase}
 use Rattle.pri_typing.specs.Phrase as ph
 use Rattle.pri_typing.specs.Scope.{Scope}

@@ -4,14 +4,14 @@ use Rattle.std.specs.Prelude.{unsigned_abs}
 use Rattle.std.proofs.lemmas.Bool.{false≢true}
 use Rattle.std.proofs.lemmas.Bool.Decides.{Decides-int_eq, nat_tests}
 use borrow.Author.Differences.{ints}
-use Rattle.integers.specs.Entry.{entry}
-use Rattle.integers.specs.Divides.{divides}
-use Rattle.integers.proofs.Divisors.{Divides_from_test, test_from_Divides}
-use Rattle.integers.proofs.Entries.{entry-append_left, entry-append_right}
+use Rattle.base_integers.specs.Entry.{entry}
+use Rattle.base_integers.specs.Divides.{divides}
+use Rattle.base_integers.proofs.Divisors.{Divides_from_test, test_from_Divides}
+use Rattle.base_integers.proofs.Entries.{entry-append_left, entry-append_right}
 use Rattle.linear_term.specs.Linear.{Linear, value_of, value_at, total}
-use Rattle.typed_formula.specs.Formula.{formulas}
-use Rattle.typed_formula.specs.Truth.{Meaning, Truth, HasValue, AreAllTrue, AreAllFalse}
-use Rattle.typed_formula.proofs.Stability.{test_stable}
+use Rattle.form_typed.specs.Formula.{formulas}
+use Rattle.form_typed.specs.Truth.{Meaning, Truth, HasValue, AreAllTrue, AreAllFalse}
+use Rattle.form_typed.proofs.Stability.{test_stable}
 use Rattle.clause_set.specs.declared.literal.Literal.{Literal}
 use Rattle.clause_set.specs.declared.literal.Literal.TheVariants.{Eq, Geq, Div, NDiv}
 use Rattle.clause_set.specs.Literals.{literal_truth, clause_truth, dnf_truth}

@@ -5,11 +5,11 @@ use Rattle.std.specs.Ordering.{int_eq}
 use Rattle.std.proofs.lemmas.Bool.{eqb-true}
 use Rattle.std.proofs.lemmas.Bool.Decides.{nat_tests, Decides-int_eq}
 use borrow.Author.Differences.{ints}
-use Rattle.integers.specs.Entry.{entry}
+use Rattle.base_integers.specs.Entry.{entry}
 use Rattle.linear_term.specs.Linear.{value_of, value_at, total}
-use Rattle.typed_formula.specs.Formula.{expressions, number, name, minus, product}
-use Rattle.typed_formula.specs.Truth.{Meaning, HasValue, HaveValues}
-use Rattle.typed_formula.specs.Lists.{sum_of}
+use Rattle.form_typed.specs.Formula.{expressions, number, name, minus, product}
+use Rattle.form_typed.specs.Truth.{Meaning, HasValue, HaveValues}
+use Rattle.form_typed.specs.Lists.{sum_of}
 use Rattle.pri_typing.specs.Typing.{signed}
 use Rattle.pri_printer.specs.Summands.{Summand, alone, times, SignedSummand, monomial, constant}
 use Rattle.pri_printer.specs.Formulas.{summand_value, less_summand, later_part, later, sum_value, term_value}

@@ -5,7 +5,7 @@ use Rattle.pri_tokens.specs.Lexemes.{lexemes_from, lexemes_of}
 use Rattle.pri_reader.specs.declared.tree.Expr.{Expr}
 use Rattle.pri_reader.specs.Grammar.{Setting, Derives, whole}
 use Rattle.pri_reader.specs.Reading.{file_setting}
-use Rattle.typed_formula.specs.Formula.{Formula}
+use Rattle.form_typed.specs.Formula.{Formula}
 use Rattle.pri_typing.specs.declared.problem.Problem.{Problem}
 use Rattle.pri_typing.specs.Phrase.{first_token, phrase}
 use Rattle.pri_printer.proofs.Spells.{Allows, Spells, IsFormula}

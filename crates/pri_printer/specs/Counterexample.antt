@@ -2,9 +2,9 @@
 use Rattle.std.specs.Prelude.{ℕ, ℤ, List, [], ◌∷◌, ◌++◌, map, Option, Some, None, codes}
 use Rattle.std.specs.Fmt.{signed_decimal}
 use Rattle.std.specs.List.{slice_get}
-use Rattle.typed_formula.specs.declared.world.Table.{Table}
-use Rattle.typed_formula.specs.declared.world.TruthRow.{TruthRow}
-use Rattle.typed_formula.specs.declared.world.ValueRow.{ValueRow}
+use Rattle.form_typed.specs.declared.world.Table.{Table}
+use Rattle.form_typed.specs.declared.world.TruthRow.{TruthRow}
+use Rattle.form_typed.specs.declared.world.ValueRow.{ValueRow}
 use Rattle.pri_typing.specs.declared.problem.Problem.{Problem}
 use Rattle.pri_typing.specs.declared.problem.Symbol.{Symbol}
 use Rattle.pri_printer.specs.Text.{listed_text, value_texts}

@@ -2,10 +2,10 @@
 -- the name n.
 use Rattle.std.specs.Prelude.{ℕ, ℤ, pos, Bool, true, false, cond, nat_eq, unsigned_abs, List, [], ◌∷◌, map}
 use Rattle.linear_term.specs.Linear.{Linear}
-use Rattle.typed_formula.specs.declared.typed.Sort.TheVariants as sort
-use Rattle.typed_formula.specs.Formula.{Formula, Formulas, no_formula, Expression, formulas, expressions, compares, every, some, for_some, negation, number, name, minus, product, total}
-use Rattle.typed_formula.specs.Formula as logic
-use Rattle.typed_formula.specs.declared.typed.Relation.TheVariants as relation
+use Rattle.form_typed.specs.declared.typed.Sort.TheVariants as sort
+use Rattle.form_typed.specs.Formula.{Formula, Formulas, no_formula, Expression, formulas, expressions, compares, every, some, for_some, negation, number, name, minus, product, total}
+use Rattle.form_typed.specs.Formula as logic
+use Rattle.form_typed.specs.declared.typed.Relation.TheVariants as relation
 use Rattle.pri_typing.specs.Typing.{signed}
 use Rattle.clause_set.specs.declared.literal.Literal.{Literal}
 use Rattle.clause_set.specs.declared.literal.Literal.TheVariants.{Eq, Geq, Div, NDiv}

@@ -1,7 +1,7 @@
 -- The names that a disjunctive normal form and a formula speak of.
 use Rattle.std.specs.Prelude.{ℕ, ℤ, ◌<◌, ◌≤◌, ◌≡◌, true, List, [], ◌∷◌, ◌⊎◌}
 use Rattle.std.specs.List.{list_any}
-use Rattle.typed_formula.specs.Formula.{Formula, Expression, name, call}
+use Rattle.form_typed.specs.Formula.{Formula, Expression, name, call}
 use Rattle.pri_typing.specs.Everywhere.{Everywhere}
 use Rattle.pri_typing.specs.Problems.{IsNoPredicate}
 use Rattle.clause_set.specs.declared.literal.Literal.{Literal}

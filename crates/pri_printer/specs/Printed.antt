@@ -5,7 +5,7 @@ use Rattle.pri_tokens.specs.Lexemes.{lexemes_of}
 use Rattle.pri_reader.specs.declared.tree.Expr.{Expr}
 use Rattle.pri_reader.specs.Grammar.{Derives, whole}
 use Rattle.pri_reader.specs.Reading.{file_setting}
-use Rattle.typed_formula.specs.Formula.{Formula}
+use Rattle.form_typed.specs.Formula.{Formula}
 use Rattle.pri_typing.specs.declared.problem.Problem.{Problem}
 use Rattle.clause_set.specs.declared.literal.Literal.{Literal}
 use Rattle.pri_printer.specs.Formulas.{normal_form_formula}

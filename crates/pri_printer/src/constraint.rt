@@ -8,7 +8,7 @@ ghost use Rattle.pri_printer.specs.Ranges.{IsRangedLiteral};
 ghost use Rattle.pri_printer.specs.Text.{behind_each, clause_text, literal_text, normal_form_text};
 ghost use Rattle.pri_typing.specs.Problems.{Says};
 ghost use Rattle.pri_typing.specs.WellFormed.{HasDistinctNames, HasIdentifiers, IsWellFormed};
-ghost use Rattle.typed_formula.specs.Truth.{Meaning, Truth};
+ghost use Rattle.form_typed.specs.Truth.{Meaning, Truth};
 
 use crate::literal::put_literal;
 use crate::quotient::free_text;

@@ -7,11 +7,11 @@ ghost use Rattle.std.specs.List.{slice_get};
 ghost use Rattle.std.specs.Prelude.{◌≡◌, ◌++◌, codes, IfOk, length, map, OnOk};
 
 use super::solution::put_value;
+use form_typed::{Table, TruthRow, ValueRow};
 use linear_term::Memory;
 use pri_typing::{Problem, Symbol};
 use sqlite_items::Items;
 use std::alloc::Global;
-use typed_formula::{Table, TruthRow, ValueRow};
 
 /// Puts an integer behind a text.
 fn put_integer(alloc: Global, value: &i128, out: &mut Vec<u8>) -> Result<(), Memory>

@@ -8,9 +8,9 @@ ghost use Rattle.pri_printer.specs.Printed.{dnf_formula};
 ghost use Rattle.pri_printer.specs.Quotient.{quotient_name, quotient_number};
 ghost use Rattle.pri_typing.specs.declared.problem.Problem.{Problem};
 ghost use Rattle.pri_typing.specs.Problems.{IsTrueAt, SpeaksOfExistentials};
-ghost use Rattle.texts.specs.Texts.{is_among};
+ghost use Rattle.base_texts.specs.Texts.{is_among};
 ghost use Rattle.pri_typing.specs.WellFormed.{IsWellFormed, names_of_symbols};
-ghost use Rattle.typed_formula.specs.Truth.{Meaning};
+ghost use Rattle.form_typed.specs.Truth.{Meaning};
 
 /// A normal form over the existential constants of a problem is printed as a formula that speaks of these alone, and that
 /// is true at their values, whatever the universal constants and the interpretation are, exactly where the normal form is.

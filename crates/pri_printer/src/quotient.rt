@@ -2,7 +2,7 @@
 
 ghost use Rattle.std.specs.Prelude.{◌≡◌, IfOk, map};
 ghost use Rattle.pri_printer.specs.Quotient.{quotient_name, quotient_number};
-ghost use Rattle.texts.specs.Texts.{is_among, is_text};
+ghost use Rattle.base_texts.specs.Texts.{is_among, is_text};
 ghost use Rattle.pri_typing.specs.WellFormed.{names_of_symbols};
 
 use crate::term::put_number;

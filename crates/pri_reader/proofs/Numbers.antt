@@ -3,7 +3,7 @@ use Rattle.std.proofs.Common.{ℕ, ℤ, ◌≡◌, ◌≤◌, ◌<◌, ◌^◌, 
 use Rattle.pri_tokens.specs.declared.terminals.Terminal.TheVariants as t
 use Rattle.pri_tokens.specs.declared.terminals.Lexeme.{Lexeme}
 use Rattle.pri_tokens.specs.Bytes.{text_of}
-use Rattle.numerals.specs.Numerals.{decimal_value}
+use Rattle.base_numerals.specs.Numerals.{decimal_value}
 use Rattle.pri_reader.specs.declared.tree.ReadRefusal.TheVariants as refusal
 use Rattle.pri_reader.specs.Grammar.{Takes}
 use Rattle.pri_reader.specs.Reading.{TakesValue, RefusesNumber, no_number, too_large, Unwanted}

@@ -6,7 +6,7 @@ use Rattle.pri_tokens.specs.declared.terminals.Terminal.{Terminal}
 use Rattle.pri_tokens.specs.declared.terminals.Terminal.TheVariants as t
 use Rattle.pri_tokens.specs.declared.terminals.Lexeme.{Lexeme}
 use Rattle.pri_tokens.specs.Bytes.{text_of}
-use Rattle.numerals.specs.Numerals.{decimal_value}
+use Rattle.base_numerals.specs.Numerals.{decimal_value}
 use Rattle.pri_reader.specs.declared.tree.Expr.{Expr}
 use Rattle.pri_reader.specs.declared.tree.Form.{Form}
 use Rattle.pri_reader.specs.declared.tree.Form.TheVariants as form

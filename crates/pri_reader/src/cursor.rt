@@ -8,7 +8,7 @@ use crate::classes::{
     Heading, Opening, Prefix, adding, comparison, headed_by, opened_by, prefixed_by,
 };
 use crate::tree::{Comparison, Name, ReadRefusal};
-use numerals::numeral;
+use base_numerals::numeral;
 use pri_tokens::{Lexeme, Terminal, spelling};
 use sqlite_items::Items;
 use std::alloc::Global;

@@ -9,7 +9,7 @@ use crate::classes::Opening;
 use crate::cursor::{added, after, deeper, name, opening, refused, sign};
 use crate::formulas::whole;
 use crate::tree::{Added, Expr, Form, Name, ReadRefusal};
-use numerals::numeral;
+use base_numerals::numeral;
 use pri_tokens::{Lexeme, Terminal, spelling};
 use sqlite_items::{Boxed, Items};
 use std::alloc::Global;

@@ -5,7 +5,7 @@ use Rattle.std.proofs.lemmas.Bool.{eqb-true}
 use Rattle.std.proofs.lemmas.Bool.Decides.{nat_tests}
 use Rattle.pri_tokens.specs.Lexemes.{behind_close}
 use Rattle.pri_tokens.specs.Tokenization.{Closes, IsBlockComment}
-use Rattle.numerals.proofs.Tests.{left_true, right_true}
+use Rattle.base_numerals.proofs.Tests.{left_true, right_true}
 
 -- the first `*/` behind the byte p
 pub record CloseAt (p : ℕ) (text : List ℕ) (n : ℕ) : Type 0 where

@@ -9,7 +9,7 @@ use Rattle.pri_tokens.specs.declared.terminals.TokenKind.TheVariants as k
 use Rattle.pri_tokens.specs.Spellings.{sign_of}
 use Rattle.pri_tokens.specs.Lexemes.{starts_name, is_name_byte}
 use Rattle.pri_tokens.specs.Kinds.{is_name, has_command_form, words, commands, signs, is_one_of, is_bad_byte, is_spelled}
-use Rattle.numerals.proofs.Tests.{left_true, right_true, either_true, front_passes, clash, heads, at_byte}
+use Rattle.base_numerals.proofs.Tests.{left_true, right_true, either_true, front_passes, clash, heads, at_byte}
 use Rattle.pri_tokens.proofs.Tables.{of_table}
 
 too_many : (p : ℕ → Bool) (n : ℕ) (bs : List ℕ) → prefix_len p bs < n → n ≤ length bs → list_all p (take n bs) ≡ true → ⊥

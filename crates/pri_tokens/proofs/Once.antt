@@ -10,7 +10,7 @@ use Rattle.pri_tokens.specs.declared.terminals.Token.{Token}
 use Rattle.pri_tokens.specs.Lexemes.{is_white, starts_name, is_name_byte, is_not_line_feed, tokens_of}
 use Rattle.pri_tokens.specs.Kinds.{is_name, is_number, has_command_form, words, commands, signs, is_one_of, is_bad_byte, is_spelled}
 use Rattle.pri_tokens.specs.Tokenization.{Closes, IsOpenComment, IsComment, IsToken, IsLongest, IsBlank, IsTokenized, ends, blank, token}
-use Rattle.numerals.proofs.Tests.{left_true, right_true, either_true, clash, heads, at_byte}
+use Rattle.base_numerals.proofs.Tests.{left_true, right_true, either_true, clash, heads, at_byte}
 use Rattle.pri_tokens.proofs.Tables.{of_table}
 use Rattle.pri_tokens.proofs.Longest.{slash_longest}
 use Rattle.pri_tokens.proofs.Pieces.{tokenized}

@@ -16,7 +16,7 @@ use Rattle.pri_tokens.specs.Lexemes.{is_white, starts_name, is_name_byte, is_not
 use Rattle.pri_tokens.proofs.Scan.{lexemes_piece}
 use Rattle.pri_tokens.specs.Kinds.{is_spelled}
 use Rattle.pri_tokens.specs.Tokenization.{Closes, IsOpenComment, IsComment, IsToken, IsLongest, IsBlank, IsTokenized, ends, blank, token}
-use Rattle.numerals.proofs.Tests.{front_all, if_begins, clash, at_byte}
+use Rattle.base_numerals.proofs.Tests.{front_all, if_begins, clash, at_byte}
 use Rattle.pri_tokens.proofs.Longest.{name_longest, number_longest, command_longest, slash_longest, sign_longest}
 use Rattle.pri_tokens.proofs.Spelled.{name_spelled, command_spelled, sign_begins}
 use Rattle.pri_tokens.proofs.Comments.{close_found, no_close, block_by}

@@ -12,7 +12,7 @@ use Rattle.pri_tokens.specs.Terminals.{kind_of}
 use Rattle.pri_tokens.specs.Spellings.{word_of, command_of, sign_of, single_sign_of}
 use Rattle.pri_tokens.specs.Lexemes.{is_white, starts_name}
 use Rattle.pri_tokens.specs.Kinds.{is_name, has_command_form, words, commands, signs, is_one_of, is_bad_byte, is_spelled}
-use Rattle.numerals.proofs.Tests.{left_true, right_true, if_begins, clash, heads}
+use Rattle.base_numerals.proofs.Tests.{left_true, right_true, if_begins, clash, heads}
 use Rattle.pri_tokens.proofs.Tables.{of_table}
 
 -- the terminal is of the first kind where the text is in the table, else of the second

@@ -3,7 +3,7 @@ use Rattle.std.proofs.Common.{ℕ, ◌≡◌, Bool, true, List, [], ◌∷◌, a
 use Rattle.std.specs.List.{list_all}
 use Rattle.std.specs.Str.{bytes_eq}
 use Rattle.std.proofs.lemmas.Slice.Eq.{bytes_eq-Decides}
-use Rattle.numerals.proofs.Tests.{left_true, right_true, either_true}
+use Rattle.base_numerals.proofs.Tests.{left_true, right_true, either_true}
 use Rattle.pri_tokens.specs.Kinds.{is_one_of}
 
 -- what all texts of a table pass, each of them passes

@@ -20,7 +20,7 @@ use Rattle.pri_tokens.specs.Kinds.{is_name}
 use Rattle.pri_tokens.specs.Bytes.{text_of}
 use Rattle.pri_tokens.specs.Written.{spelling_of, IsWritten}
 use Rattle.pri_tokens.proofs.Scan.{lexemes_piece}
-use Rattle.numerals.proofs.Tests.{left_true, right_true, front_all, if_begins}
+use Rattle.base_numerals.proofs.Tests.{left_true, right_true, front_all, if_begins}
 use Rattle.pri_tokens.proofs.Spelled.{one_byte, two_bytes}
 use Rattle.pri_tokens.proofs.Pieces.{Begins, piece_begins, some_bytes}
 

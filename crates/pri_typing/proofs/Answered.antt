@@ -13,7 +13,7 @@ use Rattle.pri_typing.specs.declared.problem.TypeRefusal.{TypeRefusal}
 use Rattle.pri_typing.specs.Faults.{least}
 use Rattle.pri_typing.specs.Files.{IsTyped, file_faults}
 use Rattle.pri_typing.specs.Limits.{HasSets, IsResolvable}
-use Rattle.typed_formula.specs.Sorts.{IsSortRanged}
+use Rattle.form_typed.specs.Sorts.{IsSortRanged}
 use Rattle.pri_typing.specs.WellFormed.{IsWellFormed, HasDistinctNames, HasIdentifiers}
 use Rattle.pri_typing.proofs.Counted.{file_counted}
 use Rattle.pri_typing.proofs.Least.{least-none}

@@ -1,8 +1,8 @@
 -- What the components of a formula assume is true together where the formula, with plus, is false or, with minus, is true.
 use Rattle.std.proofs.Common.{◌↔◌, ℤ, Bool, true, false, List, [], ◌∷◌, ◌++◌, map}
-use Rattle.typed_formula.specs.Formula.{Formula, Formulas, formula, formulas, constant, compares, applies, negation, every, some, implies, iff, for_all, for_some, part, no_formula, and_formula}
-use Rattle.typed_formula.specs.Truth.{Meaning, Truth, AreAllTrue, AreAllFalse}
-use Rattle.typed_formula.proofs.Stability.{truth_stable}
+use Rattle.form_typed.specs.Formula.{Formula, Formulas, formula, formulas, constant, compares, applies, negation, every, some, implies, iff, for_all, for_some, part, no_formula, and_formula}
+use Rattle.form_typed.specs.Truth.{Meaning, Truth, AreAllTrue, AreAllFalse}
+use Rattle.form_typed.proofs.Stability.{truth_stable}
 use Rattle.pri_typing.specs.declared.problem.Problem.{Problem}
 use Rattle.pri_typing.specs.WellFormed.{SignedFormula, formula_components, all_formula_components, components_of}
 use Rattle.pri_typing.specs.Problems.{assumed}

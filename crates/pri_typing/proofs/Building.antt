@@ -1,16 +1,16 @@
 -- The formulas and terms of lists of expressions.
 use Rattle.std.proofs.Common.{◌≡◌, ℕ, zero, suc, Bool, true, false, List, [], ◌∷◌, ◌++◌, map, length, refl, sym, ap, ◌∙◌, arith, take, take_all, get_or, subst, ◌<◌, ◌≤◌, ◌^◌}
 use Rattle.std.proofs.lemmas.List.{map-append}
-use Rattle.typed_formula.specs.Formula.{Formula, for_all, for_some, and_formula, and_expression, formula, formulas, formulas_of, expression, expressions, expressions_of}
+use Rattle.form_typed.specs.Formula.{Formula, for_all, for_some, and_formula, and_expression, formula, formulas, formulas_of, expression, expressions, expressions_of}
 use Rattle.pri_reader.specs.declared.tree.Expr.{Expr}
 use Rattle.pri_reader.specs.declared.tree.Added.{Added}
 use Rattle.pri_reader.specs.declared.tree.Declared.{Declared}
-use Rattle.typed_formula.specs.declared.typed.Sort.{Sort}
-use Rattle.typed_formula.specs.declared.typed.Typed.{Typed}
-use Rattle.typed_formula.specs.declared.typed.TypedTerm.{TypedTerm}
+use Rattle.form_typed.specs.declared.typed.Sort.{Sort}
+use Rattle.form_typed.specs.declared.typed.Typed.{Typed}
+use Rattle.form_typed.specs.declared.typed.TypedTerm.{TypedTerm}
 use Rattle.pri_typing.specs.declared.scope.Site.{Site}
 use Rattle.pri_typing.specs.Sites.{bound_texts, most_bound}
-use Rattle.limits.specs.Limits.{most_symbols}
+use Rattle.base_limits.specs.Limits.{most_symbols}
 use Rattle.pri_typing.specs.Limits.{IsShallow, AreShallow, AddendsAreShallow, IsReady, AreReady, AddendsAreReady, IsReadyUnder}
 use Rattle.pri_typing.proofs.Scopes.{length-bind}
 use Rattle.pri_typing.specs.Phrase.{Phrase, phrase, phrases_of, addend, addends_of}

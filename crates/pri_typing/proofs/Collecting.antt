@@ -6,7 +6,7 @@ use Rattle.pri_reader.specs.declared.tree.Expr.{Expr}
 use Rattle.pri_reader.specs.declared.tree.Added.{Added}
 use Rattle.pri_reader.specs.declared.tree.Name.{Name}
 use Rattle.pri_typing.specs.Phrase.{Phrase, phrase, phrases, phrases_of, Addend, addend, addends, addends_of}
-use Rattle.texts.specs.Texts.{with_text}
+use Rattle.base_texts.specs.Texts.{with_text}
 use Rattle.pri_typing.specs.Scope.{Scope}
 use Rattle.pri_typing.specs.Typing.{parts_in, all_parts, addend_parts, applications, all_applications, addend_applications, first_of, distinct_from}
 use Rattle.pri_typing.proofs.Folds.{addend-term}

@@ -19,7 +19,7 @@ use Rattle.pri_reader.specs.Grammar as grammar
 use Rattle.pri_reader.specs.Grammar.{Setting, Right, Chain, Part, expr, join, chained, added, summed, paired, name_of, value_of, Takes, Endpoint, IsType, Binding, Derives, Members, Terms, Arguments, Names, Constants, Parameter, Parameters, Declares, Items, ItemLines, Sets, Declaration, Blocks, IsFile}
 use Rattle.pri_typing.specs.Phrase.{Phrase, phrase, phrase_of, phrases_of, addends_of, and_addend}
 use Rattle.pri_typing.specs.Typing.{parts_in, all_parts, addend_parts, distinct_from, part_names}
-use Rattle.texts.specs.Texts.{is_among, with_text}
+use Rattle.base_texts.specs.Texts.{is_among, with_text}
 use Rattle.pri_typing.specs.Files.{problem_of}
 use Rattle.pri_typing.proofs.Folds.{phrase-form, addend-term, phrase-Number, phrase-Truth, phrase-Use, phrase-Group, phrase-If, phrase-Abs, phrase-Min, phrase-Max, phrase-Minus, phrase-Product, phrase-Sum, phrase-Compare, phrase-Not, phrase-Quantified, phrase-Part, phrase-And, phrase-Or, phrase-Implies, phrase-Iff}
 

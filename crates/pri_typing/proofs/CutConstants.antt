@@ -12,7 +12,7 @@ use Rattle.pri_typing.specs.Phrase.{first_token}
 use Rattle.pri_typing.specs.Scope.{declarations, existentials}
 use Rattle.pri_typing.specs.Faults.{faults}
 use Rattle.pri_typing.specs.Typing.{distinct_from, part_names}
-use Rattle.texts.specs.Texts.{misses}
+use Rattle.base_texts.specs.Texts.{misses}
 use Rattle.pri_typing.specs.Parts.{name_faults, names_of, cut_faults, block_faults, is_cut, cuts_in}
 use Rattle.pri_typing.specs.Files.{declaration_faults, problem_of, scope_of, parts_faults, file_faults, has_existential, IsTyped}
 use Rattle.pri_typing.proofs.WellFormed.{nil_split}

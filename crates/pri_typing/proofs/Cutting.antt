@@ -10,7 +10,7 @@ use Rattle.pri_reader.specs.declared.tree.Block.{Block}
 use Rattle.pri_typing.specs.declared.problem.TypeRefusal.{TypeRefusal}
 use Rattle.pri_typing.specs.declared.problem.TypeRefusal.TheVariants.{Parts}
 use Rattle.pri_typing.specs.Phrase.{Phrase, phrase, phrases, phrases_of}
-use Rattle.texts.specs.Texts.{is_among, with_text, misses}
+use Rattle.base_texts.specs.Texts.{is_among, with_text, misses}
 use Rattle.pri_typing.specs.Faults.{least, earlier}
 use Rattle.pri_typing.specs.Typing.{distinct_from}
 use Rattle.pri_typing.specs.Parts.{Component, components, all_components, component_faults, formula_faults, parts_at, name_faults, own_name_faults, names_of, block_faults, cut_faults}

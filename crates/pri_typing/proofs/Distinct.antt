@@ -1,7 +1,7 @@
 -- Texts that are listed once each, and their places.
 use Rattle.std.proofs.Common.{◌≡◌, ℕ, zero, suc, ◌+◌, ◌<◌, Bool, true, false, ◌||◌, ◌&&◌, not, List, [], ◌∷◌, ◌++◌, map, length, get_or, nat_eq, refl, sym, ap, ◌∙◌, arith, if◌then◌else◌, Contains}
 use Rattle.pri_reader.specs.declared.tree.Name.{Name}
-use Rattle.texts.specs.Texts.{is_text, is_among, with_text, place}
+use Rattle.base_texts.specs.Texts.{is_text, is_among, with_text, place}
 use Rattle.pri_typing.specs.Typing.{distinct_from}
 use Rattle.pri_typing.proofs.WellFormed.{AreAmong}
 

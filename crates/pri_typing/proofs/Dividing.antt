@@ -3,12 +3,12 @@ use Rattle.std.proofs.Common.{◌≡◌, ℕ, ◌+◌, Bool, true, false, List, 
 use Rattle.std.proofs.lemmas.Grind.{flat_map-append}
 use Rattle.std.proofs.lemmas.List.{map-append}
 use Rattle.pri_reader.specs.declared.tree.Name.{Name}
-use Rattle.typed_formula.specs.Formula as logic
-use Rattle.typed_formula.specs.Formula.{Formula, Expression, Expressions}
+use Rattle.form_typed.specs.Formula as logic
+use Rattle.form_typed.specs.Formula.{Formula, Expression, Expressions}
 use Rattle.pri_typing.specs.declared.scope.Referent.{Referent}
 use Rattle.pri_typing.specs.declared.scope.Referent.TheVariants as referent
 use Rattle.pri_typing.specs.Phrase.{Phrase, number, truth, used, group, choice, absolute, lesser, greater, minus, product, sum, compared, negation, quantified, part, conjunction, disjunction, implication, equivalence, Phrases, no_phrase, and_phrase, Addends, no_addend, and_addend}
-use Rattle.texts.specs.Texts.{place}
+use Rattle.base_texts.specs.Texts.{place}
 use Rattle.pri_typing.specs.Scope.{Scope, inside, refers}
 use Rattle.pri_typing.specs.Sorts.{sorts_of}
 use Rattle.pri_typing.specs.Typing.{says, value, members, terms, signed_terms, use_says, use_value, parts_in, all_parts, addend_parts}

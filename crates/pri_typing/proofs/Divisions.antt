@@ -10,7 +10,7 @@ use Rattle.pri_reader.specs.declared.tree.Block.{Block}
 use Rattle.pri_reader.specs.declared.tree.Block.TheVariants as block
 use Rattle.pri_reader.specs.Grammar.{Setting, Names, names_first, names_next, Sets, sets_first, sets_next, Declaration, block_constants, block_items, block_problem, block_interpolant, Blocks, blocks_none, blocks_next}
 use Rattle.pri_typing.specs.declared.problem.TypeRefusal.TheVariants.{Parts}
-use Rattle.texts.specs.Texts.{is_among, with_text, place, misses}
+use Rattle.base_texts.specs.Texts.{is_among, with_text, place, misses}
 use Rattle.pri_typing.specs.Typing.{distinct_from}
 use Rattle.pri_typing.specs.Parts.{own_name_faults, name_faults, names_of, cut_faults, block_faults, cut_of, cuts_in, is_cut}
 use Rattle.pri_typing.specs.Limits.{AreSets, HasSets}

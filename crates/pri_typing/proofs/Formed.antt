@@ -4,19 +4,19 @@ use Rattle.std.specs.List.{AllByRecursion, list_any, IsDistinct}
 use Rattle.std.proofs.lemmas.List.Elements.{All-nil, All-cons}
 use Rattle.pri_reader.specs.declared.tree.Block.{Block}
 use Rattle.pri_reader.specs.declared.tree.File.{File}
-use Rattle.typed_formula.specs.Formula.{formula}
+use Rattle.form_typed.specs.Formula.{formula}
 use Rattle.pri_typing.specs.declared.problem.Problem.{Problem}
 use Rattle.pri_typing.specs.declared.declaration.Declaration.{Declaration}
 use Rattle.pri_typing.specs.declared.scope.Category.TheVariants as category
 use Rattle.pri_typing.specs.Phrase.{Phrase, first_token}
-use Rattle.texts.specs.Texts.{is_text}
+use Rattle.base_texts.specs.Texts.{is_text}
 use Rattle.pri_typing.specs.Scope.{declarations, functions, predicates, constants}
 use Rattle.pri_typing.specs.Faults.{faults}
 use Rattle.pri_typing.specs.Typing.{says, parts_in, part_names}
 use Rattle.pri_typing.specs.Parts.{formula_faults, block_faults, is_cut, cuts_in}
 use Rattle.pri_typing.specs.Files.{declaration_faults, problem_of, scope_of, parts_faults, file_faults, has_existential, IsTyped}
 use Rattle.pri_typing.specs.Ranges.{IsRanged}
-use Rattle.typed_formula.specs.Sorts.{IsSortRanged}
+use Rattle.form_typed.specs.Sorts.{IsSortRanged}
 use Rattle.pri_typing.specs.Sorts.{existential_sorts, universal_sorts}
 use Rattle.pri_typing.proofs.Sorting.{existential_count, universal_count}
 use Rattle.pri_typing.specs.Everywhere.{Property, Everywhere}

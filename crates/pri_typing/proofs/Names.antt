@@ -8,9 +8,9 @@ use Rattle.pri_typing.specs.declared.problem.Symbol.{Symbol}
 use Rattle.pri_typing.specs.declared.declaration.Kind.{Kind}
 use Rattle.pri_typing.specs.declared.declaration.Kind.TheVariants.{Existential, Universal, Function, Predicate}
 use Rattle.pri_typing.specs.declared.declaration.Declaration.{Declaration}
-use Rattle.texts.specs.Texts.{is_text, is_among}
+use Rattle.base_texts.specs.Texts.{is_text, is_among}
 use Rattle.pri_typing.specs.Scope.{existentials, universals, functions, predicates}
-use Rattle.limits.specs.Limits.{most_symbols}
+use Rattle.base_limits.specs.Limits.{most_symbols}
 use Rattle.pri_typing.specs.Files.{declaration_faults, own_faults}
 use Rattle.pri_typing.specs.WellFormed.{names_of_symbols}
 use Rattle.pri_typing.proofs.WellFormed.{nil_cons, nil_split}

@@ -10,7 +10,7 @@ use Rattle.pri_typing.specs.declared.problem.Symbol.{Symbol}
 use Rattle.pri_typing.specs.declared.symbols.Entry.{Entry}
 use Rattle.pri_typing.specs.declared.scope.Referent.{Referent}
 use Rattle.pri_typing.specs.declared.scope.Referent.TheVariants as referent
-use Rattle.texts.specs.Texts.{is_text}
+use Rattle.base_texts.specs.Texts.{is_text}
 use Rattle.pri_typing.specs.Scope.{Scope, existentials, universals, functions, predicates, existential_text, universal_text, function_symbol, predicate_symbol, rank, entry, declared_from, constants, symbol_of, bound_or_declared, refers, depth_of}
 use Rattle.pri_typing.specs.WellFormed.{HasArity}
 use Rattle.pri_typing.proofs.Scopes.{depth_of-within}

@@ -9,13 +9,13 @@ use Rattle.pri_typing.specs.declared.problem.TypeRefusal.TheVariants.{Many, Rede
 use Rattle.pri_typing.specs.declared.scope.Site.{Site}
 use Rattle.pri_typing.specs.declared.scope.Category.TheVariants.{Formula}
 use Rattle.pri_typing.specs.Phrase.{Phrase, first_token}
-use Rattle.texts.specs.Texts.{is_among}
+use Rattle.base_texts.specs.Texts.{is_among}
 use Rattle.pri_typing.specs.Scope.{declarations, existentials, universals, functions, predicates}
 use Rattle.pri_typing.specs.Sites.{bound_texts, scope_at}
 use Rattle.pri_typing.specs.Faults.{least, earlier, faults}
 use Rattle.pri_typing.specs.Typing.{says, applications, first_of, part_names}
 use Rattle.pri_typing.specs.Parts.{is_cut, formula_faults, block_faults, cuts_in}
-use Rattle.limits.specs.Limits.{most_symbols}
+use Rattle.base_limits.specs.Limits.{most_symbols}
 use Rattle.pri_typing.specs.Files.{own_faults, declaration_faults, has_existential, parts_faults, problem_of, scope_of, file_faults, IsTyped}
 use Rattle.pri_typing.specs.Limits.{IsResolvable, IsReady, IsShallow}
 use Rattle.pri_typing.specs.Posed.{IsPosed}

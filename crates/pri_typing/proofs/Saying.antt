@@ -5,13 +5,13 @@ use Rattle.pri_reader.specs.declared.tree.Declared.{Declared}
 use Rattle.pri_reader.specs.declared.tree.Expr.{Expr}
 use Rattle.pri_reader.specs.declared.tree.File.{File}
 use Rattle.pri_reader.specs.Grammar.{Derives, whole}
-use Rattle.typed_formula.specs.Formula as logic
+use Rattle.form_typed.specs.Formula as logic
 use Rattle.pri_typing.specs.declared.problem.Problem.{Problem}
 use Rattle.pri_typing.specs.declared.scope.Category.{Category}
 use Rattle.pri_typing.specs.declared.scope.Category.TheVariants as category
 use Rattle.pri_typing.specs.declared.scope.Referent.TheVariants as referent
 use Rattle.pri_typing.specs.Phrase.{Phrase, phrase, number, truth, used, group, choice, absolute, lesser, greater, minus, product, sum, compared, negation, quantified, part, conjunction, disjunction, implication, equivalence, Phrases, no_phrase, and_phrase, Addends, no_addend, and_addend, first_token, count}
-use Rattle.texts.specs.Texts.{place}
+use Rattle.base_texts.specs.Texts.{place}
 use Rattle.pri_typing.specs.Scope.{Scope, inside, bind, refers, constants, declarations, depth_of, declared_from, bound_or_declared}
 use Rattle.pri_typing.specs.Sorts.{sorts_of}
 use Rattle.pri_typing.specs.Faults.{faults, all_faults, addend_faults, use_faults, needs, product_faults}

@@ -2,7 +2,7 @@
 use Rattle.std.proofs.Common.{◌≡◌, ℕ, suc, ◌+◌, Bool, true, false, ◌||◌, List, [], ◌∷◌, ◌++◌, length, Option, Some, None, refl, ap, ◌∙◌, arith, is_some, if◌then◌else◌, ◌<◌, take, get_or, Bor}
 use Rattle.std.proofs.lemmas.List.{take_more, length-take-le}
 use Rattle.pri_reader.specs.declared.tree.Declared.{Declared}
-use Rattle.texts.specs.Texts.{is_text}
+use Rattle.base_texts.specs.Texts.{is_text}
 use Rattle.pri_typing.specs.Scope.{bind, depth_of}
 use Rattle.pri_typing.specs.Sites.{last_or, last_place, bound_texts}
 use Rattle.pri_typing.specs.declared.scope.BoundNames.{BoundNames}

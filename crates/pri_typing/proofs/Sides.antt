@@ -4,9 +4,9 @@ use Rattle.std.specs.List.{AllByRecursion, concat, filter, list_any}
 use Rattle.std.specs.Bool.{beq}
 use Rattle.std.proofs.lemmas.Bool.{eq-eqb}
 use Rattle.std.proofs.lemmas.List.Elements.{All-from_recursion, recursion_from_All, All-contains, Contains-append_cases}
-use Rattle.typed_formula.specs.Formula.{Formula, Formulas, formula, constant, compares, applies, negation, every, some, implies, iff, for_all, for_some, part, no_formula, and_formula}
-use Rattle.typed_formula.specs.Sorts.{AreValuesOf}
-use Rattle.typed_formula.specs.Truth.{Meaning, Truth}
+use Rattle.form_typed.specs.Formula.{Formula, Formulas, formula, constant, compares, applies, negation, every, some, implies, iff, for_all, for_some, part, no_formula, and_formula}
+use Rattle.form_typed.specs.Sorts.{AreValuesOf}
+use Rattle.form_typed.specs.Truth.{Meaning, Truth}
 use Rattle.pri_typing.specs.declared.problem.Problem.{Problem}
 use Rattle.pri_typing.specs.declared.problem.Cut.{Cut}
 use Rattle.pri_typing.specs.Everywhere.{Property, Everywhere, AllEverywhere}

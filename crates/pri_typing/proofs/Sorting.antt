@@ -14,10 +14,10 @@ use Rattle.pri_reader.specs.declared.tree.Block.TheVariants as block
 use Rattle.pri_reader.specs.declared.tree.File.{File}
 use Rattle.pri_reader.specs.Grammar as grammar
 use Rattle.pri_reader.specs.Grammar.{Setting, all_of_type, Constants, Declaration, Blocks, IsFile}
-use Rattle.typed_formula.specs.declared.typed.Sort.{Sort}
+use Rattle.form_typed.specs.declared.typed.Sort.{Sort}
 use Rattle.pri_typing.specs.declared.declaration.Kind.TheVariants.{Existential, Universal, Predicate}
 use Rattle.pri_typing.specs.Scope.{declaration, declared_by, declarations, existentials, universals, existential_text, universal_text, function_kind}
-use Rattle.typed_formula.specs.Sorts.{IsSortRanged}
+use Rattle.form_typed.specs.Sorts.{IsSortRanged}
 use Rattle.pri_typing.specs.Sorts.{sort_of, sorts_of, function_sort, existential_sorts, universal_sorts}
 use Rattle.pri_typing.proofs.Identified.{join}
 use Rattle.pri_typing.proofs.Ranged.{IsSmall, AreNamesRanged, type_ranged}

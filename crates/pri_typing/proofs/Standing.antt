@@ -11,7 +11,7 @@ use Rattle.pri_typing.specs.declared.declaration.Kind.TheVariants.{Existential, 
 use Rattle.pri_typing.specs.declared.declaration.Declaration.{Declaration}
 use Rattle.pri_typing.specs.declared.symbols.Entry.{Entry}
 use Rattle.pri_typing.specs.declared.scope.Referent.TheVariants as referent
-use Rattle.texts.specs.Texts.{is_text, is_among}
+use Rattle.base_texts.specs.Texts.{is_text, is_among}
 use Rattle.pri_typing.specs.Scope.{existentials, universals, functions, predicates, existential_text, universal_text, function_symbol, predicate_symbol, entry, declared_from, symbol_of, bound_or_declared, refers, declarations, constants}
 use Rattle.pri_typing.specs.Symbols.{first_entry}
 use Rattle.pri_typing.specs.Files.{IsTyped, declaration_faults, scope_of}

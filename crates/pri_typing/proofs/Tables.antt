@@ -11,7 +11,7 @@ use Rattle.pri_typing.specs.declared.declaration.Kind.TheVariants.{Existential, 
 use Rattle.pri_typing.specs.declared.declaration.Declaration.{Declaration}
 use Rattle.pri_typing.specs.declared.symbols.Entry.{Entry}
 use Rattle.pri_typing.specs.declared.symbols.Lists.{Lists}
-use Rattle.texts.specs.Texts.{is_text, is_among}
+use Rattle.base_texts.specs.Texts.{is_text, is_among}
 use Rattle.pri_typing.specs.Scope.{rank, declaration, existentials, universals, existential_text, universal_text, function_symbol, predicate_symbol, declared_from, entry}
 use Rattle.pri_typing.specs.Symbols.{listed, IsListed, IsKept, Extends, entry_at, first_entry}
 use Rattle.pri_typing.specs.Files.{declaration_faults, own_faults}

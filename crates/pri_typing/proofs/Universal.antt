@@ -1,6 +1,6 @@
 -- In a pure formula no quantifier stands over an application.
 use Rattle.std.proofs.Common.{ℕ, suc, inr}
-use Rattle.typed_formula.specs.Formula.{Formula, Formulas, Expression, Expressions, formula, constant, compares, applies, negation, every, some, implies, iff, for_all, for_some, part, no_formula, and_formula, number, name, call, minus, total, product, choice, absolute, lesser, greater, no_expression, and_expression}
+use Rattle.form_typed.specs.Formula.{Formula, Formulas, Expression, Expressions, formula, constant, compares, applies, negation, every, some, implies, iff, for_all, for_some, part, no_formula, and_formula, number, name, call, minus, total, product, choice, absolute, lesser, greater, no_expression, and_expression}
 use Rattle.pri_typing.specs.declared.problem.Problem.{Problem}
 use Rattle.pri_typing.specs.Everywhere.{Everywhere, AllEverywhere, TermEverywhere, TermsEverywhere}
 use Rattle.pri_typing.specs.Problems.{IsNoPredicate, IsNoCall, IsPure, Sign, plus, both, turned, IsUniversalAt, AreUniversalAt, IsTermUniversal, AreTermsUniversal, IsUniversal}

@@ -5,7 +5,7 @@ use Rattle.std.proofs.lemmas.List.{length-map}
 use Rattle.std.proofs.lemmas.List.Elements.{recursion_from_All}
 use Rattle.pri_reader.specs.declared.tree.Name.{Name}
 use Rattle.pri_reader.specs.declared.tree.Declared.{Declared}
-use Rattle.typed_formula.specs.Formula.{Formula, Expression}
+use Rattle.form_typed.specs.Formula.{Formula, Expression}
 use Rattle.pri_typing.specs.declared.problem.TypeRefusal.TheVariants.{Arity, NonLinear}
 use Rattle.pri_typing.specs.declared.scope.Category.{Category}
 use Rattle.pri_typing.specs.declared.scope.Category.TheVariants as category
@@ -13,12 +13,12 @@ use Rattle.pri_typing.specs.declared.declaration.Declaration.{Declaration}
 use Rattle.pri_typing.specs.declared.scope.Referent.{Referent}
 use Rattle.pri_typing.specs.declared.scope.Referent.TheVariants as referent
 use Rattle.pri_typing.specs.Phrase.{Phrase, number, truth, used, group, choice, absolute, lesser, greater, minus, product, sum, compared, negation, quantified, part, conjunction, disjunction, implication, equivalence, Phrases, no_phrase, and_phrase, Addends, no_addend, and_addend, first_token, count}
-use Rattle.texts.specs.Texts.{is_among, is_text, place}
+use Rattle.base_texts.specs.Texts.{is_among, is_text, place}
 use Rattle.pri_typing.specs.Scope.{Scope, inside, refers, functions, predicates, constants}
 use Rattle.pri_typing.specs.Faults.{faults, all_faults, addend_faults, use_faults, is_numeral, are_numerals, product_faults}
 use Rattle.pri_typing.specs.Typing.{says, value, members, terms, signed_terms, use_says, use_value, signed, parts_in, all_parts, addend_parts}
 use Rattle.pri_typing.specs.Ranges.{IsRanged, AreRanged, AreAddedRanged}
-use Rattle.typed_formula.specs.Sorts.{IsSortRanged}
+use Rattle.form_typed.specs.Sorts.{IsSortRanged}
 use Rattle.pri_typing.specs.Sorts.{sort_of, sorts_of}
 use Rattle.pri_typing.specs.Everywhere.{Property, Everywhere, AllEverywhere, TermEverywhere, TermsEverywhere}
 use Rattle.pri_typing.specs.WellFormed.{size, HasArity, is_numeric, are_numeric, IsNumberRanged, IsNameBelow, IsPredicateDeclared, IsFunctionDeclared, HasMember, IsLinear, IsPartBelow, IsBinderRanged}

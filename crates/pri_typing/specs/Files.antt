@@ -1,19 +1,19 @@
 -- The problem that a file poses, and all its faults.
 use Rattle.std.specs.Prelude.{ℕ, ◌≡◌, Bool, true, List, [], ◌∷◌, ◌++◌, length, map, nat_eq, nat_lt, if◌then◌else◌}
 use Rattle.std.specs.List.{flat_map, list_any}
-use Rattle.limits.specs.Limits.{most_symbols}
+use Rattle.base_limits.specs.Limits.{most_symbols}
 use Rattle.pri_reader.specs.declared.tree.Block.{Block}
 use Rattle.pri_reader.specs.declared.tree.Block.TheVariants as block
 use Rattle.pri_reader.specs.declared.tree.File.{File}
-use Rattle.typed_formula.specs.Formula as logic
-use Rattle.typed_formula.specs.declared.typed.Sort.{Sort}
-use Rattle.typed_formula.specs.declared.typed.Sort.TheVariants as sort
+use Rattle.form_typed.specs.Formula as logic
+use Rattle.form_typed.specs.declared.typed.Sort.{Sort}
+use Rattle.form_typed.specs.declared.typed.Sort.TheVariants as sort
 use Rattle.pri_typing.specs.declared.problem.Problem.{Problem}
 use Rattle.pri_typing.specs.declared.problem.TypeRefusal.{TypeRefusal}
 use Rattle.pri_typing.specs.declared.problem.TypeRefusal.TheVariants.{Redeclared, Many}
 use Rattle.pri_typing.specs.Phrase.{Phrase, truth, phrase, first_token}
 use Rattle.pri_typing.specs.declared.declaration.Declaration.{Declaration}
-use Rattle.texts.specs.Texts.{is_among}
+use Rattle.base_texts.specs.Texts.{is_among}
 use Rattle.pri_typing.specs.Scope.{declarations, existentials, universals, functions, predicates, Scope}
 use Rattle.pri_typing.specs.declared.scope.Category.TheVariants.{Formula}
 use Rattle.pri_typing.specs.Faults.{faults}

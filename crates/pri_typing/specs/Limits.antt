@@ -12,7 +12,7 @@ use Rattle.pri_reader.specs.Grammar.{has_problem}
 use Rattle.pri_typing.specs.Files.{problem_of}
 use Rattle.pri_typing.specs.Ranges.{IsRanged}
 use Rattle.pri_typing.specs.Scope.{declarations}
-use Rattle.typed_formula.specs.Sorts.{IsSortRanged}
+use Rattle.form_typed.specs.Sorts.{IsSortRanged}
 use Rattle.pri_typing.specs.Sorts.{existential_sorts, universal_sorts}
 use Rattle.pri_typing.specs.Typing.{part_names}
 use Rattle.pri_typing.specs.Sites.{bound_texts, most_bound, IsFit}

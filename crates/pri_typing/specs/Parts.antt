@@ -9,7 +9,7 @@ use Rattle.pri_typing.specs.declared.problem.Cut.{Cut}
 use Rattle.pri_typing.specs.declared.problem.TypeRefusal.{TypeRefusal}
 use Rattle.pri_typing.specs.declared.problem.TypeRefusal.TheVariants.{Parts}
 use Rattle.pri_typing.specs.Phrase.{Phrase, truth, group, negation, part, conjunction, disjunction, implication, Phrases, no_phrase, and_phrase, first_token}
-use Rattle.texts.specs.Texts.{is_among, place, with_text, misses}
+use Rattle.base_texts.specs.Texts.{is_among, place, with_text, misses}
 use Rattle.pri_typing.specs.Typing.{distinct_from, parts_in}
 
 -- a formula with its sign, true for plus

@@ -2,7 +2,7 @@
 use Rattle.std.specs.Prelude.{◌≡◌, List}
 use Rattle.std.specs.List.{flat_map}
 use Rattle.pri_reader.specs.declared.tree.Block.{Block}
-use Rattle.typed_formula.specs.Formula as logic
+use Rattle.form_typed.specs.Formula as logic
 use Rattle.pri_typing.specs.declared.problem.Problem.{Problem}
 use Rattle.pri_typing.specs.declared.scope.Site.{Site}
 use Rattle.pri_typing.specs.Phrase.{Phrase}

@@ -6,11 +6,11 @@ use Rattle.std.specs.Bool.{beq}
 use Rattle.pri_tokens.specs.Lexemes.{lexemes_of}
 use Rattle.pri_reader.specs.declared.tree.Expr.{Expr}
 use Rattle.pri_reader.specs.Grammar.{Setting, Derives, whole}
-use Rattle.typed_formula.specs.Formula.{Formula, Formulas, Expression, Expressions, formula, formulas, constant, compares, applies, negation, every, some, implies, iff, for_all, for_some, part, no_formula, and_formula, number, name, call, minus, total, product, choice, absolute, lesser, greater, no_expression, and_expression}
-use Rattle.typed_formula.specs.Truth.{Meaning, Truth}
-use Rattle.typed_formula.specs.Sorts.{AreValuesOf}
-use Rattle.typed_formula.specs.Table.{is_true_at_row, value_at_row}
-use Rattle.typed_formula.specs.declared.world.Table.{Table}
+use Rattle.form_typed.specs.Formula.{Formula, Formulas, Expression, Expressions, formula, formulas, constant, compares, applies, negation, every, some, implies, iff, for_all, for_some, part, no_formula, and_formula, number, name, call, minus, total, product, choice, absolute, lesser, greater, no_expression, and_expression}
+use Rattle.form_typed.specs.Truth.{Meaning, Truth}
+use Rattle.form_typed.specs.Sorts.{AreValuesOf}
+use Rattle.form_typed.specs.Table.{is_true_at_row, value_at_row}
+use Rattle.form_typed.specs.declared.world.Table.{Table}
 use Rattle.pri_typing.specs.declared.problem.Problem.{Problem}
 use Rattle.pri_typing.specs.declared.declaration.Kind.{Kind}
 use Rattle.pri_typing.specs.declared.declaration.Kind.TheVariants.{Existential, Universal, Function, Predicate}

@@ -3,8 +3,8 @@ use Rattle.std.specs.Prelude.{ℕ, suc, List, [], ◌∷◌, Option, Some, None,
 use Rattle.pri_reader.specs.declared.tree.Declared.{Declared}
 use Rattle.pri_typing.specs.declared.scope.BoundNames.{BoundNames, Nothing, More'}
 use Rattle.pri_typing.specs.declared.scope.Site.{Site}
-use Rattle.limits.specs.Limits.{most_symbols}
-use Rattle.texts.specs.Texts.{is_text}
+use Rattle.base_limits.specs.Limits.{most_symbols}
+use Rattle.base_texts.specs.Texts.{is_text}
 use Rattle.pri_typing.specs.Scope.{Scope, bind}
 
 -- the most names that are bound at one site

@@ -8,7 +8,7 @@ use Rattle.pri_typing.specs.declared.declaration.Declaration.{Declaration}
 use Rattle.pri_typing.specs.declared.symbols.Entry.{Entry}
 use Rattle.pri_typing.specs.declared.symbols.Lists.{Lists}
 use Rattle.pri_typing.specs.declared.symbols.Builder.{Builder}
-use Rattle.texts.specs.Texts.{is_text}
+use Rattle.base_texts.specs.Texts.{is_text}
 use Rattle.pri_typing.specs.Scope.{existentials, universals, functions, predicates, declared_from}
 use Rattle.pri_typing.specs.Faults.{least}
 use Rattle.pri_typing.specs.Files.{declaration_faults}

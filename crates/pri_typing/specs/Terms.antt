@@ -2,8 +2,8 @@
 use Rattle.std.specs.Prelude.{ℕ, ◌≡◌, List, [], map, Option, Some, None}
 use Rattle.pri_reader.specs.declared.tree.Declared.{Declared}
 use Rattle.pri_reader.specs.declared.tree.TypeName.TheVariants as type
-use Rattle.typed_formula.specs.declared.typed.TypedTerm.{TypedTerm}
-use Rattle.typed_formula.specs.Formula.{Expression, expression}
+use Rattle.form_typed.specs.declared.typed.TypedTerm.{TypedTerm}
+use Rattle.form_typed.specs.Formula.{Expression, expression}
 use Rattle.pri_typing.specs.declared.declaration.Kind.TheVariants.{Existential}
 use Rattle.pri_typing.specs.declared.scope.Category.TheVariants as category
 use Rattle.pri_typing.specs.Phrase.{Phrase, first_token}

@@ -3,15 +3,15 @@ use Rattle.std.specs.Prelude.{ℕ, pos, Bool, true, false, List, [], ◌∷◌, 
 use Rattle.pri_reader.specs.declared.tree.Name.{Name}
 use Rattle.pri_reader.specs.declared.tree.Comparison.{Comparison}
 use Rattle.pri_reader.specs.declared.tree.Comparison.TheVariants as comparison
-use Rattle.typed_formula.specs.Formula.{Formula, Formulas, Expression, Expressions, no_formula, and_formula, no_expression, and_expression}
-use Rattle.typed_formula.specs.Formula as logic
-use Rattle.typed_formula.specs.declared.typed.Relation.{Relation}
-use Rattle.typed_formula.specs.declared.typed.Relation.TheVariants as relation
-use Rattle.typed_formula.specs.declared.typed.Sort.{Sort}
+use Rattle.form_typed.specs.Formula.{Formula, Formulas, Expression, Expressions, no_formula, and_formula, no_expression, and_expression}
+use Rattle.form_typed.specs.Formula as logic
+use Rattle.form_typed.specs.declared.typed.Relation.{Relation}
+use Rattle.form_typed.specs.declared.typed.Relation.TheVariants as relation
+use Rattle.form_typed.specs.declared.typed.Sort.{Sort}
 use Rattle.pri_typing.specs.declared.scope.Referent.{Referent}
 use Rattle.pri_typing.specs.declared.scope.Referent.TheVariants as referent
 use Rattle.pri_typing.specs.Phrase.{Phrase, number, truth, used, group, choice, absolute, lesser, greater, minus, product, sum, compared, negation, quantified, part, conjunction, disjunction, implication, equivalence, Phrases, no_phrase, and_phrase, Addends, no_addend, and_addend}
-use Rattle.texts.specs.Texts.{with_text, place}
+use Rattle.base_texts.specs.Texts.{with_text, place}
 use Rattle.pri_typing.specs.Scope.{Scope, inside, refers}
 use Rattle.pri_typing.specs.Sorts.{sorts_of}
 

@@ -3,15 +3,15 @@ use Rattle.std.specs.Prelude.{ℕ, suc, ◌+◌, ◌<◌, ◌≤◌, ◌≡◌, 
 use Rattle.std.specs.List.{All, Contains, IsDistinct, flat_map, concat}
 use Rattle.linear_term.specs.Range.{InRange}
 use Rattle.pri_tokens.specs.Written.{IsIdentifier}
-use Rattle.typed_formula.specs.Formula.{Formula, Formulas, Expression, Expressions, formula, constant, applies, negation, every, some, implies, for_all, for_some, part, no_formula, and_formula, number, name, call, minus, total, product, no_expression, and_expression}
-use Rattle.typed_formula.specs.Sorts.{IsSortRanged}
-use Rattle.typed_formula.specs.declared.typed.Sort.{Sort}
+use Rattle.form_typed.specs.Formula.{Formula, Formulas, Expression, Expressions, formula, constant, applies, negation, every, some, implies, for_all, for_some, part, no_formula, and_formula, number, name, call, minus, total, product, no_expression, and_expression}
+use Rattle.form_typed.specs.Sorts.{IsSortRanged}
+use Rattle.form_typed.specs.declared.typed.Sort.{Sort}
 use Rattle.pri_typing.specs.declared.problem.Problem.{Problem}
 use Rattle.pri_typing.specs.declared.problem.Symbol.{Symbol}
 use Rattle.pri_typing.specs.declared.problem.Cut.{Cut}
 use Rattle.pri_typing.specs.Everywhere.{Property, Everywhere}
-use Rattle.limits.specs.Limits.{most_symbols}
-use Rattle.texts.specs.Texts.{is_text}
+use Rattle.base_limits.specs.Limits.{most_symbols}
+use Rattle.base_texts.specs.Texts.{is_text}
 
 -- Numbers, names, applications, sums, products and parts.
 

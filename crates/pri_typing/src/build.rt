@@ -1,22 +1,22 @@
 // The formula or the term that an expression says, with every name resolved to its number.
 
 ghost use Rattle.std.specs.Prelude.{◌≡◌, List, ℕ, IfOk, ◌∷◌, []};
-ghost use Rattle.typed_formula.specs.Formula.{and_expression, compares, expression, expressions_of, formula, formulas_of};
+ghost use Rattle.form_typed.specs.Formula.{and_expression, compares, expression, expressions_of, formula, formulas_of};
 ghost use Rattle.pri_typing.specs.Sites.{IsFit, scope_at};
 ghost use Rattle.pri_typing.specs.Limits.{AddendsAreReady, AreReady, IsReady, IsReadyUnder};
 ghost use Rattle.pri_typing.specs.Phrase.{addends_of, phrase, phrases_of};
-ghost use Rattle.texts.specs.Texts.{place};
+ghost use Rattle.base_texts.specs.Texts.{place};
 ghost use Rattle.pri_typing.specs.Scope.{inside, refers};
 ghost use Rattle.pri_typing.specs.Sorts.{sorts_of};
 ghost use Rattle.pri_typing.specs.Typing.{members, quantifiers, relation_of, says, signed, signed_terms, terms, use_says, use_value, value};
 
 use crate::scope::{BoundNames, Referent, Site, refer};
 use crate::sorts::sort_of;
+use form_typed::{Relation, Sort, Typed, TypedTerm};
 use linear_term::Memory;
 use pri_reader::{Added, Comparison, Declared, Expr, Form, Name};
 use sqlite_items::{Boxed, Items};
 use std::alloc::Global;
-use typed_formula::{Relation, Sort, Typed, TypedTerm};
 
 fn relation(comparison: Comparison) -> Relation
     ensures { result ≡ relation_of comparison }

@@ -4,11 +4,11 @@ ghost use Rattle.std.specs.Prelude.{◌≡◌, ◌++◌, ◌∷◌, [], OnOk, If
 ghost use Rattle.pri_typing.specs.Phrase.{addends_of, phrase, phrases_of};
 ghost use Rattle.pri_typing.specs.Typing.{addend_parts, all_parts, distinct_from, part_names, parts_in};
 
+use base_texts::Texts;
 use linear_term::Memory;
 use pri_reader::{Added, Expr, Form, Name};
 use sqlite_items::Items;
 use std::alloc::Global;
-use texts::Texts;
 
 /// A part that begins at this offset, put behind others.
 fn push_part(alloc: Global, out: &mut Items<Name>, at: u64, name: &Name) -> Result<(), Memory>

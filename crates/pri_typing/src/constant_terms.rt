@@ -1,6 +1,6 @@
 // The term that an expression is where some constants alone are declared.
 
-ghost use Rattle.limits.specs.Limits.{most_constants};
+ghost use Rattle.base_limits.specs.Limits.{most_constants};
 ghost use Rattle.pri_typing.specs.Limits.{IsShallow};
 ghost use Rattle.pri_typing.specs.Phrase.{phrase};
 ghost use Rattle.pri_typing.specs.Problems.{unplaced};
@@ -13,12 +13,12 @@ use crate::build::build_term;
 use crate::faults::fault;
 use crate::scope::{BoundNames, Category, Site};
 use crate::symbols::Symbols;
+use base_texts::Texts;
+use form_typed::TypedTerm;
 use linear_term::Memory;
 use pri_reader::{Block, Declared, Expr, Name, TypeName};
 use sqlite_items::Items;
 use std::alloc::Global;
-use texts::Texts;
-use typed_formula::TypedTerm;
 
 /// These names, as a block declares them.
 fn declare(alloc: Global, constants: &[Items<u8>]) -> Result<Items<Declared>, Memory>

@@ -3,14 +3,14 @@
 ghost use Rattle.std.specs.Prelude.{◌≡◌, ◌<◌, ◌^◌, IfOk, OnOk, length, map, ◌++◌};
 ghost use Rattle.std.specs.List.{flat_map};
 ghost use Rattle.pri_typing.specs.Parts.{cut_of, cuts_in};
-ghost use Rattle.texts.specs.Texts.{place};
+ghost use Rattle.base_texts.specs.Texts.{place};
 
 use crate::problem::Cut;
+use base_texts::Texts;
 use linear_term::Memory;
 use pri_reader::{Block, Name, NameSet};
 use sqlite_items::Items;
 use std::alloc::Global;
-use texts::Texts;
 
 /// The numbers of the parts of these names.
 fn numbers(alloc: Global, parts: &Texts, names: &[Name]) -> Result<Items<u32>, Memory>

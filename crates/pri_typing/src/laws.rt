@@ -2,9 +2,9 @@
 // function with nothing to do.
 
 ghost use Rattle.std.specs.Prelude.{◌≡◌, ◌↔◌, ◌<◌, ◌≤◌, ◌^◌, ℕ, ℤ, Bool, true, false, nat_lt, length, map, List, [], ◌∷◌, ◌++◌, Some, None, All, Contains};
-ghost use Rattle.typed_formula.specs.Formula.{Formula, every, formula, formulas};
-ghost use Rattle.typed_formula.specs.Sorts.{AreValuesOf};
-ghost use Rattle.typed_formula.specs.Truth.{Meaning, Truth};
+ghost use Rattle.form_typed.specs.Formula.{Formula, every, formula, formulas};
+ghost use Rattle.form_typed.specs.Sorts.{AreValuesOf};
+ghost use Rattle.form_typed.specs.Truth.{Meaning, Truth};
 ghost use Rattle.pri_reader.specs.declared.tree.File.{File};
 ghost use Rattle.pri_reader.specs.declared.tree.Expr.{Expr};
 ghost use Rattle.pri_reader.specs.Grammar.{Derives, IsFile, Setting, whole};

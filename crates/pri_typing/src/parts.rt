@@ -11,11 +11,11 @@ ghost use Rattle.pri_typing.specs.Typing.{distinct_from, parts_in};
 use crate::collect::collect;
 use crate::problem::TypeRefusal;
 use crate::refusals::earlier_of;
+use base_texts::Texts;
 use linear_term::Memory;
 use pri_reader::{Block, Expr, Form, Name, NameSet};
 use sqlite_items::Items;
 use std::alloc::Global;
-use texts::Texts;
 
 /// The least of the places of parts.
 #[tactic(auto, using(crate::proofs::Cutting::cutting))]

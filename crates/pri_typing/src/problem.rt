@@ -2,9 +2,9 @@
 
 ghost use Rattle.std.specs.Prelude.{◌≡◌};
 
+use form_typed::{Sort, Typed};
 use linear_term::Memory;
 use sqlite_items::Items;
-use typed_formula::{Sort, Typed};
 
 /// A problem. In `formula` the name of a constant is its place among the existential constants and, behind them, the
 /// universal ones; a bound variable is the name after those of the formula around it.

@@ -23,10 +23,10 @@ use crate::refusals::earlier_of;
 use crate::scope::{BoundNames, Category, Site};
 use crate::sorts::{existential_types, universal_types};
 use crate::symbols::Symbols;
+use base_texts::Texts;
 use linear_term::Memory;
 use pri_reader::{Block, Expr, File};
 use std::alloc::Global;
-use texts::Texts;
 
 /// The formula of the `\problem` block.
 fn find_problem(blocks: &[Block]) -> &Expr

@@ -10,8 +10,8 @@ ghost use Rattle.pri_typing.specs.declared.declaration.Declaration.{Declaration}
 
 use crate::declaration::Kind;
 use crate::symbols::Symbols;
+use base_texts::Texts;
 use pri_reader::Declared;
-use texts::Texts;
 
 /// What an expression is: a formula, or a term.
 #[derive(Clone, Copy)]

@@ -4,11 +4,11 @@ ghost use Rattle.std.specs.Prelude.{◌≡◌, IfOk, OnOk, ◌++◌, ◌∷◌, 
 ghost use Rattle.std.specs.List.{flat_map, filter_map};
 ghost use Rattle.pri_typing.specs.Sorts.{existential_sorts, function_sort, sort_of, sorts_of, universal_sorts};
 
+use form_typed::Sort;
 use linear_term::Memory;
 use pri_reader::{Block, Declared, Item, TypeName};
 use sqlite_items::Items;
 use std::alloc::Global;
-use typed_formula::Sort;
 
 /// The type that is written so.
 pub fn sort_of(name: TypeName) -> Sort

@@ -3,21 +3,21 @@
 ghost use Rattle.std.specs.Prelude.{◌≡◌, List, ℕ, IfOk, OnOk, IfErr, ◌++◌, ◌∷◌, [], map, length, Some, None, is_some, if◌then◌else◌, ◌≤◌};
 ghost use Rattle.indexmap.specs.IndexMap.{insert_entry};
 ghost use Rattle.pri_typing.specs.declared.declaration.Declaration.{Declaration};
-ghost use Rattle.texts.specs.Texts.{is_text};
+ghost use Rattle.base_texts.specs.Texts.{is_text};
 ghost use Rattle.pri_typing.specs.Scope.{declaration, declared_by, declarations, existentials, universals, functions, predicates, entry, rank};
 ghost use Rattle.pri_typing.specs.Symbols.{entry_at, first_entry, listed, IsListed, IsKept, Extends};
 ghost use Rattle.pri_typing.specs.Scope.{constants, declared_from, function_kind, symbol_of};
 ghost use Rattle.std.specs.Option.{IfSome};
 ghost use Rattle.pri_typing.specs.Faults.{least};
-ghost use Rattle.limits.specs.Limits.{most_symbols};
+ghost use Rattle.base_limits.specs.Limits.{most_symbols};
 ghost use Rattle.pri_typing.specs.Files.{declaration_faults, has_existential, own_faults};
 
 use crate::declaration::{Declaration, Kind};
 use crate::problem::{Symbol, TypeRefusal};
 use crate::refusals::earlier_of;
 use crate::scope::Referent;
+use base_limits::MOST_SYMBOLS;
 use indexmap::IndexMap;
-use limits::MOST_SYMBOLS;
 use linear_term::Memory;
 use pri_reader::{Block, Declared, Item, Name};
 use sqlite_items::Items;

@@ -2,14 +2,14 @@
 // ends the program.
 #![tactic(auto)]
 
-use answers::status::NO_MEMORY;
+use base_answers::status::NO_MEMORY;
+use form_typed::Table;
 use prover_io::{FileSource, OutSink};
 use prover_job::run;
 use std::alloc::AllocError;
 use std::env;
 use std::io::ErrorKind;
 use std::process::ExitCode;
-use typed_formula::Table;
 
 /// The status where the words cannot be read from the system; the top call never answers it.
 const NO_WORDS: u8 = 10;

@@ -1,7 +1,7 @@
 // Large valid problems, made from a number: what `drill` proves.
 #![tactic(auto)]
 
-ghost use Rattle.limits.specs.Limits.{most_count};
+ghost use Rattle.base_limits.specs.Limits.{most_count};
 ghost use Rattle.problem_gen.specs.Drills.{conjunct_text, drill_text};
 ghost use Rattle.std.specs.Fmt.{decimal};
 ghost use Rattle.std.specs.Prelude.{◌≡◌, ◌++◌, ◌<◌, ◌≤◌, ◌^◌, length, IfOk, OnOk};

@@ -4,3 +4,5 @@ pub mod Places
 pub mod Parts
 pub mod Own
 pub mod OneRefusal
+pub mod Growth
+pub mod Whole

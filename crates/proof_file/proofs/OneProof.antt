@@ -1,7 +1,7 @@
 -- Bytes hold at most one proof, and where they do they are not refused: the lines of a proof say which one it is.
 use Rattle.std.proofs.Common.{ℕ, ◌+◌, ◌≡◌, Bool, true, false, cond, List, [], ◌∷◌, ◌++◌, refl, sym, ap, subst, ◌∙◌, append_assoc, append-nil, arith}
-use Rattle.purse.specs.declared.log.Entry.{Entry}
-use Rattle.purse.specs.declared.log.ElimLog.{ElimLog}
+use Rattle.base_budget.specs.declared.log.Entry.{Entry}
+use Rattle.base_budget.specs.declared.log.ElimLog.{ElimLog}
 use Rattle.clause_set.specs.declared.literal.Literal.{Literal}
 use Rattle.proof_tree.specs.declared.node.Conclusion.{Conclusion}
 use Rattle.proof_tree.specs.Proof.{Proof, Proofs, node, no_proof, and_proof}
@@ -9,12 +9,12 @@ use Rattle.proof_tree.specs.Walk.{width, eliminates}
 use Rattle.proof_tokens.specs.declared.tokens.Token.{Token}
 use Rattle.proof_tokens.specs.Reading.{Cuts, IsApart}
 use Rattle.proof_tokens.proofs.Apart.{one, not_refused}
-use Rattle.proof_line.specs.declared.lines.TextLine.{TextLine}
-use Rattle.proof_line.specs.declared.lines.TextLine.TheVariants as w
-use Rattle.proof_line.specs.declared.text.Fault.{Fault}
-use Rattle.proof_line.specs.declared.text.Fault.TheVariants as f
-use Rattle.proof_line.specs.Lines.{tokens_of, last_lines, lines, lines_all, proof_lines}
-use Rattle.proof_line.specs.Owed.{OwesNothing, start, Any, Shallow}
+use Rattle.proof_grammar.specs.declared.lines.TextLine.{TextLine}
+use Rattle.proof_grammar.specs.declared.lines.TextLine.TheVariants as w
+use Rattle.proof_grammar.specs.declared.text.Fault.{Fault}
+use Rattle.proof_grammar.specs.declared.text.Fault.TheVariants as f
+use Rattle.proof_grammar.specs.Lines.{tokens_of, last_lines, lines, lines_all, proof_lines}
+use Rattle.proof_grammar.specs.Owed.{OwesNothing, start, Any, Shallow}
 use Rattle.proof_grammar.specs.Expansion.{expansion}
 use Rattle.proof_grammar.specs.Shaped.{IsShapedNode, AreShapedNodes, IsTextOfProof}
 use Rattle.proof_grammar.specs.Refusals.{IsRefusedText, RefusesText}

@@ -1,10 +1,10 @@
 -- Bytes, and files, have one refusal at most.
 use Rattle.std.proofs.Common.{ℕ, ◌+◌, ◌≡◌, ◌≢◌, List, length, refl, sym, ap, ◌∙◌, arith}
 use Rattle.proof_tokens.proofs.Apart.{first_same}
-use Rattle.proof_line.specs.Lines.{tokens_of}
-use Rattle.proof_line.specs.Owed.{OwesNothing, start, Any}
-use Rattle.proof_line.specs.declared.text.Fault.{Fault}
-use Rattle.proof_line.specs.declared.text.Fault.TheVariants as f
+use Rattle.proof_grammar.specs.Lines.{tokens_of}
+use Rattle.proof_grammar.specs.Owed.{OwesNothing, start, Any}
+use Rattle.proof_grammar.specs.declared.text.Fault.{Fault}
+use Rattle.proof_grammar.specs.declared.text.Fault.TheVariants as f
 use Rattle.proof_grammar.specs.Refusals.{RefusesText}
 use Rattle.proof_grammar.proofs.Deep.{one_deep}
 use Rattle.proof_file.specs.Body.{body}

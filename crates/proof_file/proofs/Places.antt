@@ -2,8 +2,8 @@
 use Rattle.std.proofs.Common.{ℕ, ◌-◌, ◌≡◌, ◌≤◌, List, [], ◌∷◌, length, ap, subst, arith}
 use Rattle.proof_tokens.specs.declared.tokens.Token.{Token}
 use Rattle.proof_tokens.specs.Reading.{Cuts}
-use Rattle.proof_line.specs.declared.text.Fault.{Fault}
-use Rattle.proof_line.specs.declared.text.Fault.TheVariants as f
+use Rattle.proof_grammar.specs.declared.text.Fault.{Fault}
+use Rattle.proof_grammar.specs.declared.text.Fault.TheVariants as f
 use Rattle.proof_grammar.specs.Refusals.{RefusesText}
 use Rattle.proof_grammar.proofs.Shorter.{cut_shorter}
 use Rattle.proof_file.specs.declared.refusal.ProofRefusal.TheVariants as r

@@ -1,29 +1,29 @@
 -- Lines that come one after another.
 use Rattle.std.proofs.Common.{ℕ, ◌≡◌, ◌<◌, List, [], ◌∷◌, ◌++◌, length, refl, sym, ap, subst, ◌∙◌, arith, append-nil, Option, inl, inr}
-use Rattle.purse.specs.declared.log.ElimLog.{ElimLog}
+use Rattle.base_budget.specs.declared.log.ElimLog.{ElimLog}
 use Rattle.proof_tree.specs.declared.node.Conclusion.{Conclusion}
 use Rattle.proof_tree.specs.Proof.{Proof}
 use Rattle.proof_tokens.specs.declared.tokens.Token.{Token}
 use Rattle.proof_tokens.specs.Reading.{Cuts}
 use Rattle.proof_tokens.proofs.Apart.{Meets, meets, one, not_refused}
-use Rattle.proof_line.specs.declared.lines.TextLine.{TextLine}
-use Rattle.proof_line.specs.declared.lines.TextLine.TheVariants as w
-use Rattle.proof_line.specs.declared.lines.Owed.{Owed}
-use Rattle.proof_line.specs.declared.lines.Owed.TheVariants as o
-use Rattle.proof_line.specs.declared.text.Fault.TheVariants as f
-use Rattle.proof_line.specs.Faults.{IsTooDeep, RefusesLine}
-use Rattle.proof_line.specs.Lines.{line_text, tokens_of, lines, proof_lines}
-use Rattle.proof_line.specs.Owed.{Pays, owes, LeadsOwed, OwesNothing, Any, Shallow, start, tree_owed}
+use Rattle.proof_grammar.specs.declared.lines.TextLine.{TextLine}
+use Rattle.proof_grammar.specs.declared.lines.TextLine.TheVariants as w
+use Rattle.proof_grammar.specs.declared.lines.Owed.{Owed}
+use Rattle.proof_grammar.specs.declared.lines.Owed.TheVariants as o
+use Rattle.proof_grammar.specs.declared.text.Fault.TheVariants as f
+use Rattle.proof_grammar.specs.Faults.{IsTooDeep, RefusesLine}
+use Rattle.proof_grammar.specs.Lines.{line_text, tokens_of, lines, proof_lines}
+use Rattle.proof_grammar.specs.Owed.{Pays, owes, LeadsOwed, OwesNothing, Any, Shallow, start, tree_owed}
 use Rattle.proof_grammar.specs.declared.walk.Walk.{Walk}
 use Rattle.proof_grammar.specs.Expansion.{expanded, expansion}
 use Rattle.proof_grammar.specs.Shaped.{IsTextOfProof}
 use Rattle.proof_grammar.specs.Stands.{IsOpened}
 use Rattle.proof_grammar.specs.Walks.{owed_of, IsInner}
 use Rattle.proof_grammar.specs.Refusals.{HoldsSome}
-use Rattle.line_source.specs.declared.Line.{Line}
-use Rattle.line_source.specs.Told.{TellsLine}
+use Rattle.proof_file.specs.declared.source.Line.{Line}
+use Rattle.proof_file.specs.Told.{TellsLine}
 use Rattle.proof_file.specs.Coming.{Coming, HasNone, HoldsAll, IsFull, ended, meant}
-use Rattle.proof_line.proofs.LinesApart.{line_apart}
+use Rattle.proof_grammar.proofs.LinesApart.{line_apart}
 use Rattle.proof_grammar.proofs.Leading.{pays_any, leads_any, same_lines}
 use Rattle.proof_grammar.proofs.Expanding.{expanded_append}
 use Rattle.proof_grammar.proofs.Inner.{inner_line}

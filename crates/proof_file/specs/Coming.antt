@@ -1,17 +1,17 @@
 -- The lines of a text that are still to come.
 use Rattle.std.specs.Prelude.{ℕ, ◌≡◌, ◌<◌, Bool, true, false, List, [], ◌∷◌, ◌++◌, length, get_or, Option, Some, None}
-use Rattle.purse.specs.declared.log.ElimLog.{ElimLog}
+use Rattle.base_budget.specs.declared.log.ElimLog.{ElimLog}
 use Rattle.proof_tree.specs.declared.node.Conclusion.{Conclusion}
 use Rattle.proof_tree.specs.declared.node.Conclusion.TheVariants.{Nothing}
 use Rattle.proof_tree.specs.Proof.{Proof}
 use Rattle.proof_tokens.specs.Reading.{Cuts}
-use Rattle.line_source.specs.declared.Line.{Line}
-use Rattle.line_source.specs.declared.Line.TheVariants as k
-use Rattle.proof_line.specs.declared.lines.TextLine.{TextLine}
-use Rattle.proof_line.specs.declared.lines.TextLine.TheVariants as w
-use Rattle.proof_line.specs.declared.lines.Owed.{Owed}
-use Rattle.proof_line.specs.Lines.{line_text, tokens_of, lines}
-use Rattle.proof_line.specs.Owed.{OwesNothing, Pays, Shallow}
+use Rattle.proof_file.specs.declared.source.Line.{Line}
+use Rattle.proof_file.specs.declared.source.Line.TheVariants as k
+use Rattle.proof_grammar.specs.declared.lines.TextLine.{TextLine}
+use Rattle.proof_grammar.specs.declared.lines.TextLine.TheVariants as w
+use Rattle.proof_grammar.specs.declared.lines.Owed.{Owed}
+use Rattle.proof_grammar.specs.Lines.{line_text, tokens_of, lines}
+use Rattle.proof_grammar.specs.Owed.{OwesNothing, Pays, Shallow}
 use Rattle.proof_grammar.specs.declared.walk.Walk.{Walk}
 use Rattle.proof_grammar.specs.Expansion.{expanded, part_at}
 use Rattle.proof_grammar.specs.Shaped.{IsTextOfProof}

@@ -1,6 +1,6 @@
 -- Where a file holds no proof.
 use Rattle.std.specs.Prelude.{ℕ, ◌+◌, ◌≡◌, List, length}
-use Rattle.proof_line.specs.declared.text.Fault.TheVariants as f
+use Rattle.proof_grammar.specs.declared.text.Fault.TheVariants as f
 use Rattle.proof_grammar.specs.Refusals.{RefusesText}
 use Rattle.proof_file.specs.declared.refusal.ProofRefusal.{ProofRefusal}
 use Rattle.proof_file.specs.declared.refusal.ProofRefusal.TheVariants as r

@@ -9,8 +9,8 @@ ghost use Rattle.proof_file.specs.Refused.{RefusesProofFile};
 ghost use Rattle.proof_file.specs.declared.refusal.ProofRefusal.{ProofRefusal};
 ghost use Rattle.proof_file.specs.declared.refusal.ProofRefusal.TheVariants as r;
 ghost use Rattle.std.specs.Prelude.{◌≡◌, ◌≢◌, List, ℕ};
-ghost use Rattle.proof_line.specs.declared.text.Fault.{Fault};
-ghost use Rattle.proof_line.specs.declared.text.Fault.TheVariants as f;
+ghost use Rattle.proof_grammar.specs.declared.text.Fault.{Fault};
+ghost use Rattle.proof_grammar.specs.declared.text.Fault.TheVariants as f;
 ghost use Rattle.proof_grammar.specs.Refusals.{RefusesText};
 ghost use Rattle.proof_grammar.specs.Shaped.{IsTextOfProof};
 

@@ -6,7 +6,7 @@ ghost use Rattle.std.specs.Prelude.{◌≤◌, length};
 ghost use Rattle.proof_grammar.specs.Refusals.{RefusesText};
 
 use linear_term::Memory;
-use proof_line::Fault;
+use proof_grammar::Fault;
 
 /// Why a file holds no proof. The number is the place of the refusal in the file.
 #[derive(Clone, Copy)]

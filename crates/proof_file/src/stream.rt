@@ -5,18 +5,17 @@ ghost use Rattle.proof_file.specs.Coming.{HasNone, HoldsAll};
 ghost use Rattle.proof_file.specs.Refused.{RefusesProofFile};
 ghost use Rattle.proof_tokens.specs.Reading.{Cuts};
 ghost use Rattle.std.specs.Prelude.{◌≡◌, IfErr, IfOk, MatchOption};
-ghost use Rattle.proof_line.specs.Lines.{line_text};
-ghost use Rattle.proof_line.specs.Owed.{Pays, Shallow};
+ghost use Rattle.proof_grammar.specs.Lines.{line_text};
+ghost use Rattle.proof_grammar.specs.Owed.{Pays, Shallow};
 ghost use Rattle.proof_grammar.specs.Refusals.{RefusesText};
 
 use crate::file::body;
 use crate::refusal::{ProofRefusal, in_file};
-use line_source::{Line, ProofLines};
+use crate::source::{Line, ProofLines};
+use base_budget::ElimLog;
 use linear_term::Memory;
-use proof_grammar::{Walk, check_text};
-use proof_line::{Fault, Owed, TextLine, line_for};
+use proof_grammar::{Fault, Owed, TextLine, Walk, check_text, line_for};
 use proof_tree::Conclusion;
-use purse::ElimLog;
 use sqlite_items::Items;
 use std::alloc::Global;
 
@@ -49,7 +48,7 @@ fn owed_line(alloc: Global, owed: Owed, text: &[u8]) -> Result<Option<(TextLine,
 
 impl<'a> Lines<'a> {
     ghost use Rattle.proof_file.specs.Coming.{ended, is_told, IsFull, KeepsEnd, log_said, meant};
-    ghost use Rattle.line_source.specs.Told.{KeepsLog, TellsLine};
+    ghost use Rattle.proof_file.specs.Told.{KeepsLog, TellsLine};
     ghost use Rattle.std.specs.Prelude.{is_some};
 
     /// Reads the whole text of a proof once, and keeps no tree of it.
@@ -139,9 +138,9 @@ impl<'a> Lines<'a> {
 
 impl<'a> ProofLines for Lines<'a> {
     ghost use Rattle.proof_file.specs.Coming.{Coming, KeepsEnd, log_said};
-    ghost use Rattle.line_source.specs.Told.{KeepsLog, TellsLine};
+    ghost use Rattle.proof_file.specs.Told.{KeepsLog, TellsLine};
     ghost use Rattle.std.specs.Prelude.{◌≡◌, ◌∷◌, [], IfErr, IfOk, List, None};
-    ghost use Rattle.proof_line.specs.declared.lines.TextLine.{TextLine};
+    ghost use Rattle.proof_grammar.specs.declared.lines.TextLine.{TextLine};
 
     ghost coming = { λ s ls. Coming s.parts s.walk s.rest.now ls };
 

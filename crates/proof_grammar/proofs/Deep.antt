@@ -3,17 +3,17 @@ use Rattle.std.proofs.Common.{ℕ, ◌≡◌, ◌≤◌, ◌<◌, List, [], ◌�
 use Rattle.proof_tokens.specs.declared.tokens.Token.{Token}
 use Rattle.proof_tokens.specs.Reading.{Cuts, IsRefusedAt}
 use Rattle.proof_tokens.proofs.Apart.{one, not_refused}
-use Rattle.proof_line.specs.declared.lines.TextLine.{TextLine}
-use Rattle.proof_line.specs.declared.lines.TextLine.TheVariants as w
-use Rattle.proof_line.specs.declared.lines.Owed.{Owed}
-use Rattle.proof_line.specs.declared.lines.Owed.TheVariants as o
-use Rattle.proof_line.specs.declared.text.Fault.{Fault}
-use Rattle.proof_line.specs.declared.text.Fault.TheVariants as f
-use Rattle.proof_line.specs.Faults.{BeginsNode, HasNoDeepNode, IsTooDeep, RefusesLine}
-use Rattle.proof_line.specs.Lines.{line_text, tokens_of}
-use Rattle.proof_line.specs.Owed.{Pays, owes, LeadsOwed, OwesNothing, start, Any, Shallow}
+use Rattle.proof_grammar.specs.declared.lines.TextLine.{TextLine}
+use Rattle.proof_grammar.specs.declared.lines.TextLine.TheVariants as w
+use Rattle.proof_grammar.specs.declared.lines.Owed.{Owed}
+use Rattle.proof_grammar.specs.declared.lines.Owed.TheVariants as o
+use Rattle.proof_grammar.specs.declared.text.Fault.{Fault}
+use Rattle.proof_grammar.specs.declared.text.Fault.TheVariants as f
+use Rattle.proof_grammar.specs.Faults.{BeginsNode, HasNoDeepNode, IsTooDeep, RefusesLine}
+use Rattle.proof_grammar.specs.Lines.{line_text, tokens_of}
+use Rattle.proof_grammar.specs.Owed.{Pays, owes, LeadsOwed, OwesNothing, start, Any, Shallow}
 use Rattle.proof_grammar.specs.Refusals.{IsDeepAt, RefusesText}
-use Rattle.proof_line.proofs.LinesApart.{line_apart}
+use Rattle.proof_grammar.proofs.LinesApart.{line_apart}
 use Rattle.proof_grammar.proofs.Leading.{pays_any, leads_any, text_refused}
 
 -- tokens in two parts

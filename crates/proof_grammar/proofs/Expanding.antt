@@ -1,16 +1,16 @@
 -- The expansion of lines, one behind another, and that of whole texts.
 use Rattle.std.proofs.Common.{ℕ, zero, suc, ◌≡◌, ◌+◌, ◌==◌, Bool, true, false, cond, List, [], ◌∷◌, ◌++◌, map, refl, sym, ap, subst, ◌∙◌, append_assoc, append-nil, arith}
-use Rattle.purse.specs.declared.log.ElimLog.{ElimLog}
+use Rattle.base_budget.specs.declared.log.ElimLog.{ElimLog}
 use Rattle.sequent.specs.declared.member.Pick.{Pick}
 use Rattle.proof_tree.specs.declared.node.Conclusion.TheVariants.{Nothing}
 use Rattle.proof_tree.specs.Proof.{Proof, Proofs, node, no_proof, and_proof}
 use Rattle.proof_tree.specs.Walk.{eliminates}
-use Rattle.proof_line.specs.declared.lines.TextLine.{TextLine}
-use Rattle.proof_line.specs.declared.lines.TextLine.TheVariants as w
-use Rattle.proof_line.specs.declared.lines.Owed.{Owed}
-use Rattle.proof_line.specs.declared.lines.Owed.TheVariants as o
-use Rattle.proof_line.specs.Lines.{last_lines, lines, lines_all}
-use Rattle.proof_line.specs.Owed.{Pays, OwesNothing, nodes_owed, last_owed, parts_owed, tree_owed, owes, start, Shallow}
+use Rattle.proof_grammar.specs.declared.lines.TextLine.{TextLine}
+use Rattle.proof_grammar.specs.declared.lines.TextLine.TheVariants as w
+use Rattle.proof_grammar.specs.declared.lines.Owed.{Owed}
+use Rattle.proof_grammar.specs.declared.lines.Owed.TheVariants as o
+use Rattle.proof_grammar.specs.Lines.{last_lines, lines, lines_all}
+use Rattle.proof_grammar.specs.Owed.{Pays, OwesNothing, nodes_owed, last_owed, parts_owed, tree_owed, owes, start, Shallow}
 use Rattle.proof_grammar.specs.Expansion.{expanded, expansion, part_at, parts_behind}
 use Rattle.proof_grammar.specs.Walks.{IsInner}
 

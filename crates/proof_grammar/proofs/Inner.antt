@@ -1,15 +1,15 @@
 -- Behind the opening of a text no line of the opening is owed.
 use Rattle.std.proofs.Common.{ℕ, zero, suc, ◌≡◌, List, [], ◌∷◌, ◌++◌, refl, sym, ap, subst, ◌∙◌, ◌⊎◌, inl, inr}
-use Rattle.purse.specs.declared.log.ElimLog.{ElimLog}
-use Rattle.proof_line.specs.declared.lines.TextLine.{TextLine}
-use Rattle.proof_line.specs.declared.lines.TextLine.TheVariants as w
-use Rattle.proof_line.specs.declared.lines.Owed.{Owed}
-use Rattle.proof_line.specs.declared.lines.Owed.TheVariants as o
+use Rattle.base_budget.specs.declared.log.ElimLog.{ElimLog}
+use Rattle.proof_grammar.specs.declared.lines.TextLine.{TextLine}
+use Rattle.proof_grammar.specs.declared.lines.TextLine.TheVariants as w
+use Rattle.proof_grammar.specs.declared.lines.Owed.{Owed}
+use Rattle.proof_grammar.specs.declared.lines.Owed.TheVariants as o
 use Rattle.proof_grammar.specs.declared.walk.Open.{Open}
 use Rattle.proof_grammar.specs.declared.walk.Place.{Place}
 use Rattle.proof_grammar.specs.declared.walk.Place.TheVariants as at
 use Rattle.proof_grammar.specs.declared.walk.Walk.{Walk}
-use Rattle.proof_line.specs.Owed.{Pays, Shallow}
+use Rattle.proof_grammar.specs.Owed.{Pays, Shallow}
 use Rattle.proof_grammar.specs.Walks.{IsInner, open_owed, opens_owed, owed_at, owed_of}
 use Rattle.proof_grammar.proofs.Walking.{Closing, with_log, without, closing, node_first, none_left}
 

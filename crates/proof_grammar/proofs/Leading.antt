@@ -1,19 +1,19 @@
 -- Lines that lead from what is owed to what is still owed, and the first refusal of a text of lines.
 use Rattle.std.proofs.Common.{ℕ, ◌≡◌, List, [], ◌∷◌, ◌++◌, refl, sym, ap, subst, ◌∙◌, append_assoc, append-nil, arith}
-use Rattle.purse.specs.declared.log.Entry.TheVariants as step
+use Rattle.base_budget.specs.declared.log.Entry.TheVariants as step
 use Rattle.sequent.specs.declared.member.Pick.TheVariants as pick
 use Rattle.proof_tree.specs.declared.node.Conclusion.TheVariants.{Solution, Nothing}
 use Rattle.proof_tokens.specs.declared.tokens.Token.{Token}
 use Rattle.proof_tokens.specs.Reading.{Cuts, IsFirstProofRefusal, IsRefusedAt}
 use Rattle.proof_tokens.proofs.Cutting.{cut_append}
 use Rattle.proof_tokens.proofs.Behind.{front_same, no_text, no_end}
-use Rattle.proof_line.specs.declared.lines.TextLine.{TextLine}
-use Rattle.proof_line.specs.declared.lines.TextLine.TheVariants as w
-use Rattle.proof_line.specs.declared.lines.Owed.{Owed}
-use Rattle.proof_line.specs.declared.lines.Owed.TheVariants as o
-use Rattle.proof_line.specs.Lines.{line_text, tokens_of}
-use Rattle.proof_line.specs.Owed.{Pays, tree_owed, owes, LeadsOwed, OwesNothing, Any, Shallow}
-use Rattle.proof_line.proofs.LinesApart.{line_apart}
+use Rattle.proof_grammar.specs.declared.lines.TextLine.{TextLine}
+use Rattle.proof_grammar.specs.declared.lines.TextLine.TheVariants as w
+use Rattle.proof_grammar.specs.declared.lines.Owed.{Owed}
+use Rattle.proof_grammar.specs.declared.lines.Owed.TheVariants as o
+use Rattle.proof_grammar.specs.Lines.{line_text, tokens_of}
+use Rattle.proof_grammar.specs.Owed.{Pays, tree_owed, owes, LeadsOwed, OwesNothing, Any, Shallow}
+use Rattle.proof_grammar.proofs.LinesApart.{line_apart}
 
 pub tokens_append : (ls ms : List TextLine) → tokens_of (ls ++ ms) ≡ tokens_of ls ++ tokens_of ms
 tokens_append [] ms = refl

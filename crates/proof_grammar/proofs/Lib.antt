@@ -1,3 +1,7 @@
+pub mod RowLines
+pub mod LineKinds
+pub mod LinesApart
+pub mod Failing
 pub mod Leading
 pub mod Trees
 pub mod Walking

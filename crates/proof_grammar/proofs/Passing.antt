@@ -4,14 +4,14 @@ use Rattle.std.specs.Prelude.{codes}
 use Rattle.proof_tokens.specs.Lines.{log_text}
 use Rattle.proof_tokens.specs.Reading.{Cuts}
 use Rattle.proof_tokens.proofs.Respelled.{cut_back}
-use Rattle.given_line.specs.Text.{gives_text}
-use Rattle.limits.specs.Limits.{branch_limit}
+use Rattle.proof_constraint.specs.Text.{gives_text}
+use Rattle.base_limits.specs.Limits.{branch_limit}
 use Rattle.sequent.specs.declared.member.Pick.{Pick}
-use Rattle.proof_line.specs.Owed.{last_owed, nodes_owed}
-use Rattle.proof_line.specs.Rows.{IsRow, row_line}
-use Rattle.proof_line.specs.declared.lines.Owed.{Owed}
-use Rattle.proof_line.specs.declared.lines.Owed.TheVariants as o
-use Rattle.proof_line.specs.declared.lines.TextLine.TheVariants as w
+use Rattle.proof_grammar.specs.Owed.{last_owed, nodes_owed}
+use Rattle.proof_grammar.specs.Rows.{IsRow, row_line}
+use Rattle.proof_grammar.specs.declared.lines.Owed.{Owed}
+use Rattle.proof_grammar.specs.declared.lines.Owed.TheVariants as o
+use Rattle.proof_grammar.specs.declared.lines.TextLine.TheVariants as w
 use Rattle.proof_grammar.specs.declared.walk.Walk.{Walk}
 use Rattle.proof_grammar.specs.Walks.{Advanced, owed_of}
 

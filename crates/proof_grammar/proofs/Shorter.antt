@@ -2,7 +2,7 @@
 use Rattle.std.proofs.Common.{ℕ, ◌≡◌, ◌≤◌, ◌<◌, ◌+◌, ◌==◌, ◌&&◌, true, List, [], ◌∷◌, length, take, drop, Some, refl, ap, subst, arith, length-drop}
 use Rattle.std.specs.Prelude.{cond, slice_index}
 use Rattle.std.specs.List.{prefix_len}
-use Rattle.numerals.proofs.Tests.{if_begins}
+use Rattle.base_numerals.proofs.Tests.{if_begins}
 use Rattle.sequent.specs.declared.member.Pick.TheVariants as pick
 use Rattle.proof_tree.specs.declared.node.Conclusion.TheVariants.{Solution, Nothing}
 use Rattle.proof_tokens.specs.declared.tokens.Token.{Token}
@@ -11,9 +11,9 @@ use Rattle.proof_tokens.specs.declared.scanner.Piece.{Piece}
 use Rattle.proof_tokens.specs.Scanning.{is_word_byte, joins, word_len, piece_of, first_piece_of}
 use Rattle.proof_tokens.specs.Reading.{Cuts}
 use Rattle.proof_tokens.proofs.Cutting.{some_same}
-use Rattle.proof_line.specs.declared.lines.TextLine.{TextLine}
-use Rattle.proof_line.specs.declared.lines.TextLine.TheVariants as w
-use Rattle.proof_line.specs.Lines.{line_text}
+use Rattle.proof_grammar.specs.declared.lines.TextLine.{TextLine}
+use Rattle.proof_grammar.specs.declared.lines.TextLine.TheVariants as w
+use Rattle.proof_grammar.specs.Lines.{line_text}
 
 abbrev len_of : Piece → ℕ
 len_of p = p.len

@@ -1,27 +1,27 @@
 -- A reader of lines goes on from line to line.
 use Rattle.std.proofs.Common.{ℕ, zero, suc, ◌≡◌, ◌≤◌, ◌<◌, ◌+◌, List, [], ◌∷◌, ◌++◌, length, refl, sym, ap, subst, ◌∙◌, append-nil, arith, length-append, Result, Ok, Err}
 use Rattle.std.specs.Prelude.{OnOk, IfErr}
-use Rattle.purse.specs.declared.log.ElimLog.{ElimLog}
+use Rattle.base_budget.specs.declared.log.ElimLog.{ElimLog}
 use Rattle.proof_tree.specs.declared.node.Conclusion.{Conclusion}
 use Rattle.proof_tree.specs.Proof.{Proof}
 use Rattle.proof_tokens.specs.declared.reading.Refusal.{Refusal}
 use Rattle.proof_tokens.specs.Lines.{head_text, parts_text, part_text, charges_text, IsCharges, IsFormat, IsPart, IsPosition}
 use Rattle.proof_tokens.specs.Reading.{Cuts, RefusesProof}
-use Rattle.proof_line.specs.declared.lines.TextLine.{TextLine}
-use Rattle.proof_line.specs.declared.lines.TextLine.TheVariants as w
-use Rattle.proof_line.specs.declared.lines.Owed.{Owed}
-use Rattle.proof_line.specs.declared.lines.Owed.TheVariants as o
-use Rattle.proof_line.specs.declared.text.Fault.{Fault}
-use Rattle.proof_line.specs.declared.text.Fault.TheVariants as f
-use Rattle.proof_line.specs.Faults.{fault_of, RefusesLine}
-use Rattle.proof_line.specs.Lines.{line_text, tokens_of, proof_lines}
-use Rattle.proof_line.specs.Owed.{Pays, owes, LeadsOwed, OwesNothing, opening_owed, parts_owed, start, Shallow}
+use Rattle.proof_grammar.specs.declared.lines.TextLine.{TextLine}
+use Rattle.proof_grammar.specs.declared.lines.TextLine.TheVariants as w
+use Rattle.proof_grammar.specs.declared.lines.Owed.{Owed}
+use Rattle.proof_grammar.specs.declared.lines.Owed.TheVariants as o
+use Rattle.proof_grammar.specs.declared.text.Fault.{Fault}
+use Rattle.proof_grammar.specs.declared.text.Fault.TheVariants as f
+use Rattle.proof_grammar.specs.Faults.{fault_of, RefusesLine}
+use Rattle.proof_grammar.specs.Lines.{line_text, tokens_of, proof_lines}
+use Rattle.proof_grammar.specs.Owed.{Pays, owes, LeadsOwed, OwesNothing, opening_owed, parts_owed, start, Shallow}
 use Rattle.proof_grammar.specs.Expansion.{expanded, expansion, parts_behind}
 use Rattle.proof_grammar.specs.Shaped.{IsWritable}
 use Rattle.proof_grammar.specs.Stands.{StandsBefore, IsOpened}
 use Rattle.proof_grammar.specs.Refusals.{RefusesText, HoldsSome}
 use Rattle.proof_grammar.specs.Walks.{IsInner}
-use Rattle.proof_line.proofs.LineKinds.{head_owed, parts_owed as parts_refused, part_owed as part_refused, charges_owed, line_refused}
+use Rattle.proof_grammar.proofs.LineKinds.{head_owed, parts_owed as parts_refused, part_owed as part_refused, charges_owed, line_refused}
 use Rattle.proof_grammar.proofs.Leading.{leads_more, cut_more, leads_any, token_behind}
 use Rattle.proof_grammar.proofs.Expanding.{expanded_append, parts_append, inner_parts, whole_expanded}
 use Rattle.proof_grammar.proofs.Trees.{Said, proof_said}
@@ -121,7 +121,7 @@ no_charges ps m bytes inner refusal s r = line_fails ps (w.Head 1 ∷ []) (o.Cha
 
 pub opened : (ps : List ElimLog) (n : ℕ) (bytes inner rest : List ℕ) → IsCharges n → Cuts (charges_text n) inner rest → StandsBefore ps (w.Head 1 ∷ []) (o.Charges (length ps) ∷ []) bytes inner → IsOpened ps n bytes rest
 opened ps n bytes inner rest i c s =
-    stands_more ps ps (w.Head 1 ∷ []) (w.Head 1 ∷ w.Charges n ∷ []) (o.Charges (length ps)) (o.Charges (length ps) ∷ []) [] (Rattle.proof_line.specs.Owed.tree_owed (length ps)) (w.Charges n) bytes inner rest refl refl refl refl i c s
+    stands_more ps ps (w.Head 1 ∷ []) (w.Head 1 ∷ w.Charges n ∷ []) (o.Charges (length ps)) (o.Charges (length ps) ∷ []) [] (Rattle.proof_grammar.specs.Owed.tree_owed (length ps)) (w.Charges n) bytes inner rest refl refl refl refl i c s
 
 -- Behind the opening.
 
@@ -130,7 +130,7 @@ pub record Inside (ps : List ElimLog) (n : ℕ) (os : List Owed) (bytes rest : L
   pub more : List TextLine
   pub stands : StandsBefore ps (w.Head 1 ∷ w.Charges n ∷ more) os bytes rest
 
-pub inside : (ps : List ElimLog) (n : ℕ) (os : List Owed) (bytes rest : List ℕ) → os ≡ Rattle.proof_line.specs.Owed.tree_owed (length ps) → IsOpened ps n bytes rest → Inside ps n os bytes rest
+pub inside : (ps : List ElimLog) (n : ℕ) (os : List Owed) (bytes rest : List ℕ) → os ≡ Rattle.proof_grammar.specs.Owed.tree_owed (length ps) → IsOpened ps n bytes rest → Inside ps n os bytes rest
 inside ps n os bytes rest e s = record { more = []; stands = subst (λ z. StandsBefore ps (w.Head 1 ∷ w.Charges n ∷ []) z bytes rest) (sym e) s }
 
 pub inside_more : (ps : List ElimLog) (n : ℕ) (x : Owed) (os ws us : List Owed) (l : TextLine) (bytes inner rest : List ℕ) → os ≡ x ∷ ws → us ≡ owes x l ++ ws → IsInner l → Pays Shallow x l → Cuts (line_text l) inner rest

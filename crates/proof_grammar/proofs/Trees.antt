@@ -1,18 +1,18 @@
 -- The lines of trees are the lines that pay for a node.
 use Rattle.std.proofs.Common.{ℕ, zero, suc, ◌+◌, ◌≡◌, ◌≤◌, Bool, true, false, cond, List, [], ◌∷◌, ◌++◌, length, refl, sym, ap, subst, ◌∙◌, append_assoc, arith, length-append}
-use Rattle.purse.specs.declared.log.Entry.{Entry}
+use Rattle.base_budget.specs.declared.log.Entry.{Entry}
 use Rattle.clause_set.specs.declared.literal.Literal.{Literal}
 use Rattle.proof_tree.specs.declared.node.Conclusion.{Conclusion}
 use Rattle.proof_tree.specs.Proof.{Proof, Proofs, node, no_proof, and_proof}
 use Rattle.proof_tree.specs.Walk.{width, eliminates}
 use Rattle.proof_tokens.specs.Lines.{IsCharges}
-use Rattle.given_line.specs.Text.{AreClauses}
-use Rattle.proof_line.specs.declared.lines.TextLine.{TextLine}
-use Rattle.proof_line.specs.declared.lines.TextLine.TheVariants as w
-use Rattle.proof_line.specs.declared.lines.Owed.{Owed}
-use Rattle.proof_line.specs.declared.lines.Owed.TheVariants as o
-use Rattle.proof_line.specs.Lines.{last_lines, lines, lines_all, proof_lines}
-use Rattle.proof_line.specs.Owed.{HasWidth, IsConclusion, LeadsOwed, OwesNothing, nodes_owed, last_owed, start, Shallow}
+use Rattle.proof_constraint.specs.Text.{AreClauses}
+use Rattle.proof_grammar.specs.declared.lines.TextLine.{TextLine}
+use Rattle.proof_grammar.specs.declared.lines.TextLine.TheVariants as w
+use Rattle.proof_grammar.specs.declared.lines.Owed.{Owed}
+use Rattle.proof_grammar.specs.declared.lines.Owed.TheVariants as o
+use Rattle.proof_grammar.specs.Lines.{last_lines, lines, lines_all, proof_lines}
+use Rattle.proof_grammar.specs.Owed.{HasWidth, IsConclusion, LeadsOwed, OwesNothing, nodes_owed, last_owed, start, Shallow}
 use Rattle.proof_grammar.specs.Shaped.{IsShapedNode, AreShapedNodes, IsWritable}
 use Rattle.proof_grammar.proofs.Leading.{leads_append}
 

@@ -2,13 +2,13 @@
 use Rattle.std.proofs.Common.{ℕ, zero, suc, ◌≡◌, ◌<◌, ◌-◌, Bool, true, false, cond, List, [], ◌∷◌, ◌++◌, refl, sym, ap, ◌∙◌, append_assoc, append-nil, arith}
 use Rattle.sequent.specs.declared.member.Pick.{Pick}
 use Rattle.proof_tree.specs.Walk.{eliminates}
-use Rattle.proof_line.specs.declared.lines.Owed.{Owed}
-use Rattle.proof_line.specs.declared.lines.Owed.TheVariants as o
+use Rattle.proof_grammar.specs.declared.lines.Owed.{Owed}
+use Rattle.proof_grammar.specs.declared.lines.Owed.TheVariants as o
 use Rattle.proof_grammar.specs.declared.walk.Open.{Open}
 use Rattle.proof_grammar.specs.declared.walk.Place.{Place}
 use Rattle.proof_grammar.specs.declared.walk.Place.TheVariants as at
 use Rattle.proof_grammar.specs.declared.walk.Walk.{Walk}
-use Rattle.proof_line.specs.Owed.{nodes_owed}
+use Rattle.proof_grammar.specs.Owed.{nodes_owed}
 use Rattle.proof_grammar.specs.Walks.{closing_owed, open_owed, opens_owed, owed_at, owed_of}
 
 pub opens_more : (parts : ℕ) (fs : List Open) (f : Open) → opens_owed parts (fs ++ f ∷ []) ≡ open_owed parts f ++ opens_owed parts fs

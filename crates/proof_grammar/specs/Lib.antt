@@ -1,3 +1,8 @@
+pub mod Lines
+pub mod Owed
+pub mod Rows
+pub mod Conclusions
+pub mod Faults
 pub mod Expansion
 pub mod Shaped
 pub mod Walks

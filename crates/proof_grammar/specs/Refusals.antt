@@ -1,17 +1,17 @@
 -- Where the text of a proof is refused.
 use Rattle.std.specs.Prelude.{ℕ, ◌≡◌, ◌<◌, List, [], ◌∷◌, length}
-use Rattle.limits.specs.Limits.{branch_limit}
+use Rattle.base_limits.specs.Limits.{branch_limit}
 use Rattle.proof_tree.specs.declared.node.Conclusion.{Conclusion}
 use Rattle.proof_tree.specs.Proof.{Proof}
 use Rattle.proof_tokens.specs.Reading.{Cuts, IsFirstProofRefusal}
-use Rattle.proof_line.specs.declared.lines.TextLine.{TextLine}
-use Rattle.proof_line.specs.declared.lines.Owed.{Owed}
-use Rattle.proof_line.specs.declared.lines.Owed.TheVariants as o
-use Rattle.proof_line.specs.declared.text.Fault.{Fault}
-use Rattle.proof_line.specs.declared.text.Fault.TheVariants as f
-use Rattle.proof_line.specs.Faults.{BeginsNode}
-use Rattle.proof_line.specs.Lines.{tokens_of}
-use Rattle.proof_line.specs.Owed.{LeadsOwed, OwesNothing, start, Any, Shallow}
+use Rattle.proof_grammar.specs.declared.lines.TextLine.{TextLine}
+use Rattle.proof_grammar.specs.declared.lines.Owed.{Owed}
+use Rattle.proof_grammar.specs.declared.lines.Owed.TheVariants as o
+use Rattle.proof_grammar.specs.declared.text.Fault.{Fault}
+use Rattle.proof_grammar.specs.declared.text.Fault.TheVariants as f
+use Rattle.proof_grammar.specs.Faults.{BeginsNode}
+use Rattle.proof_grammar.specs.Lines.{tokens_of}
+use Rattle.proof_grammar.specs.Owed.{LeadsOwed, OwesNothing, start, Any, Shallow}
 use Rattle.proof_grammar.specs.Shaped.{IsTextOfProof}
 
 -- at `back` begins the first node on a level that a text may not have, level 2,001: the lines before it owe it, and their nodes

@@ -5,10 +5,10 @@ use Rattle.proof_tree.specs.Proof.{Proof, Proofs, node, no_proof, and_proof}
 use Rattle.proof_tree.specs.Walk.{width, eliminates}
 use Rattle.proof_tokens.specs.Lines.{IsCharges}
 use Rattle.proof_tokens.specs.Reading.{Cuts}
-use Rattle.given_line.specs.Text.{AreClauses}
-use Rattle.proof_line.specs.declared.lines.TextLine.{TextLine}
-use Rattle.proof_line.specs.Lines.{proof_lines, tokens_of}
-use Rattle.proof_line.specs.Owed.{HasWidth, IsConclusion, OwesNothing, Shallow, start}
+use Rattle.proof_constraint.specs.Text.{AreClauses}
+use Rattle.proof_grammar.specs.declared.lines.TextLine.{TextLine}
+use Rattle.proof_grammar.specs.Lines.{proof_lines, tokens_of}
+use Rattle.proof_grammar.specs.Owed.{HasWidth, IsConclusion, OwesNothing, Shallow, start}
 use Rattle.proof_grammar.specs.Expansion.{expansion}
 
 -- a node on level j: each rule has its premises, those that eliminate nothing have no entries, and divisors are from 2 on

@@ -1,12 +1,12 @@
 -- Where a reader of lines stands in a text.
 use Rattle.std.specs.Prelude.{ℕ, ◌≡◌, List, [], length, ◌∷◌}
-use Rattle.purse.specs.declared.log.ElimLog.{ElimLog}
+use Rattle.base_budget.specs.declared.log.ElimLog.{ElimLog}
 use Rattle.proof_tokens.specs.Reading.{Cuts}
-use Rattle.proof_line.specs.declared.lines.TextLine.{TextLine}
-use Rattle.proof_line.specs.declared.lines.TextLine.TheVariants as w
-use Rattle.proof_line.specs.declared.lines.Owed.{Owed}
-use Rattle.proof_line.specs.Lines.{tokens_of}
-use Rattle.proof_line.specs.Owed.{LeadsOwed, Shallow, start, tree_owed}
+use Rattle.proof_grammar.specs.declared.lines.TextLine.{TextLine}
+use Rattle.proof_grammar.specs.declared.lines.TextLine.TheVariants as w
+use Rattle.proof_grammar.specs.declared.lines.Owed.{Owed}
+use Rattle.proof_grammar.specs.Lines.{tokens_of}
+use Rattle.proof_grammar.specs.Owed.{LeadsOwed, Shallow, start, tree_owed}
 use Rattle.proof_grammar.specs.Expansion.{expansion, parts_behind}
 
 -- the bytes before `rest` are lines that lead from the start of a text to what is owed there; they have these parts, and this

@@ -1,17 +1,17 @@
 -- What a walk through a text still owes.
 use Rattle.std.specs.Prelude.{ℕ, ◌≡◌, Bool, cond, List, [], ◌∷◌, ◌++◌}
 use Rattle.sequent.specs.declared.member.Pick.{Pick}
-use Rattle.proof_line.specs.declared.lines.Owed.{Owed}
-use Rattle.proof_line.specs.declared.lines.Owed.TheVariants as o
-use Rattle.proof_line.specs.declared.lines.TextLine.{TextLine}
-use Rattle.proof_line.specs.declared.lines.TextLine.TheVariants as w
+use Rattle.proof_grammar.specs.declared.lines.Owed.{Owed}
+use Rattle.proof_grammar.specs.declared.lines.Owed.TheVariants as o
+use Rattle.proof_grammar.specs.declared.lines.TextLine.{TextLine}
+use Rattle.proof_grammar.specs.declared.lines.TextLine.TheVariants as w
 use Rattle.proof_grammar.specs.declared.walk.Open.{Open}
 use Rattle.proof_grammar.specs.declared.walk.Place.{Place}
 use Rattle.proof_grammar.specs.declared.walk.Place.TheVariants as at
 use Rattle.proof_grammar.specs.declared.walk.Walk.{Walk}
 use Rattle.proof_tokens.specs.Reading.{Cuts}
-use Rattle.proof_line.specs.Lines.{line_text}
-use Rattle.proof_line.specs.Owed.{nodes_owed, last_owed, owes, Pays, Shallow}
+use Rattle.proof_grammar.specs.Lines.{line_text}
+use Rattle.proof_grammar.specs.Owed.{nodes_owed, last_owed, owes, Pays, Shallow}
 
 -- what a rule owes behind its premises, in a text of m parts
 abbrev pub closing_owed : ℕ → Pick → Bool → List Owed

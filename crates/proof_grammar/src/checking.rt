@@ -3,18 +3,20 @@
 ghost use Rattle.proof_tokens.specs.Lines.{log_text};
 ghost use Rattle.proof_tokens.specs.Reading.{Cuts};
 ghost use Rattle.std.specs.Prelude.{◌≡◌, [], length, IfErr, IfNone, IfOk, IfSome, OnErr, OnOk};
-ghost use Rattle.proof_line.specs.Faults.{RefusesLine};
-ghost use Rattle.proof_line.specs.declared.text.Fault.TheVariants as f;
+ghost use Rattle.proof_grammar.specs.Faults.{RefusesLine};
+ghost use Rattle.proof_grammar.specs.declared.text.Fault.TheVariants as f;
 ghost use Rattle.proof_grammar.specs.Refusals.{HoldsSome, RefusesText};
 ghost use Rattle.proof_grammar.specs.Stands.{IsOpened};
 ghost use Rattle.proof_grammar.specs.Walks.{Advanced};
 
+use crate::lines::{Owed, TextLine};
 use crate::openings::{Opening, read_opening};
+use crate::rows::row;
+use crate::text::{Fault, line_for};
 use crate::walk::Walk;
-use given_line::given_true;
-use limits::BRANCH_LIMIT;
+use base_limits::BRANCH_LIMIT;
 use linear_term::Memory;
-use proof_line::{Fault, Owed, TextLine, line_for, row};
+use proof_constraint::given_true;
 use proof_tokens::{behind_bytes, next};
 use std::alloc::Global;
 

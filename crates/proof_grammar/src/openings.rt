@@ -3,14 +3,14 @@
 ghost use Rattle.proof_tokens.specs.Lines.{head_text, IsCharges, IsFormat};
 ghost use Rattle.proof_tokens.specs.Reading.{Cuts};
 ghost use Rattle.std.specs.Prelude.{◌∷◌, [], length, IfErr, IfOk};
-ghost use Rattle.proof_line.specs.declared.lines.Owed.TheVariants as o;
-ghost use Rattle.proof_line.specs.declared.lines.TextLine.TheVariants as w;
+ghost use Rattle.proof_grammar.specs.declared.lines.Owed.TheVariants as o;
+ghost use Rattle.proof_grammar.specs.declared.lines.TextLine.TheVariants as w;
 ghost use Rattle.proof_grammar.specs.Refusals.{RefusesText};
 ghost use Rattle.proof_grammar.specs.Stands.{IsOpened, StandsBefore};
 
-use proof_line::Fault;
+use crate::text::Fault;
+use base_budget::ElimLog;
 use proof_tokens::{charges, head, part, parts};
-use purse::ElimLog;
 use sqlite_items::Items;
 use std::alloc::Global;
 

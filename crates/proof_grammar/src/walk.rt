@@ -1,15 +1,15 @@
 // What a text of lines still owes: the rules that are open, and where the text stands.
 
-ghost use Rattle.limits.specs.Limits.{branch_limit};
+ghost use Rattle.base_limits.specs.Limits.{branch_limit};
 ghost use Rattle.std.specs.Prelude.{◌≡◌, ◌≤◌, ◌+◌, ◌∷◌, ◌++◌, [], List, ℕ, MatchOption, OnErr, OnOk};
 ghost use Rattle.proof_tree.specs.Walk.{eliminates};
-ghost use Rattle.proof_line.specs.Owed.{last_owed, nodes_owed, owes, Pays, Shallow, tree_owed};
+ghost use Rattle.proof_grammar.specs.Owed.{last_owed, nodes_owed, owes, Pays, Shallow, tree_owed};
 ghost use Rattle.proof_grammar.specs.Walks.{IsInner, open_owed, owed_of};
-ghost use Rattle.proof_line.specs.declared.lines.Owed.{Owed};
-ghost use Rattle.proof_line.specs.declared.lines.Owed.TheVariants as o;
+ghost use Rattle.proof_grammar.specs.declared.lines.Owed.{Owed};
+ghost use Rattle.proof_grammar.specs.declared.lines.Owed.TheVariants as o;
 
+use crate::lines::{Owed, TextLine};
 use linear_term::Memory;
-use proof_line::{Owed, TextLine};
 use sequent::Pick;
 use sqlite_items::Items;
 use std::alloc::Global;

@@ -1,7 +1,7 @@
 -- Lines whose numbers are in their ranges, and how they are spaced.
 use Rattle.std.proofs.Common.{ℕ, ◌<◌, ◌≤◌, ◌+◌, ◌^◌, Bool, true, false, cond, List, [], ◌∷◌, ◌++◌, refl, arith}
 use Rattle.std.specs.List.{AllByRecursion}
-use Rattle.purse.specs.declared.log.Entry.{Entry}
+use Rattle.base_budget.specs.declared.log.Entry.{Entry}
 use Rattle.clause_set.specs.declared.literal.Literal.{Literal}
 use Rattle.sequent.specs.declared.member.Pick.{Pick}
 use Rattle.sequent.specs.declared.member.Pick.TheVariants as pick
@@ -13,11 +13,11 @@ use Rattle.proof_tree.specs.declared.node.Conclusion.{Conclusion}
 use Rattle.proof_tree.specs.declared.node.Conclusion.TheVariants.{Solution, Nothing}
 use Rattle.proof_tree.specs.Proof.{Proof, Proofs, node, no_proof, and_proof}
 use Rattle.proof_tree.specs.Walk.{eliminates}
-use Rattle.given_line.specs.Text.{AreClauses}
-use Rattle.proof_line.specs.declared.lines.TextLine.{TextLine}
-use Rattle.proof_line.specs.declared.lines.TextLine.TheVariants as w
-use Rattle.proof_line.specs.Lines.{row_text, conclusion_text, line_text, tokens_of, last_lines, lines, lines_all}
-use Rattle.proof_line.specs.Owed.{HasWidth, IsConclusion}
+use Rattle.proof_constraint.specs.Text.{AreClauses}
+use Rattle.proof_grammar.specs.declared.lines.TextLine.{TextLine}
+use Rattle.proof_grammar.specs.declared.lines.TextLine.TheVariants as w
+use Rattle.proof_grammar.specs.Lines.{row_text, conclusion_text, line_text, tokens_of, last_lines, lines, lines_all}
+use Rattle.proof_grammar.specs.Owed.{HasWidth, IsConclusion}
 use Rattle.proof_grammar.specs.Shaped.{IsShapedNode, AreShapedNodes, IsWritable}
 use Rattle.proof_printer.specs.Short.{plain_lines}
 use Rattle.proof_printer.specs.Typed.{IsTypedProof, AreTypedProofs, IsTypedConclusion}

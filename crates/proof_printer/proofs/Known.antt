@@ -2,8 +2,8 @@
 use Rattle.std.proofs.Common.{◌≡◌, ◌<◌, ◌≤◌, ◌+◌, ℕ, List, [], ◌∷◌, length, drop, get_or, sym, subst}
 use Rattle.std.specs.Prelude.{map}
 use Rattle.std.specs.List.{AllByRecursion}
-use Rattle.purse.specs.declared.log.Entry.{Entry}
-use Rattle.purse.proofs.Charging.{drop-item, drop_all}
+use Rattle.base_budget.specs.declared.log.Entry.{Entry}
+use Rattle.base_budget.proofs.Charging.{drop-item, drop_all}
 use Rattle.clause_set.specs.declared.literal.Literal.{Literal}
 use Rattle.proof_tokens.specs.Spellings.{IsEntry}
 use Rattle.proof_tree.specs.declared.node.Node.{Node, out-Node}

@@ -1,11 +1,11 @@
 -- The lines of nodes, written in parts.
 use Rattle.std.proofs.Common.{ℕ, suc, ◌≡◌, ◌<◌, ◌+◌, true, false, List, [], ◌∷◌, ◌++◌, length, drop, get_or, refl, sym, ap, subst, ◌∙◌, append_assoc, append-nil, Result, Ok, Err, OnOk}
 use Rattle.std.specs.Prelude.{Bool, cond, codes, map, position, Option, Some, None}
-use Rattle.texts.specs.Texts.{each_behind, is_text}
+use Rattle.base_texts.specs.Texts.{each_behind, is_text}
 use Rattle.proof_printer.specs.Short.{entries_of, has_two, key, log_line, long_logs, none_line, part_line, part_of, parts_of, plain_lines, short_line, short_lines_of, short_text}
-use Rattle.purse.proofs.Charging.{drop-item}
-use Rattle.purse.specs.declared.log.Entry.{Entry}
-use Rattle.purse.specs.declared.log.ElimLog.{ElimLog}
+use Rattle.base_budget.proofs.Charging.{drop-item}
+use Rattle.base_budget.specs.declared.log.Entry.{Entry}
+use Rattle.base_budget.specs.declared.log.ElimLog.{ElimLog}
 use Rattle.clause_set.specs.declared.literal.Literal.{Literal}
 use Rattle.sequent.specs.declared.member.Pick.{Pick}
 use Rattle.proof_tokens.specs.declared.tokens.Token.{Token}
@@ -19,10 +19,10 @@ use Rattle.proof_tree.specs.declared.node.Conclusion.TheVariants.{Solution, Noth
 use Rattle.proof_tree.specs.Proof.{Proof, Proofs, node, proofs}
 use Rattle.proof_tree.specs.Views.{proof_of, proof_step}
 use Rattle.proof_tree.specs.Walk.{width, eliminates}
-use Rattle.given_line.specs.Text.{gives_text}
-use Rattle.proof_line.specs.declared.lines.TextLine.{TextLine}
-use Rattle.proof_line.specs.declared.lines.TextLine.TheVariants as w
-use Rattle.proof_line.specs.Lines.{row_text, conclusion_text, line_text, tokens_of, last_lines, lines, lines_all, proof_text}
+use Rattle.proof_constraint.specs.Text.{gives_text}
+use Rattle.proof_grammar.specs.declared.lines.TextLine.{TextLine}
+use Rattle.proof_grammar.specs.declared.lines.TextLine.TheVariants as w
+use Rattle.proof_grammar.specs.Lines.{row_text, conclusion_text, line_text, tokens_of, last_lines, lines, lines_all, proof_text}
 use Rattle.proof_grammar.proofs.Leading.{tokens_append}
 use Rattle.proof_printer.proofs.Written.{spelled_append, joined}
 

@@ -1,7 +1,7 @@
 -- In which order parts stand.
 use Rattle.std.proofs.Common.{ℕ, ◌≡◌, ◌≤◌, ◌<◌, ◌+◌, ◌&&◌, Bool, true, false, cond, not, List, [], ◌∷◌, ◌++◌, length, nat_lt, if◌then◌else◌, refl, sym, ap, subst, ◌∙◌, append_assoc, append-nil, arith, ◌⊎◌, inl, inr}
-use Rattle.proof_line.specs.declared.lines.TextLine.{TextLine}
-use Rattle.texts.specs.Texts.{is_among, is_text, picked, place, with_text}
+use Rattle.proof_grammar.specs.declared.lines.TextLine.{TextLine}
+use Rattle.base_texts.specs.Texts.{is_among, is_text, picked, place, with_text}
 use Rattle.proof_printer.specs.Short.{again_in, keys, most_parts, parts_of, seen_in, times}
 use Rattle.proof_printer.proofs.Parting.{Among, comes_again, first_or}
 use Rattle.proof_printer.proofs.Shortening.{text_same}

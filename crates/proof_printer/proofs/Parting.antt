@@ -1,8 +1,8 @@
 -- Which logs are parts.
 use Rattle.std.proofs.Common.{ℕ, ◌≡◌, ◌≤◌, ◌+◌, ◌&&◌, ◌||◌, Bool, true, false, cond, List, [], ◌∷◌, ◌++◌, length, nat_lt, if◌then◌else◌, refl, sym, ap, subst, ◌∙◌, length-append, arith, ◌⊎◌, inl, inr}
 use Rattle.std.proofs.lemmas.Bool.Decides.{nat_tests}
-use Rattle.proof_line.specs.declared.lines.TextLine.{TextLine}
-use Rattle.texts.specs.Texts.{is_among, is_text, picked, with_text}
+use Rattle.proof_grammar.specs.declared.lines.TextLine.{TextLine}
+use Rattle.base_texts.specs.Texts.{is_among, is_text, picked, with_text}
 use Rattle.proof_printer.specs.Short.{AreDifferent, again_in, keys, most_parts, parts_of, seen_in, times}
 use Rattle.proof_printer.proofs.Shortening.{text_is, text_same}
 use Rattle.proof_printer.proofs.Tallying.{picked_most}

@@ -11,9 +11,9 @@ use Rattle.proof_tokens.specs.declared.tokens.Token.{Token}
 use Rattle.proof_tokens.specs.declared.tokens.Token.TheVariants as t
 use Rattle.proof_tokens.specs.Spellings.{IsProofToken, NextIsSign, AreSpaced}
 use Rattle.proof_tokens.proofs.Spaced.{sign_spaced, word_spaced}
-use Rattle.given_line.specs.Text.{behind, sign_text, factor_text, pair_text, pairs_text, number_text, constant_text, sum_text, zero_text, literal_text, clause_text, dnf_text, gives_text, IsSaid, AreSaidLiterals, AreClauses}
-use Rattle.given_line.proofs.Said.{ArePairs}
-use Rattle.given_line.proofs.Normals.{normal_pairs}
+use Rattle.proof_constraint.specs.Text.{behind, sign_text, factor_text, pair_text, pairs_text, number_text, constant_text, sum_text, zero_text, literal_text, clause_text, dnf_text, gives_text, IsSaid, AreSaidLiterals, AreClauses}
+use Rattle.proof_constraint.proofs.Said.{ArePairs}
+use Rattle.proof_constraint.proofs.Normals.{normal_pairs}
 
 -- tokens that are spaced before whatever may stand behind a word
 abbrev IsSpacedBefore : List Token → Type 0

@@ -5,8 +5,8 @@ use Rattle.proof_tokens.specs.Reading.{Cuts}
 use Rattle.proof_tokens.proofs.Respelled.{cut_back}
 use Rattle.proof_tree.specs.declared.node.Conclusion.{Conclusion}
 use Rattle.proof_tree.specs.Proof.{Proof}
-use Rattle.proof_line.specs.declared.lines.TextLine.TheVariants as w
-use Rattle.proof_line.specs.Lines.{proof_lines, proof_text}
+use Rattle.proof_grammar.specs.declared.lines.TextLine.TheVariants as w
+use Rattle.proof_grammar.specs.Lines.{proof_lines, proof_text}
 use Rattle.proof_grammar.specs.Shaped.{IsWritable, IsTextOfProof}
 use Rattle.proof_grammar.proofs.Expanding.{tree_expanded}
 use Rattle.proof_grammar.proofs.Trees.{proof_pays}

@@ -5,8 +5,8 @@ use Rattle.std.proofs.lemmas.Bool.Decides.{Decides-eqb}
 use Rattle.std.proofs.lemmas.List.{get_or-map}
 use Rattle.std.proofs.lemmas.List.Quantifiers.{position-Some}
 use Rattle.std.proofs.lemmas.Slice.Eq.{slice_eq-Decides}
-use Rattle.purse.specs.declared.log.Entry.{Entry}
-use Rattle.purse.specs.declared.log.ElimLog.{ElimLog}
+use Rattle.base_budget.specs.declared.log.Entry.{Entry}
+use Rattle.base_budget.specs.declared.log.ElimLog.{ElimLog}
 use Rattle.proof_tokens.specs.Lines.{AnyEntries, entries_text, IsPart}
 use Rattle.proof_tokens.specs.Reading.{Cuts}
 use Rattle.proof_tokens.specs.Spellings.{IsEntry, spelled}
@@ -16,17 +16,17 @@ use Rattle.proof_tokens.proofs.Spaced.{entries_spaced}
 use Rattle.proof_tree.specs.declared.node.Conclusion.{Conclusion}
 use Rattle.proof_tree.specs.declared.node.Conclusion.TheVariants.{Solution, Nothing}
 use Rattle.proof_tree.specs.Proof.{Proof}
-use Rattle.proof_line.specs.declared.lines.TextLine.{TextLine}
-use Rattle.proof_line.specs.declared.lines.TextLine.TheVariants as w
-use Rattle.proof_line.specs.declared.lines.Owed.{Owed}
-use Rattle.proof_line.specs.declared.lines.Owed.TheVariants as o
-use Rattle.proof_line.specs.Lines.{proof_lines}
-use Rattle.proof_line.specs.Owed.{Pays, OwesNothing, nodes_owed, last_owed, parts_owed, tree_owed, owes, start, Shallow}
+use Rattle.proof_grammar.specs.declared.lines.TextLine.{TextLine}
+use Rattle.proof_grammar.specs.declared.lines.TextLine.TheVariants as w
+use Rattle.proof_grammar.specs.declared.lines.Owed.{Owed}
+use Rattle.proof_grammar.specs.declared.lines.Owed.TheVariants as o
+use Rattle.proof_grammar.specs.Lines.{proof_lines}
+use Rattle.proof_grammar.specs.Owed.{Pays, OwesNothing, nodes_owed, last_owed, parts_owed, tree_owed, owes, start, Shallow}
 use Rattle.proof_grammar.specs.Expansion.{expanded, expansion, part_at}
 use Rattle.proof_grammar.specs.Shaped.{IsWritable, IsTextOfProof}
 use Rattle.proof_grammar.proofs.Expanding.{AreOf, IsOf, are_append, last_are, nodes_are}
 use Rattle.proof_grammar.proofs.Trees.{proof_pays}
-use Rattle.texts.specs.Texts.{is_among, is_text, picked, with_text}
+use Rattle.base_texts.specs.Texts.{is_among, is_text, picked, with_text}
 use Rattle.proof_printer.specs.Short.{again_in, entries_of, has_two, key, keys, log_line, long_log, long_logs, most_parts, none_line, part_line, part_of, parts_of, plain_lines, seen_in, short_line, short_lines, short_lines_of, short_text}
 use Rattle.proof_printer.specs.Typed.{IsTypedProof, IsTypedConclusion}
 use Rattle.proof_printer.proofs.GoodLines.{AreGood, IsGood, good_append, good_spaced, plain_good}

@@ -1,8 +1,8 @@
 -- Logs that are noted, in parts.
 use Rattle.std.proofs.Common.{ℕ, ◌≡◌, ◌≤◌, ◌<◌, ◌+◌, ◌&&◌, Bool, true, false, cond, List, [], ◌∷◌, ◌++◌, length, map, drop, get_or, nat_lt, if◌then◌else◌, refl, sym, ap, subst, ◌∙◌, append_assoc, append-nil, length-append, arith, Result, Ok, Err, IfOk, OnOk}
 use Rattle.std.proofs.lemmas.Bool.Decides.{nat_tests}
-use Rattle.purse.specs.declared.log.Entry.{Entry}
-use Rattle.purse.proofs.Charging.{drop-item}
+use Rattle.base_budget.specs.declared.log.Entry.{Entry}
+use Rattle.base_budget.proofs.Charging.{drop-item}
 use Rattle.clause_set.specs.declared.literal.Literal.{Literal}
 use Rattle.sequent.specs.declared.member.Pick.{Pick}
 use Rattle.proof_tree.specs.declared.node.Node.{Node, out-Node}
@@ -11,10 +11,10 @@ use Rattle.proof_tree.specs.declared.node.Conclusion.TheVariants.{Solution, Noth
 use Rattle.proof_tree.specs.Proof.{Proof, Proofs, node, proofs}
 use Rattle.proof_tree.specs.Views.{proof_of}
 use Rattle.proof_tree.specs.Walk.{eliminates}
-use Rattle.proof_line.specs.declared.lines.TextLine.{TextLine}
-use Rattle.proof_line.specs.declared.lines.TextLine.TheVariants as w
-use Rattle.proof_line.specs.Lines.{last_lines, lines, lines_all}
-use Rattle.texts.specs.Texts.{is_among, picked, with_text}
+use Rattle.proof_grammar.specs.declared.lines.TextLine.{TextLine}
+use Rattle.proof_grammar.specs.declared.lines.TextLine.TheVariants as w
+use Rattle.proof_grammar.specs.Lines.{last_lines, lines, lines_all}
+use Rattle.base_texts.specs.Texts.{is_among, picked, with_text}
 use Rattle.proof_printer.specs.Short.{again_in, key, keys, long_log, long_logs, most_parts, parts_of, plain_lines, seen_in}
 use Rattle.proof_printer.proofs.Nodes.{node_is}
 

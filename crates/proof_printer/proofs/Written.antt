@@ -11,7 +11,7 @@ use Rattle.clause_set.specs.declared.literal.Literal.TheVariants as l
 use Rattle.proof_tokens.specs.declared.tokens.Token.{Token}
 use Rattle.proof_tokens.specs.declared.tokens.Token.TheVariants as t
 use Rattle.proof_tokens.specs.Spellings.{spelling, spelled}
-use Rattle.given_line.specs.Text.{behind, number_text, pairs_text, constant_text, sum_text, relation_text, zero_text, divisor_text, literal_text, clause_text, dnf_text, gives_text}
+use Rattle.proof_constraint.specs.Text.{behind, number_text, pairs_text, constant_text, sum_text, relation_text, zero_text, divisor_text, literal_text, clause_text, dnf_text, gives_text}
 
 pub spelled_append : (xs ys : List Token) → spelled (xs ++ ys) ≡ spelled xs ++ spelled ys
 spelled_append = flat_map-append spelling

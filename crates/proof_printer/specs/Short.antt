@@ -1,16 +1,16 @@
 -- The text of a proof in the second format: each log of two entries and more that stands on two lines at least is a part.
 use Rattle.std.specs.Prelude.{ℕ, ◌≡◌, ◌+◌, Bool, true, false, cond, List, [], ◌∷◌, ◌++◌, length, map, position, Option, Some, None}
-use Rattle.purse.specs.declared.log.Entry.{Entry}
+use Rattle.base_budget.specs.declared.log.Entry.{Entry}
 use Rattle.proof_tree.specs.declared.node.Conclusion.{Conclusion}
 use Rattle.proof_tree.specs.declared.node.Conclusion.TheVariants.{Nothing}
 use Rattle.proof_tree.specs.Proof.{Proof}
 use Rattle.proof_tokens.specs.declared.tokens.Token.{Token}
 use Rattle.proof_tokens.specs.Lines.{entries_text}
 use Rattle.proof_tokens.specs.Spellings.{spelled}
-use Rattle.proof_line.specs.declared.lines.TextLine.{TextLine}
-use Rattle.proof_line.specs.declared.lines.TextLine.TheVariants as w
-use Rattle.proof_line.specs.Lines.{lines, tokens_of}
-use Rattle.texts.specs.Texts.{is_among, is_text, picked, with_text}
+use Rattle.proof_grammar.specs.declared.lines.TextLine.{TextLine}
+use Rattle.proof_grammar.specs.declared.lines.TextLine.TheVariants as w
+use Rattle.proof_grammar.specs.Lines.{lines, tokens_of}
+use Rattle.base_texts.specs.Texts.{is_among, is_text, picked, with_text}
 
 -- a log as its line has it behind the word: its entries, and the end of the line
 abbrev pub key : List Entry → List ℕ

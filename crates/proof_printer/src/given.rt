@@ -1,7 +1,7 @@
 // The line `gives`, written.
 
 ghost use Rattle.clause_set.specs.declared.literal.Literal.TheVariants as l;
-ghost use Rattle.given_line.specs.Text.{behind, clause_text, divisor_text, dnf_text, gives_text, literal_text, number_text, pair_text, pairs_text, sign_text, sum_text};
+ghost use Rattle.proof_constraint.specs.Text.{behind, clause_text, divisor_text, dnf_text, gives_text, literal_text, number_text, pair_text, pairs_text, sign_text, sum_text};
 ghost use Rattle.proof_tokens.specs.Spellings.{spelled};
 ghost use Rattle.proof_tokens.specs.declared.tokens.Token.TheVariants as t;
 ghost use Rattle.std.specs.Prelude.{◌≡◌, ◌++◌, cond, codes, true, OnOk, Some};

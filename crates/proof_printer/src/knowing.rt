@@ -7,9 +7,9 @@ ghost use Rattle.proof_printer.specs.Typed.{AreTypedProofs, AreTypedLiterals, Is
 ghost use Rattle.std.specs.List.{AllByRecursion};
 ghost use Rattle.std.specs.Prelude.{◌<ℤ◌, ◌^◌, map, pos};
 
+use base_budget::Entry;
 use clause_set::Literal;
 use proof_tree::{Conclusion, Node, Tree};
-use purse::Entry;
 use sequent::Pick;
 use sqlite_items::Items;
 

@@ -6,9 +6,9 @@ ghost use Rattle.proof_tree.specs.declared.node.Conclusion.{Conclusion};
 ghost use Rattle.proof_printer.specs.Short.{AreDifferent, keys, most_parts, parts_of, times};
 ghost use Rattle.proof_printer.specs.Typed.{IsTypedProof, IsTypedConclusion};
 ghost use Rattle.std.specs.Prelude.{◌≡◌, ◌<◌, ◌≤◌, ◌⊎◌, length, true, List, ℕ};
-ghost use Rattle.texts.specs.Texts.{is_among, place};
-ghost use Rattle.proof_line.specs.declared.lines.TextLine.{TextLine};
-ghost use Rattle.proof_line.specs.Lines.{proof_text};
+ghost use Rattle.base_texts.specs.Texts.{is_among, place};
+ghost use Rattle.proof_grammar.specs.declared.lines.TextLine.{TextLine};
+ghost use Rattle.proof_grammar.specs.Lines.{proof_text};
 ghost use Rattle.proof_grammar.specs.Shaped.{IsTextOfProof, IsWritable};
 
 /// The tokens of a proof that a text can hold, written one behind another, are read as that proof.

@@ -4,7 +4,7 @@ ghost use Rattle.proof_tokens.specs.Lines.{counted_text, value_text, values_text
 ghost use Rattle.proof_tokens.specs.Spellings.{spelled};
 ghost use Rattle.std.specs.Fmt.{decimal};
 ghost use Rattle.std.specs.Prelude.{◌≡◌, ◌∷◌, ◌++◌, [], codes, OnOk};
-ghost use Rattle.proof_line.specs.Lines.{conclusion_text, row_text};
+ghost use Rattle.proof_grammar.specs.Lines.{conclusion_text, row_text};
 
 use linear_term::Memory;
 use proof_tokens::{put_number, write_none};

@@ -5,16 +5,16 @@ ghost use Rattle.proof_tree.specs.Proof.{proofs};
 ghost use Rattle.proof_tree.specs.Views.{proof_of};
 ghost use Rattle.proof_printer.specs.Short.{again_in, has_two, key, keys, long_log, most_parts, part_of, parts_of, plain_lines, seen_in};
 ghost use Rattle.std.specs.Prelude.{◌≡◌, ◌≤◌, ◌∷◌, [], List, length, map, IfOk, OnOk};
-ghost use Rattle.proof_line.specs.Lines.{last_lines, lines, lines_all};
-ghost use Rattle.proof_line.specs.declared.lines.TextLine.TheVariants as w;
+ghost use Rattle.proof_grammar.specs.Lines.{last_lines, lines, lines_all};
+ghost use Rattle.proof_grammar.specs.declared.lines.TextLine.TheVariants as w;
 
+use base_budget::{ElimLog, Entry};
+use base_texts::Texts;
 use linear_term::Memory;
 use proof_tokens::put_entries;
 use proof_tree::{Conclusion, Node, Tree};
-use purse::{ElimLog, Entry};
 use sequent::Pick;
 use std::alloc::Global;
-use texts::Texts;
 
 /// The greatest number of parts that a text can say.
 const MOST_PARTS: usize = 4_294_967_295;

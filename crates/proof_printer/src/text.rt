@@ -5,25 +5,25 @@ ghost use Rattle.proof_tree.specs.Views.{proof_of};
 ghost use Rattle.proof_tokens.specs.Spellings.{spelled};
 ghost use Rattle.proof_printer.specs.Short.{most_parts, short_line, short_lines_of, short_text};
 ghost use Rattle.std.specs.Prelude.{◌≡◌, ◌≤◌, ◌++◌, length, map, OnOk};
-ghost use Rattle.proof_line.specs.Lines.{last_lines, line_text, lines, lines_all, proof_text, tokens_of};
-ghost use Rattle.proof_line.specs.declared.lines.TextLine.TheVariants as w;
+ghost use Rattle.proof_grammar.specs.Lines.{last_lines, line_text, lines, lines_all, proof_text, tokens_of};
+ghost use Rattle.proof_grammar.specs.declared.lines.TextLine.TheVariants as w;
 ghost use Rattle.proof_grammar.specs.Shaped.{IsTextOfProof, IsWritable};
 
 use crate::given::write_given;
 use crate::knowing::know_typed;
 use crate::rows::{write_conclusion, write_row};
 use crate::sharing::{part_of, parts_of};
+use base_budget::ElimLog;
+use base_texts::Texts;
 use clause_set::Literal;
 use linear_term::Memory;
 use proof_tokens::{
     write_charges, write_head, write_log, write_log_use, write_none_use, write_parts,
 };
 use proof_tree::{Conclusion, Node, Tree};
-use purse::ElimLog;
 use sequent::Pick;
 use sqlite_items::Items;
 use std::alloc::Global;
-use texts::Texts;
 
 /// Writes the line of a log, which may be the use of a part.
 #[tactic(auto, using(crate::proofs::Nodes::plain_log, crate::proofs::Nodes::used_log))]

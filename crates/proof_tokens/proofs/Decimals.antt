@@ -7,8 +7,8 @@ use Rattle.std.specs.Fmt.{decimal}
 use Rattle.std.proofs.Math.Nat.{mod-lt, div-add-mod}
 use Rattle.std.proofs.lemmas.Fmt.{decimal_by_steps_wide}
 use Rattle.std.proofs.lemmas.Bool.{eqb-true, lt-ltb}
-use Rattle.numerals.specs.Numerals.{decimal_value, with_digits}
-use Rattle.numerals.proofs.Decimals.{all_behind, digit_passes, digits_behind}
+use Rattle.base_numerals.specs.Numerals.{decimal_value, with_digits}
+use Rattle.base_numerals.proofs.Decimals.{all_behind, digit_passes, digits_behind}
 use Rattle.proof_tokens.specs.Words.{is_empty, is_numeral, numeral_of}
 use Rattle.proof_tokens.proofs.Numerals.{nothing_else, three_true}
 

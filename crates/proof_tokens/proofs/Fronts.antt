@@ -6,11 +6,11 @@ use Rattle.std.specs.Char.{is_ascii_digit}
 use Rattle.std.specs.Fmt.{decimal}
 use Rattle.std.proofs.lemmas.Bool.{lt-ltb}
 use Rattle.std.proofs.lemmas.List.{take-append-drop, length-append}
-use Rattle.numerals.specs.Numerals.{decimal_value, with_digits}
-use Rattle.numerals.proofs.Digits.{with_digits_grows}
-use Rattle.numerals.proofs.Tests.{left_true, right_true}
-use Rattle.purse.specs.declared.log.Entry.{Entry}
-use Rattle.purse.specs.declared.log.Entry.TheVariants as e
+use Rattle.base_numerals.specs.Numerals.{decimal_value, with_digits}
+use Rattle.base_numerals.proofs.Digits.{with_digits_grows}
+use Rattle.base_numerals.proofs.Tests.{left_true, right_true}
+use Rattle.base_budget.specs.declared.log.Entry.{Entry}
+use Rattle.base_budget.specs.declared.log.Entry.TheVariants as e
 use Rattle.proof_tokens.specs.declared.tokens.Token.{Token}
 use Rattle.proof_tokens.specs.declared.tokens.Token.TheVariants as t
 use Rattle.proof_tokens.specs.Reading.{Cuts}

@@ -7,9 +7,9 @@ use Rattle.std.specs.Char.{is_ascii_digit}
 use Rattle.std.proofs.lemmas.Fmt.{decimal_digit, decimal_step_wide}
 use Rattle.std.proofs.lemmas.Bool.{eqb-true, ltb-true}
 use Rattle.std.proofs.lemmas.Bool.Decides.{nat_tests}
-use Rattle.numerals.specs.Numerals.{with_digits, decimal_value}
-use Rattle.numerals.proofs.Digits.{with_digits_grows}
-use Rattle.numerals.proofs.Tests.{left_true, right_true}
+use Rattle.base_numerals.specs.Numerals.{with_digits, decimal_value}
+use Rattle.base_numerals.proofs.Digits.{with_digits_grows}
+use Rattle.base_numerals.proofs.Tests.{left_true, right_true}
 use Rattle.proof_tokens.specs.Words.{is_empty, is_numeral, numeral_of}
 
 abbrev IsDigit : ℕ → Type 0

@@ -6,9 +6,9 @@ use Rattle.std.specs.Str.{bytes_eq}
 use Rattle.std.specs.Fmt.{decimal}
 use Rattle.std.specs.Char.{is_ascii_digit, is_ascii_alphabetic}
 use Rattle.std.proofs.lemmas.Bool.{false≢true}
-use Rattle.numerals.proofs.Tests.{if_begins, left_true, right_true}
-use Rattle.purse.specs.declared.log.Entry.{Entry}
-use Rattle.purse.specs.declared.log.Entry.TheVariants as e
+use Rattle.base_numerals.proofs.Tests.{if_begins, left_true, right_true}
+use Rattle.base_budget.specs.declared.log.Entry.{Entry}
+use Rattle.base_budget.specs.declared.log.Entry.TheVariants as e
 use Rattle.proof_tokens.specs.declared.tokens.Token.{Token}
 use Rattle.proof_tokens.specs.declared.tokens.Token.TheVariants as t
 use Rattle.proof_tokens.specs.Words.{is_empty, is_numeral, numeral_of, index_of, merge_with, merge_behind, merge_of, token_or_bad, figure_of, word_of}

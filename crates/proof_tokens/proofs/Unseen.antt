@@ -5,7 +5,7 @@ use Rattle.std.specs.List.{list_all}
 use Rattle.std.specs.Char.{is_ascii_digit, is_ascii_alphabetic}
 use Rattle.std.specs.Fmt.{decimal}
 use Rattle.std.proofs.lemmas.List.{append_cancel_left, length-append}
-use Rattle.numerals.specs.Numerals.{decimal_value}
+use Rattle.base_numerals.specs.Numerals.{decimal_value}
 use Rattle.proof_tokens.specs.declared.tokens.Token.TheVariants as t
 use Rattle.proof_tokens.specs.Lines.{IsName, IsSmallNumber}
 use Rattle.proof_tokens.specs.Reading.{Cuts, HasNoneEnded}

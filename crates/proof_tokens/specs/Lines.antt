@@ -1,9 +1,9 @@
 -- The lines of a proof that speak of no sequent, as tokens.
 use Rattle.std.specs.Prelude.{ℕ, ◌≤◌, ◌<◌, ◌^◌, ℤ, pos, int_lt, unsigned_abs, cond, List, [], ◌∷◌, ◌++◌, Option, Some, None}
 use Rattle.std.specs.List.{AllByRecursion}
-use Rattle.limits.specs.Limits.{most_budget}
+use Rattle.base_limits.specs.Limits.{most_budget}
 use Rattle.linear_term.specs.Range.{InRange}
-use Rattle.purse.specs.declared.log.Entry.{Entry}
+use Rattle.base_budget.specs.declared.log.Entry.{Entry}
 use Rattle.proof_tokens.specs.declared.tokens.Token.{Token}
 use Rattle.proof_tokens.specs.declared.tokens.Token.TheVariants as t
 use Rattle.proof_tokens.specs.declared.part_lines.SaidLog.{SaidLog}

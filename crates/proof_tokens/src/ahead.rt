@@ -1,7 +1,7 @@
 // Names, numbers, entries and some words at the front of a text, found without a look at other words: most tokens of a long
 // proof are these.
 
-ghost use Rattle.numerals.specs.Numerals.{decimal_value};
+ghost use Rattle.base_numerals.specs.Numerals.{decimal_value};
 ghost use Rattle.proof_tokens.specs.Lines.{IsName, IsSmallNumber};
 ghost use Rattle.proof_tokens.specs.Reading.{Cuts, HasNoneEnded};
 ghost use Rattle.proof_tokens.specs.Scanning.{ends_digits, ends_word, HasNoNumber};
@@ -15,7 +15,7 @@ ghost use Rattle.std.specs.Prelude.{◌≡◌, ◌==◌, ◌≤◌, ◌<◌, ◌
 use crate::scanner::is_word_byte;
 use crate::tokens::Token;
 use crate::words::{byte_at, with_digit};
-use purse::Entry;
+use base_budget::Entry;
 
 /// The name, or the number below 2^32, that the text begins with, and the text behind it. None where it begins with another
 /// token, or where that takes a closer look.

@@ -6,7 +6,7 @@ ghost use Rattle.proof_tokens.specs.Spellings.{AreSpaced, IsEntry, IsGood, spell
 ghost use Rattle.proof_tokens.specs.declared.part_lines.SaidLog.{SaidLog};
 ghost use Rattle.proof_tokens.specs.declared.tokens.Token.{Token};
 ghost use Rattle.proof_tokens.specs.declared.tokens.Token.TheVariants as t;
-ghost use Rattle.purse.specs.declared.log.Entry.{Entry};
+ghost use Rattle.base_budget.specs.declared.log.Entry.{Entry};
 ghost use Rattle.std.specs.List.{AllByRecursion};
 ghost use Rattle.std.specs.Prelude.{◌≡◌, ◌<◌, ◌^◌, ◌∷◌, ◌++◌, List, ℕ, ℤ};
 

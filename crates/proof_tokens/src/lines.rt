@@ -7,8 +7,8 @@ ghost use Rattle.std.specs.Prelude.{◌≤◌, IfErr, IfOk};
 use crate::reading::Refusal;
 use crate::single::{blank, entry, goes_on, line_feed, number_between, word};
 use crate::tokens::Word;
-use limits::MOST_BUDGET;
-use purse::Entry;
+use base_budget::Entry;
+use base_limits::MOST_BUDGET;
 use sqlite_items::Items;
 use std::alloc::Global;
 

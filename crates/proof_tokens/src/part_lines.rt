@@ -11,7 +11,7 @@ use crate::reading::{Refusal, next};
 use crate::single::{line_feed, word};
 use crate::tokens::{Token, Word};
 use crate::words::byte_at;
-use purse::ElimLog;
+use base_budget::ElimLog;
 use std::alloc::Global;
 
 /// A log as its line says it.

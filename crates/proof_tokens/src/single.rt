@@ -9,7 +9,7 @@ ghost use Rattle.std.specs.Prelude.{◌≡◌, ◌≤◌, ◌<◌, ◌^◌, ◌�
 use crate::ahead::{entry_ahead, number_ahead, word_ahead};
 use crate::reading::{Refusal, next};
 use crate::tokens::{Token, Word};
-use purse::Entry;
+use base_budget::Entry;
 
 /// The text behind a blank.
 pub fn blank(text: &[u8]) -> Result<&[u8], Refusal>

@@ -3,7 +3,7 @@
 ghost use Rattle.proof_tokens.specs.Spellings.{spelling, token_of};
 ghost use Rattle.std.specs.Prelude.{◌≡◌, ◌↔◌, IsTrue};
 
-use purse::Entry;
+use base_budget::Entry;
 
 /// A token.
 #[derive(Clone, Copy)]

@@ -1,14 +1,14 @@
 // Which token a word is.
 
-ghost use Rattle.numerals.specs.Numerals.{decimal_value};
+ghost use Rattle.base_numerals.specs.Numerals.{decimal_value};
 ghost use Rattle.proof_tokens.specs.Words.{entry_of, figure_of, is_numeral, merge_of, numeral_of, part_word_of, row_word_of, sign_of, word_of};
 ghost use Rattle.std.specs.Char.{is_ascii_digit};
 ghost use Rattle.std.specs.List.{list_all, prefix_len};
 ghost use Rattle.std.specs.Prelude.{◌≡◌, ◌≤◌, ◌<◌, ◌+◌, ◌-◌, ◌*◌, ◌^◌, length, slice_index, MatchOption};
 
 use crate::tokens::Token;
-use numerals::numeral;
-use purse::Entry;
+use base_budget::Entry;
+use base_numerals::numeral;
 
 /// The token that a run of letters and digits is, with what belongs to it.
 #[tactic(auto, using(crate::proofs::Figures::second_digit))]

@@ -6,8 +6,8 @@ ghost use Rattle.proof_tokens.specs.declared.tokens.Token.TheVariants as t;
 ghost use Rattle.std.specs.Fmt.{decimal};
 ghost use Rattle.std.specs.Prelude.{◌≡◌, ◌∷◌, ◌++◌, OnOk};
 
+use base_budget::Entry;
 use linear_term::Memory;
-use purse::Entry;
 use std::alloc::Global;
 
 /// Puts a label and a number behind a text.

@@ -16,9 +16,9 @@ use Rattle.clause_set.proofs.Primitive.{IsNormalLiteral, normal-keeps}
 use Rattle.clause_set.proofs.Shapes.{IsOn, names-keep, shaped}
 use Rattle.clause_set.specs.Clauses.{literals_of}
 use Rattle.clause_set.specs.Normal.{normal_of}
-use Rattle.equation_laws.proofs.Lists.{kept-weaker}
-use Rattle.solution_laws.specs.Solutions.{IsGiven}
-use Rattle.solution_laws.proofs.Spans.{IsFrom, IsIn, Spans, all_lack, given-spans, spans-formed, spans-shaped}
+use Rattle.elim_rule_laws.proofs.EquationLists.{kept-weaker}
+use Rattle.solve_laws.specs.Solutions.{IsGiven}
+use Rattle.solve_laws.proofs.Spans.{IsFrom, IsIn, Spans, all_lack, given-spans, spans-formed, spans-shaped}
 
 -- ---- literals over n names, before and after they are put into form
 abbrev pub IsBelow : ℕ → ℕ → Type 0

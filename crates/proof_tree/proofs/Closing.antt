@@ -3,7 +3,7 @@ use Rattle.std.proofs.Common.{◌≡◌, ℕ, ◌-◌, pos, negsuc, Bool, true, 
 use Rattle.std.specs.List.{AllByRecursion}
 use Rattle.linear_term.specs.Linear.{Linear, IsReduced}
 use Rattle.linear_term.proofs.Names.{reduced-combination}
-use Rattle.purse.specs.Trace.{just, step, next, each}
+use Rattle.base_budget.specs.Trace.{just, step, next, each}
 use Rattle.formula.specs.Form.{Form, equal, unequal, at_least, holds, fails, differs, conjunction, disjunction, universal, existential, forms, is_pure}
 use Rattle.elim_laws.specs.Presburger.{IsPresburger}
 use Rattle.sequent.specs.Sequent.{Member, Sequent}

@@ -3,14 +3,14 @@ use Rattle.std.proofs.Common.{◌≡◌, ◌<◌, ◌≤◌, ◌⊎◌, inl, inr
 use Rattle.std.specs.List.{AllByRecursion, list_any, remove, slice_get}
 use Rattle.std.proofs.lemmas.Bool.{cases_lt}
 use Rattle.linear_term.specs.Linear.{Linear, IsOver, IsReduced}
-use Rattle.purse.specs.Trace.{Traced, just, step, next, pay}
+use Rattle.base_budget.specs.Trace.{Traced, just, step, next, pay}
 use Rattle.clause_set.specs.declared.literal.Literal.{Literal}
 use Rattle.clause_set.specs.declared.literal.Literal.TheVariants.{Eq, Geq}
 use Rattle.clause_set.specs.Clauses.{clauses_of}
 use Rattle.clause_set.specs.Dnfs.{conjunction, disjunction, negation, tidied, top}
 use Rattle.clause_set.proofs.Kept.{clauses-kept, tidied-kept}
 use Rattle.clause_set.proofs.Negations.{less, more, less_is, more_is}
-use Rattle.equation_laws.proofs.Lists.{any-none, kept-weaker}
+use Rattle.elim_rule_laws.proofs.EquationLists.{any-none, kept-weaker}
 use Rattle.clause_set.specs.Names.{has}
 use Rattle.formula.specs.Form as tree
 use Rattle.formula.specs.Form.{Form, Forms, IsFormOver, AreFormsOver}
@@ -30,7 +30,7 @@ use Rattle.sequent.specs.declared.member.Pick.TheVariants as pick
 use Rattle.sequent.specs.declared.member.Shape.TheVariants.{Alpha, Delta, Beta, Gamma}
 use Rattle.sequent.specs.Rules.{applies, brought, is_shape, new_members, one_each, place, premises_at, premises_of, shape_of}
 use Rattle.sequent.specs.Sequent.{Member, Sequent, IsFormedSequent, member, sequent}
-use Rattle.solution_laws.specs.Solutions.{IsGiven}
+use Rattle.solve_laws.specs.Solutions.{IsGiven}
 use Rattle.pred_unify.specs.Pairs.{closing_of}
 use Rattle.proof_tree.specs.Gives.{AreGiven, Gives}
 use Rattle.proof_tree.specs.Proof.{Proof, Proofs, node, no_proof, and_proof, given, all_given}

@@ -1,8 +1,8 @@
 -- Each node that gives its constraint covers its sequent.
 use Rattle.std.proofs.Common.{◌≡◌, ℕ, suc, ℤ, Bool, true, List, [], ◌∷◌, length, Option, None, Some, refl, ap}
 use Rattle.std.specs.List.{slice_get, AllByRecursion}
-use Rattle.typed_formula.specs.Truth.{Meaning}
-use Rattle.purse.specs.declared.log.Entry.{Entry}
+use Rattle.form_typed.specs.Truth.{Meaning}
+use Rattle.base_budget.specs.declared.log.Entry.{Entry}
 use Rattle.clause_set.specs.declared.literal.Literal.{Literal}
 use Rattle.clause_set.specs.Kept.{AreFormed}
 use Rattle.clause_set.specs.Literals.{dnf_truth}

@@ -1,7 +1,7 @@
 -- The terms of sequents of the code are reduced.
 use Rattle.std.proofs.Common.{◌≡◌, ◌<◌, ◌≤◌, ◌+◌, ℕ, List, length, drop, get_or, sym, subst}
 use Rattle.std.specs.List.{AllByRecursion}
-use Rattle.purse.proofs.Charging.{drop-item, drop_all}
+use Rattle.base_budget.proofs.Charging.{drop-item, drop_all}
 use Rattle.formula.specs.Reduced.{HasReducedTerms}
 use Rattle.formula.specs.Tree.{form}
 use Rattle.sequent.specs.declared.member.Member.{Member}

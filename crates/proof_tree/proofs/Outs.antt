@@ -3,9 +3,9 @@ use Rattle.std.proofs.Common.{◌≡◌, ◌≢◌, ℕ, Bool, true, false, cond
 use Rattle.std.specs.Prelude.{All}
 use Rattle.std.specs.List.{AllByRecursion, list_any}
 use Rattle.std.proofs.lemmas.List.Elements.{All-from_recursion, recursion_from_All}
-use Rattle.purse.specs.declared.log.Entry.{Entry}
-use Rattle.purse.specs.declared.log.Entry.TheVariants.{Equation, Apart, Merge, Shift, OneSided, Exact, Dark}
-use Rattle.purse.specs.Trace.{Traced, entry, just, next, note, pay, step}
+use Rattle.base_budget.specs.declared.log.Entry.{Entry}
+use Rattle.base_budget.specs.declared.log.Entry.TheVariants.{Equation, Apart, Merge, Shift, OneSided, Exact, Dark}
+use Rattle.base_budget.specs.Trace.{Traced, entry, just, next, note, pay, step}
 use Rattle.clause_set.specs.declared.literal.Literal.{Literal}
 use Rattle.clause_set.specs.Clauses.{clauses_of}
 use Rattle.clause_set.specs.Dnfs.{tidying}
@@ -18,12 +18,12 @@ use Rattle.clause_set.specs.Rules.{applies, rule}
 use Rattle.clause_set.proofs.Divisors.{kept-append}
 use Rattle.clause_set.proofs.Kept.{tidied-kept}
 use Rattle.clause_set.proofs.Shapes.{clauses-shaped}
-use Rattle.equation_laws.proofs.Exactness.{equation-exact, apart-exact, merge-exact, shift-exact}
-use Rattle.equation_laws.proofs.Lists.{kept-weaker}
-use Rattle.equation_laws.proofs.Values.{equation-value, apart-value, merge-value, shift-value}
-use Rattle.shadow_laws.specs.Results.{one_sided_results, exact_results, dark_results}
-use Rattle.shadow_laws.proofs.Forms.{one_sided-proper, exact-proper, dark_results-proper}
-use Rattle.shadow_laws.proofs.Values.{one_sided-value, exact-value, dark-value}
+use Rattle.elim_rule_laws.proofs.EquationExactness.{equation-exact, apart-exact, merge-exact, shift-exact}
+use Rattle.elim_rule_laws.proofs.EquationLists.{kept-weaker}
+use Rattle.elim_rule_laws.proofs.EquationValues.{equation-value, apart-value, merge-value, shift-value}
+use Rattle.elim_rule_laws.specs.ShadowResults.{one_sided_results, exact_results, dark_results}
+use Rattle.elim_rule_laws.proofs.Forms.{one_sided-proper, exact-proper, dark_results-proper}
+use Rattle.elim_rule_laws.proofs.ShadowValues.{one_sided-value, exact-value, dark-value}
 use Rattle.elim_laws.specs.Logs.{Rest, rest, Yields, name_by_log, reads_none, replayed, up_to}
 use Rattle.elim_laws.specs.Whole.{Lacks}
 use Rattle.elim_laws.proofs.Forms.{literals_of_clause}

@@ -4,7 +4,7 @@ use Rattle.std.specs.List.{AllByRecursion}
 use Rattle.std.proofs.lemmas.List.Elements.{recursion_from_All}
 use Rattle.linear_term.specs.Linear.{Linear, IsOver}
 use Rattle.linear_term.proofs.Names.{combination-over}
-use Rattle.purse.specs.Trace.{Traced, just, step, next, each}
+use Rattle.base_budget.specs.Trace.{Traced, just, step, next, each}
 use Rattle.clause_set.proofs.Divisors.{kept-append}
 use Rattle.formula.specs.Form.{Form, equal, unequal, at_least, holds, fails, differs, conjunction, disjunction, universal, existential, forms, is_pure, IsFormOver, AreFormsOver}
 use Rattle.sequent.specs.Rules.{brought}

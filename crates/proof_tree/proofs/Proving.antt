@@ -4,11 +4,11 @@ use Rattle.std.specs.Prelude.{◌↔◌, All}
 use Rattle.std.specs.List.{AllByRecursion, list_all, slice_get}
 use Rattle.std.proofs.lemmas.List.{length-append, take_all}
 use Rattle.std.proofs.lemmas.List.Elements.{recursion_from_All}
-use Rattle.integers.specs.Entry.{put}
+use Rattle.base_integers.specs.Entry.{put}
 use Rattle.linear_term.specs.Range.{is_in_range}
-use Rattle.typed_formula.specs.Truth.{Meaning}
-use Rattle.purse.specs.declared.log.ElimLog.{ElimLog}
-use Rattle.purse.specs.Trace.{Traced, just, step, next, each}
+use Rattle.form_typed.specs.Truth.{Meaning}
+use Rattle.base_budget.specs.declared.log.ElimLog.{ElimLog}
+use Rattle.base_budget.specs.Trace.{Traced, just, step, next, each}
 use Rattle.clause_set.specs.declared.literal.Literal.{Literal}
 use Rattle.clause_set.specs.Dnfs.{tidied, top}
 use Rattle.clause_set.specs.Kept.{AreFormed}
@@ -20,7 +20,7 @@ use Rattle.elim_laws.specs.Logs.{by_whole_log, names_by_log}
 use Rattle.elim_laws.specs.Whole.{HasSolution}
 use Rattle.elim_laws.proofs.Forms.{formed-literals}
 use Rattle.elim_laws.proofs.Satisfied.{names_yield}
-use Rattle.equation_laws.proofs.Lists.{kept-weaker}
+use Rattle.elim_rule_laws.proofs.EquationLists.{kept-weaker}
 use Rattle.sequent.specs.declared.member.Shape.TheVariants.{Trivial}
 use Rattle.sequent.specs.declared.member.Pick.{Pick}
 use Rattle.sequent.specs.declared.member.Pick.TheVariants as pick
@@ -28,8 +28,8 @@ use Rattle.sequent.specs.Leaf.{is_leaf}
 use Rattle.sequent.specs.Rules.{applies, is_shape, premises_at, shape_of}
 use Rattle.sequent.specs.Sequent.{Member, Sequent, AreFalse, IsFormedSequent}
 use Rattle.sequent.proofs.Forming.{start_formed}
-use Rattle.solution_laws.specs.Solutions.{valued_clause}
-use Rattle.solution_laws.proofs.Solving.{put-formed, put-truth}
+use Rattle.solve_laws.specs.Solutions.{valued_clause}
+use Rattle.solve_laws.proofs.Solving.{put-formed, put-truth}
 use Rattle.proof_tree.specs.declared.node.Conclusion.{Conclusion}
 use Rattle.proof_tree.specs.declared.node.Conclusion.TheVariants.{Solution, Nothing}
 use Rattle.proof_tree.specs.declared.run.Verdict.{Verdict}

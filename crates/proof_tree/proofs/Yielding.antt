@@ -1,9 +1,9 @@
 -- The constraint that a log makes of the premises' constraints says what the rule wants, whatever the log.
 use Rattle.std.proofs.Common.{◌≡◌, ◌+◌, ℕ, suc, ℤ, Bool, true, false, not, ◌&&◌, List, [], ◌∷◌, ◌++◌, length, ◌⊎◌, inl, inr, Option, Some, None, refl, sym, ◌∙◌, ap, subst, arith}
 use Rattle.std.specs.List.{AllByRecursion, slice_get}
-use Rattle.typed_formula.specs.Truth.{Meaning}
-use Rattle.integers.specs.Entry.{put}
-use Rattle.purse.specs.Trace.{Traced, just, next}
+use Rattle.form_typed.specs.Truth.{Meaning}
+use Rattle.base_integers.specs.Entry.{put}
+use Rattle.base_budget.specs.Trace.{Traced, just, next}
 use Rattle.clause_set.specs.declared.literal.Literal.{Literal}
 use Rattle.clause_set.specs.Dnfs.{conjunction, negation, top}
 use Rattle.clause_set.specs.Kept.{AreFormed}

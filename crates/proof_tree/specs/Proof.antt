@@ -1,6 +1,6 @@
 -- Proof trees.
 use Rattle.std.specs.Prelude.{List, [], ◌∷◌}
-use Rattle.purse.specs.declared.log.Entry.{Entry}
+use Rattle.base_budget.specs.declared.log.Entry.{Entry}
 use Rattle.clause_set.specs.declared.literal.Literal.{Literal}
 use Rattle.sequent.specs.declared.member.Pick.{Pick}
 

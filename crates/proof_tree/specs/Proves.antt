@@ -2,9 +2,9 @@
 use Rattle.std.specs.Prelude.{◌≡◌, ℕ, suc, ◌≤◌, ℤ, Bool, true, false, cond, ◌&&◌, nat_eq, List, [], ◌∷◌, length, Option, Some, None}
 use Rattle.std.specs.List.{list_all}
 use Rattle.linear_term.specs.Range.{is_in_range}
-use Rattle.purse.specs.declared.log.Entry.{Entry}
-use Rattle.purse.specs.Runs.{total, raw_stay}
-use Rattle.purse.specs.Trace.{Traced, just, next, note, enter, each}
+use Rattle.base_budget.specs.declared.log.Entry.{Entry}
+use Rattle.base_budget.specs.Runs.{total, raw_stay}
+use Rattle.base_budget.specs.Trace.{Traced, just, next, note, enter, each}
 use Rattle.clause_set.specs.declared.literal.Literal.{Literal}
 use Rattle.clause_set.specs.Dnfs.{tidied, top}
 use Rattle.formula.specs.Form.{Form, is_pure}
@@ -12,7 +12,7 @@ use Rattle.elim_laws.specs.Logs.{by_whole_log, names_by_log}
 use Rattle.sequent.specs.declared.member.Pick.{Pick}
 use Rattle.sequent.specs.declared.member.Pick.TheVariants as pick
 use Rattle.sequent.specs.Sequent.{Sequent, member, sequent}
-use Rattle.solution_laws.specs.Solutions.{valued_clause}
+use Rattle.solve_laws.specs.Solutions.{valued_clause}
 use Rattle.proof_tree.specs.declared.node.Conclusion.{Conclusion}
 use Rattle.proof_tree.specs.declared.node.Conclusion.TheVariants.{Solution, Nothing}
 use Rattle.proof_tree.specs.declared.run.Verdict.{Verdict}

@@ -1,7 +1,7 @@
 -- The constraint of each rule of the sequent calculus (Rümmer, A constraint sequent calculus for first-order logic with
 -- linear integer arithmetic, 2008), made of the constraints of its premises by a log.
 use Rattle.std.specs.Prelude.{suc, List, [], ◌∷◌}
-use Rattle.purse.specs.Trace.{Traced, just, next}
+use Rattle.base_budget.specs.Trace.{Traced, just, next}
 use Rattle.clause_set.specs.declared.literal.Literal.{Literal}
 use Rattle.clause_set.specs.Dnfs.{conjunction, top}
 use Rattle.formula.specs.Sizes.{depth}

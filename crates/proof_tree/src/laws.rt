@@ -2,8 +2,8 @@
 
 ghost use Rattle.std.specs.Prelude.{◌≡◌, ◌↔◌, ℕ, ℤ, List, length, Some, true, false};
 ghost use Rattle.std.specs.List.{AllByRecursion};
-ghost use Rattle.typed_formula.specs.Truth.{Meaning};
-ghost use Rattle.purse.specs.declared.log.Entry.{Entry};
+ghost use Rattle.form_typed.specs.Truth.{Meaning};
+ghost use Rattle.base_budget.specs.declared.log.Entry.{Entry};
 ghost use Rattle.clause_set.specs.declared.literal.Literal.{Literal};
 ghost use Rattle.clause_set.specs.Literals.{dnf_truth};
 ghost use Rattle.formula.specs.Form.{Form, FormTruth, IsFormOver, is_pure};
@@ -21,7 +21,7 @@ ghost use Rattle.proof_tree.specs.Reduced.{IsReducedSequent};
 ghost use Rattle.proof_tree.specs.Says.{IsConstraint};
 ghost use Rattle.proof_tree.specs.Tight.{IsSaturated};
 ghost use Rattle.proof_tree.specs.Walk.{walked};
-ghost use Rattle.solution_laws.specs.Solutions.{IsGiven};
+ghost use Rattle.solve_laws.specs.Solutions.{IsGiven};
 
 /// The premises of a sequent whose terms are reduced have such terms.
 pub fn reduced_law()

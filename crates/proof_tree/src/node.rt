@@ -2,9 +2,9 @@
 
 ghost use Rattle.std.specs.Prelude.{◌≡◌, IfOk};
 
+use base_budget::ElimLog;
 use clause_set::{Literal, copy_literals};
 use linear_term::Memory;
-use purse::ElimLog;
 use sequent::Pick;
 use sqlite_items::Items;
 use std::alloc::Global;

@@ -1,7 +1,7 @@
 // What a proof says, and where a search that found none stood.
 
+use base_budget::ElimLog;
 use linear_term::Place;
-use purse::ElimLog;
 use sqlite_items::Items;
 
 /// What a proof says: these values of the existential constants satisfy its constraint, or nothing does.

@@ -2,8 +2,8 @@
 use Rattle.std.proofs.Common.{ℕ, ◌≡◌, ◌∙◌, ◌==◌, Bool, true, false, cond, List, [], ◌∷◌, ◌++◌, Option, Some, option_map, unwrap_or, refl, ap, append_assoc, codes}
 use Rattle.std.specs.List.{AllByRecursion, join_with_byte, list_all, onto_first}
 use Rattle.std.proofs.lemmas.List.Splits.{join_with_byte-slice_split}
-use Rattle.numerals.proofs.Tests.{left_true, right_true}
-use Rattle.answers.specs.Answer.{line}
+use Rattle.base_numerals.proofs.Tests.{left_true, right_true}
+use Rattle.base_answers.specs.Answer.{line}
 use Rattle.proof_file.specs.Body.{behind_marker, body, is_marker, lines_of}
 
 -- no byte is a line feed

@@ -1,8 +1,8 @@
 -- The whole output of `solve --proof` and of `solve --short` is accepted as a proof's file.
 use Rattle.std.proofs.Common.{ℕ, ℤ, ◌≡◌, ◌≢◌, ◌∙◌, ◌⊎◌, inl, inr, Some, List, [], ◌∷◌, ◌++◌, refl, sym, ap, subst, codes}
 use Rattle.std.specs.List.{concat}
-use Rattle.purse.specs.declared.log.Entry.{Entry}
-use Rattle.purse.specs.Trace.{At, Funds}
+use Rattle.base_budget.specs.declared.log.Entry.{Entry}
+use Rattle.base_budget.specs.Trace.{At, Funds}
 use Rattle.proof_tree.specs.Proof.{Proof}
 use Rattle.proof_tree.specs.declared.run.Verdict.{Verdict}
 use Rattle.proof_tree.specs.declared.run.Verdict.TheVariants.{Valid, Invalid}
@@ -11,27 +11,27 @@ use Rattle.proof_grammar.specs.Shaped.{IsTextOfProof}
 use Rattle.clause_set.specs.declared.literal.Literal.{Literal}
 use Rattle.pri_typing.specs.declared.problem.Problem.{Problem}
 use Rattle.pri_typing.specs.WellFormed.{HasIdentifiers}
-use Rattle.answers.specs.Answer.{Answer}
-use Rattle.constraint_text.specs.Constraint.{IsTextOf}
-use Rattle.constraint_lines.specs.Lines.{solution_line, valued_lines}
+use Rattle.base_answers.specs.Answer.{Answer}
+use Rattle.pri_lines.specs.Constraint.{IsTextOf}
+use Rattle.pri_lines.specs.Lines.{solution_line, valued_lines}
 use Rattle.pri_printer.specs.Printed.{solution_text}
-use Rattle.cut_sides.specs.Sides.{Case, arithmetic, first_itself, second_denied, none}
-use Rattle.solve_job.specs.Blocks.{AreLines, IsSeamLine, IsTextBy, found, unknown}
-use Rattle.solve_job.specs.Ends.{Cause, steps as steps_cause, overflow as overflow_cause, symbols, branch as branch_cause, large as large_cause, plain, cause_text, formula_by, seam_case, seam_run}
-use Rattle.solve_job.specs.Seams.{Seam, seams}
-use Rattle.problem_file.specs.Answers.{Poses, PosesOne, refused, posed}
-use Rattle.problem_file.specs.Encoded.{large, leaves, runs}
-use Rattle.problem_file.proofs.Bytes.{reads_identifiers}
+use Rattle.itp_sides.specs.Sides.{Case, arithmetic, first_itself, second_denied, none}
+use Rattle.job_solve.specs.Blocks.{AreLines, IsSeamLine, IsTextBy, found, unknown}
+use Rattle.job_solve.specs.Ends.{Cause, steps as steps_cause, overflow as overflow_cause, symbols, branch as branch_cause, large as large_cause, plain, cause_text, formula_by, seam_case, seam_run}
+use Rattle.job_solve.specs.Seams.{Seam, seams}
+use Rattle.pri_problem.specs.Answers.{Poses, PosesOne, refused, posed}
+use Rattle.pri_problem.specs.Encoded.{large, leaves, runs}
+use Rattle.pri_problem.proofs.Bytes.{reads_identifiers}
 use Rattle.search.specs.Run as run
-use Rattle.purse.specs.Ending.{ends_with}
-use Rattle.solve_job.specs.Explained.{AnswersSaturated}
-use Rattle.solve_job.specs.Proved.{IsImpure, IsParted, IsSolvedAs, PrintsProofOf, ProvesInvalid}
-use Rattle.answers.specs.declared.form.ProofForm.{ProofForm}
-use Rattle.solve_job.specs.Solved.{AnswersEnd, IsSolved, closed, valid, invalid, saturated, branch, steps as cut_by_steps, overflow as out_of_range, run_end}
-use Rattle.solve_job.proofs.Printing.{impure_is, parted}
-use Rattle.solve_job.proofs.Saturated.{one_or_two}
-use Rattle.check_job.specs.Checked.{IsChecked}
-use Rattle.check_job.proofs.Exactly.{decided}
+use Rattle.base_budget.specs.Ending.{ends_with}
+use Rattle.job_solve.specs.Explained.{AnswersSaturated}
+use Rattle.job_solve.specs.Proved.{IsImpure, IsParted, IsSolvedAs, PrintsProofOf, ProvesInvalid}
+use Rattle.base_answers.specs.declared.form.ProofForm.{ProofForm}
+use Rattle.job_solve.specs.Solved.{AnswersEnd, IsSolved, closed, valid, invalid, saturated, branch, steps as cut_by_steps, overflow as out_of_range, run_end}
+use Rattle.job_solve.proofs.Printing.{impure_is, parted}
+use Rattle.job_solve.proofs.Saturated.{one_or_two}
+use Rattle.job_check.specs.Checked.{IsChecked}
+use Rattle.job_check.proofs.Exactly.{decided}
 use Rattle.prover_job.proofs.Lines.{AreInner, IsOfLines, IsPassed, inner_append, inner_word, no_lines, one_alone, one_more, part_after}
 use Rattle.prover_job.proofs.Printed.{dnf_inner, solution_inner}
 use Rattle.prover_job.proofs.TypedInner.{formula_inner}

@@ -7,7 +7,7 @@ use Rattle.std.proofs.lemmas.List.Elements.{recursion_from_All}
 use Rattle.linear_term.specs.Linear.{Linear}
 use Rattle.clause_set.specs.declared.literal.Literal.{Literal}
 use Rattle.clause_set.specs.declared.literal.Literal.TheVariants.{Eq, Geq, Div, NDiv}
-use Rattle.numerals.proofs.Tests.{left_true, right_true}
+use Rattle.base_numerals.proofs.Tests.{left_true, right_true}
 use Rattle.pri_tokens.specs.Lexemes.{starts_name, is_name_byte}
 use Rattle.pri_tokens.specs.Kinds.{is_name, is_one_of, words}
 use Rattle.pri_tokens.specs.Written.{IsIdentifier}

@@ -1,50 +1,50 @@
 -- What a run answers, and what its end means.
 use Rattle.std.proofs.Common.{◌≡◌, ◌≢◌, ◌≤◌, ◌⊎◌, inl, inr, ℕ, List, [], ◌∷◌, ◌++◌, length, Option, Some, None, Result, Ok, Err, IfOk, refl, sym, ◌∙◌, ap, subst, append-nil, arith}
-use Rattle.typed_formula.specs.Truth.{Meaning}
+use Rattle.form_typed.specs.Truth.{Meaning}
 use Rattle.pri_typing.specs.Problems.{meaning_of}
 use Rattle.prover_io.specs.Outside.{IsLonger, IsWhole}
 use Rattle.prover_io.specs.declared.whole.ReadFault.{ReadFault}
 use Rattle.prover_io.specs.declared.whole.ReadFault.TheVariants.{Long}
-use Rattle.answers.specs.Answer.{Answer, answer_of, long_answer, IsAnswerStatus}
-use Rattle.answers.specs.declared.output.Output.{Output}
-use Rattle.answers.specs.Outside.{IsPutWhole, Meets, PutsAll}
-use Rattle.answers.specs.Files.{AnswersBytes, AnswersSource, most_of_file, most_of_proof, too_long, within}
-use Rattle.answers.proofs.Meeting.{long_answered, meets_more, whole_answered}
+use Rattle.base_answers.specs.Answer.{Answer, answer_of, long_answer, IsAnswerStatus}
+use Rattle.base_answers.specs.declared.output.Output.{Output}
+use Rattle.base_answers.specs.Outside.{IsPutWhole, Meets, PutsAll}
+use Rattle.base_answers.specs.Files.{AnswersBytes, AnswersSource, most_of_file, most_of_proof, too_long, within}
+use Rattle.base_answers.proofs.Meeting.{long_answered, meets_more, whole_answered}
 use Rattle.job_words.specs.Jobs.{Task, solve, eliminate, run_script, minimise, check, drill, IsBudget, NamesJob}
 use Rattle.problem_gen.specs.Drills.{drill_text}
-use Rattle.solve_job.specs.Proved.{IsSolvedAs, PrintsProofOf, ProvesInvalid, ProvesValid}
-use Rattle.answers.specs.declared.form.ProofForm.{ProofForm}
-use Rattle.solve_job.specs.Solved.{IsSolved}
-use Rattle.solve_job.proofs.Printing.{parted}
-use Rattle.constraint_lines.proofs.Losing.{no_table}
-use Rattle.check_job.specs.Checked.{IsChecked}
-use Rattle.check_job.specs.Meaning.{CheckMeans}
-use Rattle.check_job.specs.Causes as check_causes
-use Rattle.check_job.proofs.Causing as check_causing
-use Rattle.check_job.proofs.Exactly.{accepted_text}
-use Rattle.check_job.proofs.Meaning as check_meaning
+use Rattle.job_solve.specs.Proved.{IsSolvedAs, PrintsProofOf, ProvesInvalid, ProvesValid}
+use Rattle.base_answers.specs.declared.form.ProofForm.{ProofForm}
+use Rattle.job_solve.specs.Solved.{IsSolved}
+use Rattle.job_solve.proofs.Printing.{parted}
+use Rattle.pri_lines.proofs.Losing.{no_table}
+use Rattle.job_check.specs.Checked.{IsChecked}
+use Rattle.job_check.specs.Meaning.{CheckMeans}
+use Rattle.job_check.specs.Causes as check_causes
+use Rattle.job_check.proofs.Causing as check_causing
+use Rattle.job_check.proofs.Exactly.{accepted_text}
+use Rattle.job_check.proofs.Meaning as check_meaning
 use Rattle.proof_tree.specs.declared.run.Verdict.{Verdict}
-use Rattle.check_job.proofs.Meaning.{checked_status}
-use Rattle.solve_job.specs.Headline.{Headline}
-use Rattle.solve_job.proofs.Causing as solve_causing
-use Rattle.solve_job.proofs.Grounded.{ground_enough}
-use Rattle.solve_job.proofs.Exactly.{solved_status}
-use Rattle.solve_job.proofs.Meaning.{headline}
-use Rattle.solve_job.specs.Drilled.{IsDrilled}
-use Rattle.elim_job.specs.Eliminated.{IsEliminated}
-use Rattle.elim_job.specs.Meaning.{ElimMeans}
-use Rattle.elim_job.proofs.Causing as elim_causing
-use Rattle.elim_job.proofs.Exactly.{eliminated_status}
-use Rattle.smt_job.specs.Answered.{IsSmtAnswer}
-use Rattle.smt_job.specs.Meaning.{Scripted}
-use Rattle.smt_job.proofs.Meaning.{means_all, smt_status}
-use Rattle.elim_job.proofs.Meaning.{means}
-use Rattle.least_job.specs.Leasts.{IsLeastAnswer}
-use Rattle.least_job.specs.Meaning.{LeastAnswers}
-use Rattle.least_job.proofs.Causing as least_causing
-use Rattle.least_job.proofs.Deciding as least_deciding
-use Rattle.least_job.proofs.Exactly.{least_status}
-use Rattle.least_job.proofs.Meaning as least_meaning
+use Rattle.job_check.proofs.Meaning.{checked_status}
+use Rattle.job_solve.specs.Headline.{Headline}
+use Rattle.job_solve.proofs.Causing as solve_causing
+use Rattle.job_solve.proofs.Grounded.{ground_enough}
+use Rattle.job_solve.proofs.Exactly.{solved_status}
+use Rattle.job_solve.proofs.Meaning.{headline}
+use Rattle.job_solve.specs.Drilled.{IsDrilled}
+use Rattle.job_elim.specs.Eliminated.{IsEliminated}
+use Rattle.job_elim.specs.Meaning.{ElimMeans}
+use Rattle.job_elim.proofs.Causing as elim_causing
+use Rattle.job_elim.proofs.Exactly.{eliminated_status}
+use Rattle.job_smt.specs.Answered.{IsSmtAnswer}
+use Rattle.job_smt.specs.Meaning.{Scripted}
+use Rattle.job_smt.proofs.Meaning.{means_all, smt_status}
+use Rattle.job_elim.proofs.Meaning.{means}
+use Rattle.job_least.specs.Leasts.{IsLeastAnswer}
+use Rattle.job_least.specs.Meaning.{LeastAnswers}
+use Rattle.job_least.proofs.Causing as least_causing
+use Rattle.job_least.proofs.Deciding as least_deciding
+use Rattle.job_least.proofs.Exactly.{least_status}
+use Rattle.job_least.proofs.Meaning as least_meaning
 use Rattle.prover_job.specs.declared.tasks.Stop.{Stop}
 use Rattle.prover_job.specs.Runs.{AnswersTask, AnswersWithProof, IsSmallTask, SaysChecked, SaysConstraint, SaysLeast, SaysNowhere, SaysScript, SaysValid, SaysRefuted, IsSolveCaused, IsSolveCausedAs, IsElimCaused, IsLeastCaused, IsCheckCaused, IsDrillCaused}
 

@@ -3,20 +3,20 @@ use Rattle.std.proofs.Common.{ℕ, suc, ◌-◌, Bool, true, false, cond, nat_lt
 use Rattle.std.specs.Fmt.{decimal, signed_decimal}
 use Rattle.std.specs.List.{AllByRecursion}
 use Rattle.std.proofs.lemmas.List.Elements.{recursion_from_All}
-use Rattle.typed_formula.specs.Formula.{Formula, Formulas, Expression, Expressions, constant, compares, applies, negation, every, some, implies, iff, for_all, for_some, part, no_formula, and_formula, number, name, call, minus, total, product, choice, absolute, lesser, greater, no_expression, and_expression}
-use Rattle.typed_formula.specs.declared.typed.Relation.{Relation}
-use Rattle.typed_formula.specs.declared.typed.Relation.TheVariants as relation
-use Rattle.typed_formula.specs.declared.typed.Sort.{Sort}
-use Rattle.typed_formula.specs.declared.typed.Sort.TheVariants.{Int, Nat, Range}
+use Rattle.form_typed.specs.Formula.{Formula, Formulas, Expression, Expressions, constant, compares, applies, negation, every, some, implies, iff, for_all, for_some, part, no_formula, and_formula, number, name, call, minus, total, product, choice, absolute, lesser, greater, no_expression, and_expression}
+use Rattle.form_typed.specs.declared.typed.Relation.{Relation}
+use Rattle.form_typed.specs.declared.typed.Relation.TheVariants as relation
+use Rattle.form_typed.specs.declared.typed.Sort.{Sort}
+use Rattle.form_typed.specs.declared.typed.Sort.TheVariants.{Int, Nat, Range}
 use Rattle.pri_tokens.specs.Written.{IsIdentifier}
 use Rattle.pri_typing.specs.declared.problem.Problem.{Problem}
 use Rattle.pri_typing.specs.declared.problem.Symbol.{Symbol}
 use Rattle.pri_typing.specs.WellFormed.{HasIdentifiers, names_of_symbols}
 use Rattle.pri_printer.specs.Printed.{constants_of}
 use Rattle.pri_printer.specs.Text.{behind_each}
-use Rattle.typed_printer.specs.Text.{grouped, joined_text, applied_text}
-use Rattle.typed_printer.specs.TypedText.{bound_text, formula_text, formula_texts, name_text, quantifier_text, relation_text, sort_text, symbol_text, term_text, term_texts, truth_text}
-use Rattle.typed_printer.specs.Variables.{variable_number, variable_text}
+use Rattle.itp_printer.specs.Text.{grouped, joined_text, applied_text}
+use Rattle.itp_printer.specs.TypedText.{bound_text, formula_text, formula_texts, name_text, quantifier_text, relation_text, sort_text, symbol_text, term_text, term_texts, truth_text}
+use Rattle.itp_printer.specs.Variables.{variable_number, variable_text}
 use Rattle.prover_job.proofs.Lines.{AreInner, inner_append, inner_word}
 use Rattle.prover_job.proofs.Printed.{AreNames, commas_inner, constants_inner, decimal_inner, either_inner, front_names, identifiers_inner, indexed, signed_inner}
 

@@ -1,33 +1,33 @@
 -- What a run answers to its words over a source of named bytes, and what its end means.
 use Rattle.std.specs.Prelude.{◌≡◌, ◌⊎◌, ◌+◌, ◌≤◌, ◌<◌, ◌^◌, ℕ, Bool, List, [], ◌∷◌, ◌++◌, length, Option, Some, None, Contains}
-use Rattle.limits.specs.Limits.{most_budget, most_count}
-use Rattle.typed_formula.specs.Truth.{Meaning}
-use Rattle.typed_formula.specs.Formula.{Expression}
+use Rattle.base_limits.specs.Limits.{most_budget, most_count}
+use Rattle.form_typed.specs.Truth.{Meaning}
+use Rattle.form_typed.specs.Formula.{Expression}
 use Rattle.pri_typing.specs.declared.problem.Problem.{Problem}
 use Rattle.prover_io.specs.Outside.{Broke, IsLonger, IsWhole}
-use Rattle.answers.specs.Answer.{Answer}
-use Rattle.answers.specs.Files.{AnswersSource, most_of_file, most_of_proof}
-use Rattle.answers.specs.Outside.{PutsAll}
+use Rattle.base_answers.specs.Answer.{Answer}
+use Rattle.base_answers.specs.Files.{AnswersSource, most_of_file, most_of_proof}
+use Rattle.base_answers.specs.Outside.{PutsAll}
 use Rattle.job_words.specs.Jobs.{Task, solve, eliminate, run_script, minimise, check, drill, files_of, NamesJob}
-use Rattle.solve_job.specs.Proved.{IsSolvedAs, ProvesInvalid, ProvesValid, extended}
-use Rattle.answers.specs.declared.form.ProofForm.{ProofForm}
-use Rattle.check_job.specs.Checked.{IsChecked}
-use Rattle.check_job.specs.Meaning.{Confirms}
-use Rattle.check_job.specs.Causes as check_causes
-use Rattle.solve_job.specs.Causes as solve_causes
+use Rattle.job_solve.specs.Proved.{IsSolvedAs, ProvesInvalid, ProvesValid, extended}
+use Rattle.base_answers.specs.declared.form.ProofForm.{ProofForm}
+use Rattle.job_check.specs.Checked.{IsChecked}
+use Rattle.job_check.specs.Meaning.{Confirms}
+use Rattle.job_check.specs.Causes as check_causes
+use Rattle.job_solve.specs.Causes as solve_causes
 use Rattle.problem_gen.specs.Drills.{drill_text}
-use Rattle.solve_job.specs.Headline.{Headline, Validates, Refutes}
-use Rattle.solve_job.specs.Ground.{IsEnough}
-use Rattle.solve_job.specs.Drilled.{IsDrilled, drill_answer}
-use Rattle.elim_job.specs.Eliminated.{IsEliminated}
-use Rattle.elim_job.specs.Causes as elim_causes
-use Rattle.elim_job.specs.Meaning.{Constrained}
-use Rattle.smt_job.specs.Answered.{IsSmtAnswer}
-use Rattle.smt_job.specs.Meaning.{Scripted}
-use Rattle.least_job.specs.Causes as least_causes
-use Rattle.least_job.specs.Decides as least_decides
-use Rattle.least_job.specs.Leasts.{IsLeastAnswer}
-use Rattle.least_job.specs.Meaning.{Minimised, Unsatisfied}
+use Rattle.job_solve.specs.Headline.{Headline, Validates, Refutes}
+use Rattle.job_solve.specs.Ground.{IsEnough}
+use Rattle.job_solve.specs.Drilled.{IsDrilled, drill_answer}
+use Rattle.job_elim.specs.Eliminated.{IsEliminated}
+use Rattle.job_elim.specs.Causes as elim_causes
+use Rattle.job_elim.specs.Meaning.{Constrained}
+use Rattle.job_smt.specs.Answered.{IsSmtAnswer}
+use Rattle.job_smt.specs.Meaning.{Scripted}
+use Rattle.job_least.specs.Causes as least_causes
+use Rattle.job_least.specs.Decides as least_decides
+use Rattle.job_least.specs.Leasts.{IsLeastAnswer}
+use Rattle.job_least.specs.Meaning.{Minimised, Unsatisfied}
 
 -- the words name no job
 abbrev pub NameNoJob : List (List ℕ) → Type 0

@@ -1,11 +1,11 @@
 // What joins the jobs, as the contract of a function with nothing to do.
 
-ghost use Rattle.answers.specs.Answer.{Answer};
-ghost use Rattle.check_job.specs.Checked.{IsChecked};
+ghost use Rattle.base_answers.specs.Answer.{Answer};
+ghost use Rattle.job_check.specs.Checked.{IsChecked};
 ghost use Rattle.proof_tree.specs.declared.run.Verdict.{Verdict};
-ghost use Rattle.problem_file.specs.Answers.{PosesOne};
-ghost use Rattle.solve_job.specs.Proved.{IsImpure, IsSolvedAs, PrintsProofOf};
-ghost use Rattle.answers.specs.declared.form.ProofForm.{ProofForm};
+ghost use Rattle.pri_problem.specs.Answers.{PosesOne};
+ghost use Rattle.job_solve.specs.Proved.{IsImpure, IsSolvedAs, PrintsProofOf};
+ghost use Rattle.base_answers.specs.declared.form.ProofForm.{ProofForm};
 ghost use Rattle.std.specs.Prelude.{◌≡◌, ◌⊎◌, List, Some, ℕ};
 
 /// The proof that `solve` prints behind the line `proof:`, in whichever form, is accepted: `check` of the same file and of these

@@ -1,21 +1,21 @@
 // The top call: the words, then the files of their job, then its answer, then the text of the answer.
 
-ghost use Rattle.answers.specs.Answer.{IsStatus, words_answer};
-ghost use Rattle.answers.specs.Files.{AnswersSource, most_of_file};
-ghost use Rattle.answers.specs.Outside.{Meets};
-ghost use Rattle.answers.specs.declared.form.ProofForm.{ProofForm};
+ghost use Rattle.base_answers.specs.Answer.{IsStatus, words_answer};
+ghost use Rattle.base_answers.specs.Files.{AnswersSource, most_of_file};
+ghost use Rattle.base_answers.specs.Outside.{Meets};
+ghost use Rattle.base_answers.specs.declared.form.ProofForm.{ProofForm};
 ghost use Rattle.job_words.specs.Jobs.{NamesJob, Task, check, drill, eliminate, files_of, minimise, run_script, solve, task_of};
 ghost use Rattle.prover_io.specs.Outside.{BeginsFront, GrowsAtMost, Rose};
 ghost use Rattle.prover_job.specs.Runs.{AnswersTask, AreBegun, BrokeAt, IsCheckCaused, IsDrillCaused, IsElimCaused, IsJobFile, IsLeastCaused, IsSolveCausedAs, IsSmallTask, NameNoFile, NameNoJob, SaysChecked, SaysConstraint, SaysLeast, SaysNowhere, SaysRefuted, SaysScript, SaysValid, most_moved};
 ghost use Rattle.std.specs.Prelude.{◌≡◌, ◌≢◌, ◌⊎◌, ℕ, List, [], Option, map, string_bytes};
 
 use crate::tasks::{Stop, job_output};
-use answers::put_answer;
-use answers::status::{NO_MEMORY, SOURCE_FAILED, WORDS_REFUSED};
+use base_answers::put_answer;
+use base_answers::status::{NO_MEMORY, SOURCE_FAILED, WORDS_REFUSED};
+use form_typed::World;
 use job_words::{Job, WordsFault, job, words_law};
 use prover_io::{Sink, Source};
 use std::alloc::Global;
-use typed_formula::World;
 
 /// Does the job that the words name, and answers the exit status: 0 valid, or the constraint is made, or the proof is accepted, or
 /// the least value is found or there is none, or each check of the script is answered, 1 invalid, or the problem holds nowhere,

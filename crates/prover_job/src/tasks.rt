@@ -1,21 +1,21 @@
 // What each job answers, from its files; nothing is put yet.
 
-ghost use Rattle.answers.specs.Answer.{answer_of, long_answer};
-ghost use Rattle.answers.specs.Files.{AnswersSource, most_of_file, most_of_proof};
-ghost use Rattle.elim_job.specs.Eliminated.{IsEliminated};
+ghost use Rattle.base_answers.specs.Answer.{answer_of, long_answer};
+ghost use Rattle.base_answers.specs.Files.{AnswersSource, most_of_file, most_of_proof};
+ghost use Rattle.job_elim.specs.Eliminated.{IsEliminated};
 ghost use Rattle.job_words.specs.Jobs.{check, files_of, task_of};
-ghost use Rattle.least_job.specs.Leasts.{IsLeastAnswer};
-ghost use Rattle.limits.specs.Limits.{most_budget};
+ghost use Rattle.job_least.specs.Leasts.{IsLeastAnswer};
+ghost use Rattle.base_limits.specs.Limits.{most_budget};
 ghost use Rattle.prover_io.specs.Outside.{BeginsFront, Broke, GrowsAtMost, Rose};
 ghost use Rattle.prover_io.specs.declared.whole.ReadFault.{ReadFault};
 ghost use Rattle.prover_job.specs.Runs.{AnswersTask, AnswersWithProof, AreBegun, BrokeAt, IsJobFile, IsSmallTask, most_moved};
 ghost use Rattle.prover_job.specs.declared.tasks.Stop.{Stop};
-ghost use Rattle.smt_job.specs.Answered.{IsSmtAnswer};
-ghost use Rattle.solve_job.specs.Proved.{IsSolvedAs};
+ghost use Rattle.job_smt.specs.Answered.{IsSmtAnswer};
+ghost use Rattle.job_solve.specs.Proved.{IsSolvedAs};
 ghost use Rattle.std.specs.Prelude.{◌≡◌, ◌≢◌, ◌+◌, ◌<◌, ◌≤◌, ◌^◌, ◌++◌, length, IfOk, IsErrOf, OnOk, Some, [], ◌∷◌};
 
-use answers::status::FILE_TOO_LONG;
-use answers::{Output, ProofForm, say};
+use base_answers::status::FILE_TOO_LONG;
+use base_answers::{Output, ProofForm, say};
 use job_words::Job;
 use linear_term::Memory;
 use prover_io::{ReadFault, Source, read_all};
@@ -77,7 +77,7 @@ pub(crate) fn job_output<S: Source>(
             term.as_str(),
             *budget,
         ),
-        Job::Drill { count, budget } => Ok(solve_job::drilled(alloc, *count, *budget)?),
+        Job::Drill { count, budget } => Ok(job_solve::drilled(alloc, *count, *budget)?),
     }
 }
 
@@ -99,7 +99,7 @@ fn solve_output<S: Source>(
     ensures moved { GrowsAtMost (S.moved source.old) (S.moved source.new) (most_of_file + 1) }
 {
     match read_all(alloc, source, file, FILE) {
-        Ok(bytes) => Ok(solve_job::answer(alloc, bytes.as_slice(), budget, asked)?),
+        Ok(bytes) => Ok(job_solve::answer(alloc, bytes.as_slice(), budget, asked)?),
         Err(fault) => unread(alloc, fault),
     }
 }
@@ -121,7 +121,7 @@ fn elim_output<S: Source>(
     ensures moved { GrowsAtMost (S.moved source.old) (S.moved source.new) (most_of_file + 1) }
 {
     match read_all(alloc, source, file, FILE) {
-        Ok(bytes) => Ok(elim_job::answer(alloc, bytes.as_slice(), budget)?),
+        Ok(bytes) => Ok(job_elim::answer(alloc, bytes.as_slice(), budget)?),
         Err(fault) => unread(alloc, fault),
     }
 }
@@ -143,7 +143,7 @@ fn smt_output<S: Source>(
     ensures moved { GrowsAtMost (S.moved source.old) (S.moved source.new) (most_of_file + 1) }
 {
     match read_all(alloc, source, file, FILE) {
-        Ok(bytes) => Ok(smt_job::answer(alloc, bytes.as_slice(), budget)?),
+        Ok(bytes) => Ok(job_smt::answer(alloc, bytes.as_slice(), budget)?),
         Err(fault) => unread(alloc, fault),
     }
 }
@@ -166,7 +166,7 @@ fn least_output<S: Source>(
     ensures moved { GrowsAtMost (S.moved source.old) (S.moved source.new) (most_of_file + 1) }
 {
     match read_all(alloc, source, file, FILE) {
-        Ok(bytes) => Ok(least_job::answer(alloc, bytes.as_slice(), term.as_bytes(), budget)?),
+        Ok(bytes) => Ok(job_least::answer(alloc, bytes.as_slice(), term.as_bytes(), budget)?),
         Err(fault) => unread(alloc, fault),
     }
 }
@@ -209,7 +209,7 @@ fn proof_output<S: Source>(
     ensures moved { GrowsAtMost (S.moved source.old) (S.moved source.new) (most_of_proof + 1) }
 {
     match read_all(alloc, source, proof, PROOF) {
-        Ok(text) => Ok(check_job::answer(alloc, bytes, text.as_slice())?),
+        Ok(text) => Ok(job_check::answer(alloc, bytes, text.as_slice())?),
         Err(fault) => unread(alloc, fault),
     }
 }

@@ -2,10 +2,10 @@
 use Rattle.std.proofs.Common.{◌≡◌, ℕ, ◌+◌, List, [], Result, Ok, Err, IsErrAnd, refl, sym, ◌∙◌, ap, subst}
 use Rattle.linear_term.specs.Linear.{Linear}
 use Rattle.linear_term.specs.declared.range.TermFault.{TermFault}
-use Rattle.purse.specs.declared.fault.StepFault.{StepFault}
-use Rattle.purse.specs.Trace.{Funds, Mark, At, at, just, next, pay}
-use Rattle.purse.specs.Work.{ChargedAt, Charged, step_fault_of}
-use Rattle.purse.proofs.Charging.{then_ok, then_err, then_just, unnoted, worked_value}
+use Rattle.base_budget.specs.declared.fault.StepFault.{StepFault}
+use Rattle.base_budget.specs.Trace.{Funds, Mark, At, at, just, next, pay}
+use Rattle.base_budget.specs.Work.{ChargedAt, Charged, step_fault_of}
+use Rattle.base_budget.proofs.Charging.{then_ok, then_err, then_just, unnoted, worked_value}
 use Rattle.clause_set.specs.declared.literal.Literal.{Literal}
 use Rattle.clause_set.specs.Dnfs.{top}
 use Rattle.formula.specs.declared.calculus.Core.{Core}

@@ -1,10 +1,10 @@
 -- Atoms of the code.
 use Rattle.std.proofs.Common.{◌≡◌, ℕ, true, false, List, [], ◌∷◌, Result, refl, sym, ◌∙◌, ap, subst}
 use Rattle.linear_term.specs.Linear.{Linear}
-use Rattle.purse.specs.declared.fault.StepFault.{StepFault}
-use Rattle.purse.specs.Trace.{Funds, Mark, at, Traced, just}
-use Rattle.purse.specs.Work.{ChargedAt, Charged}
-use Rattle.purse.proofs.Charging.{unnoted}
+use Rattle.base_budget.specs.declared.fault.StepFault.{StepFault}
+use Rattle.base_budget.specs.Trace.{Funds, Mark, at, Traced, just}
+use Rattle.base_budget.specs.Work.{ChargedAt, Charged}
+use Rattle.base_budget.proofs.Charging.{unnoted}
 use Rattle.clause_set.specs.declared.literal.Literal.{Literal}
 use Rattle.clause_set.specs.declared.literal.Literal.TheVariants.{Eq, Geq}
 use Rattle.clause_set.specs.Clauses.{clauses_of}

@@ -1,8 +1,8 @@
 -- A call leaves the budget as it is.
 use Rattle.std.proofs.Common.{◌≡◌, ◌<◌, ◌+◌, ℕ, Bool, true, false, cond, nat_le, List, [], ◌∷◌, Ok, refl, sym, ap, subst}
 use Rattle.linear_term.specs.Range.{all_stay}
-use Rattle.purse.specs.Trace.{Event, charge, raw, mark, At, after_charge, after_mark, done, refused, out_of_range, capped, cut, Traced}
-use Rattle.purse.specs.Work.{ChargedAt}
+use Rattle.base_budget.specs.Trace.{Event, charge, raw, mark, At, after_charge, after_mark, done, refused, out_of_range, capped, cut, Traced}
+use Rattle.base_budget.specs.Work.{ChargedAt}
 
 cut_budget : (es : List Event) (a b : At) → cut es a ≡ done b → b.funds.budget ≡ a.funds.budget
 unfolding cut

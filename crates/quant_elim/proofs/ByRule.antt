@@ -5,14 +5,14 @@ use Rattle.std.specs.List.{AllByRecursion, list_any}
 use Rattle.std.proofs.lemmas.List.{map-append}
 use Rattle.std.proofs.lemmas.List.Elements.{recursion_from_All}
 use Rattle.linear_term.proofs.Totals.{by_test}
-use Rattle.purse.specs.declared.fault.StepFault.{StepFault}
-use Rattle.purse.specs.declared.fault.StepFault.TheVariants.{Memory}
-use Rattle.purse.specs.declared.log.Entry.{Entry}
-use Rattle.purse.specs.declared.log.ElimLog.{ElimLog}
-use Rattle.purse.specs.Trace.{Funds, Mark, entry, At, at, Traced, just, next, note, each}
-use Rattle.purse.specs.Work.{ChargedAt, Charged, marks_of}
-use Rattle.purse.proofs.Charging.{then_ok, then_err, then_just, no_memory, unnoted, charged_value}
-use Rattle.purse.proofs.Tracing.{next-same, next-just, next-assoc}
+use Rattle.base_budget.specs.declared.fault.StepFault.{StepFault}
+use Rattle.base_budget.specs.declared.fault.StepFault.TheVariants.{Memory}
+use Rattle.base_budget.specs.declared.log.Entry.{Entry}
+use Rattle.base_budget.specs.declared.log.ElimLog.{ElimLog}
+use Rattle.base_budget.specs.Trace.{Funds, Mark, entry, At, at, Traced, just, next, note, each}
+use Rattle.base_budget.specs.Work.{ChargedAt, Charged, marks_of}
+use Rattle.base_budget.proofs.Charging.{then_ok, then_err, then_just, no_memory, unnoted, charged_value}
+use Rattle.base_budget.proofs.Tracing.{next-same, next-just, next-assoc}
 use Rattle.clause_set.specs.declared.literal.Literal.{Literal}
 use Rattle.clause_set.specs.Names.{has, is_equation, is_divisibility, is_indivisibility}
 use Rattle.clause_set.specs.Rules.{rule, first_rule, unused, measure}

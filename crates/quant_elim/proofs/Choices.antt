@@ -2,8 +2,8 @@
 use Rattle.std.proofs.Common.{◌≡◌, ℕ, ◌+◌, Bool, true, false, cond, List, drop, Some, None, refl}
 use Rattle.std.specs.Prelude.{position}
 use Rattle.std.specs.Cmp.{first_so}
-use Rattle.purse.specs.declared.log.Entry.{Entry}
-use Rattle.purse.specs.declared.log.Entry.TheVariants as entry
+use Rattle.base_budget.specs.declared.log.Entry.{Entry}
+use Rattle.base_budget.specs.declared.log.Entry.TheVariants as entry
 use Rattle.clause_set.specs.declared.literal.Literal.{Literal}
 use Rattle.clause_set.specs.Names.{is_divisibility, is_indivisibility}
 use Rattle.clause_set.specs.Rules.{applies, first_rule, is_least_equation, is_bounded, is_one_sided, is_two_sided, is_exact}

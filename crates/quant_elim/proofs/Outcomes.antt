@@ -1,14 +1,14 @@
 -- Answers with their log, and what they say.
 use Rattle.std.proofs.Common.{◌≡◌, List, [], map, Result, Ok, Err, sym, subst}
 use Rattle.std.specs.Prelude.{IfOk}
-use Rattle.purse.specs.declared.fault.StepFault.{StepFault}
-use Rattle.purse.specs.declared.fault.StepFault.TheVariants.{Steps, Overflow, Memory}
-use Rattle.purse.specs.declared.fault.ElimFault.{ElimFault}
-use Rattle.purse.specs.declared.log.ElimLog.{ElimLog}
-use Rattle.purse.specs.declared.log.Entry.{Entry}
-use Rattle.purse.specs.Trace.{Funds, At, at, entry, Traced}
-use Rattle.purse.specs.Work.{ChargedAt, Charged, Logged, marks_of}
-use Rattle.purse.proofs.Charging.{charged_value}
+use Rattle.base_budget.specs.declared.fault.StepFault.{StepFault}
+use Rattle.base_budget.specs.declared.fault.StepFault.TheVariants.{Steps, Overflow, Memory}
+use Rattle.base_budget.specs.declared.fault.ElimFault.{ElimFault}
+use Rattle.base_budget.specs.declared.log.ElimLog.{ElimLog}
+use Rattle.base_budget.specs.declared.log.Entry.{Entry}
+use Rattle.base_budget.specs.Trace.{Funds, At, at, entry, Traced}
+use Rattle.base_budget.specs.Work.{ChargedAt, Charged, Logged, marks_of}
+use Rattle.base_budget.proofs.Charging.{charged_value}
 use Rattle.quant_elim.specs.Logging.{with_log}
 
 logged : {A : Type 0} (w : Traced A) (o : Result A StepFault) (log : ElimLog) {f g : Funds} → ChargedAt w (at f []) o (at g (marks_of log)) → Logged w f (with_log o log) g

@@ -1,9 +1,9 @@
 -- The elimination of a formula, by those of its parts.
 use Rattle.std.proofs.Common.{◌≡◌, ◌<◌, ◌≤◌, ◌+◌, ℕ, zero, suc, true, List, [], ◌∷◌, drop, Result, refl, sym, ◌∙◌, ap, subst, arith}
-use Rattle.purse.specs.declared.fault.StepFault.{StepFault}
-use Rattle.purse.specs.Trace.{At, Traced, next, pay}
-use Rattle.purse.specs.Work.{ChargedAt}
-use Rattle.purse.proofs.Tracing.{next-same}
+use Rattle.base_budget.specs.declared.fault.StepFault.{StepFault}
+use Rattle.base_budget.specs.Trace.{At, Traced, next, pay}
+use Rattle.base_budget.specs.Work.{ChargedAt}
+use Rattle.base_budget.proofs.Tracing.{next-same}
 use Rattle.clause_set.specs.declared.literal.Literal.{Literal}
 use Rattle.clause_set.specs.Dnfs.{negation, top}
 use Rattle.formula.specs.declared.calculus.Core.{Core}

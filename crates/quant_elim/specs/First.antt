@@ -1,8 +1,8 @@
 -- The rule that comes first for a clause, with its entry in the log, and how far clauses are from being without a name.
 use Rattle.std.specs.Prelude.{ℕ, List, [], ◌∷◌, Option, Some, None, max}
-use Rattle.purse.specs.declared.log.Entry.{Entry}
-use Rattle.purse.specs.declared.log.Entry.TheVariants as entry
-use Rattle.purse.specs.Trace.{Traced, just, next}
+use Rattle.base_budget.specs.declared.log.Entry.{Entry}
+use Rattle.base_budget.specs.declared.log.Entry.TheVariants as entry
+use Rattle.base_budget.specs.Trace.{Traced, just, next}
 use Rattle.clause_set.specs.declared.literal.Literal.{Literal}
 use Rattle.clause_set.specs.Rules.{rule, first_rule, measure}
 use Rattle.omega_elim.specs.Projection.{bounds_entry}

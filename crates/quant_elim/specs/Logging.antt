@@ -1,10 +1,10 @@
 -- An outcome with the log of what was done.
 use Rattle.std.specs.Prelude.{Result, Ok, Err}
-use Rattle.purse.specs.declared.fault.StepFault.{StepFault}
-use Rattle.purse.specs.declared.fault.StepFault.TheVariants as step_fault
-use Rattle.purse.specs.declared.fault.ElimFault.{ElimFault}
-use Rattle.purse.specs.declared.fault.ElimFault.TheVariants.{Steps, Overflow, Memory}
-use Rattle.purse.specs.declared.log.ElimLog.{ElimLog}
+use Rattle.base_budget.specs.declared.fault.StepFault.{StepFault}
+use Rattle.base_budget.specs.declared.fault.StepFault.TheVariants as step_fault
+use Rattle.base_budget.specs.declared.fault.ElimFault.{ElimFault}
+use Rattle.base_budget.specs.declared.fault.ElimFault.TheVariants.{Steps, Overflow, Memory}
+use Rattle.base_budget.specs.declared.log.ElimLog.{ElimLog}
 
 -- the outcome and the log; want of memory has none
 abbrev pub with_log : {A : Type 0} → Result A StepFault → ElimLog → Result (A × ElimLog) ElimFault

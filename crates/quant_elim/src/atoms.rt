@@ -2,15 +2,15 @@
 
 ghost use Rattle.elim_laws.specs.Whole.{IsExact, eliminating};
 ghost use Rattle.formula.specs.Tree.{form};
-ghost use Rattle.purse.specs.Work.{Charged};
+ghost use Rattle.base_budget.specs.Work.{Charged};
 ghost use Rattle.quant_elim.specs.Atoms.{is_atom};
 ghost use Rattle.std.specs.Prelude.{◌≡◌, IfOk, true, ℕ};
 
 use super::knowing::know_terms;
+use base_budget::{Purse, StepFault};
 use clause_set::{Dnf, Literal};
 use elim_laws::{of_literal, of_unequal};
 use formula::Core;
-use purse::{Purse, StepFault};
 use std::alloc::Global;
 
 /// The disjunction of clauses that is true exactly where the atom f is: an equation, its negation or an inequality. It
@@ -26,7 +26,7 @@ pub fn atom(alloc: Global, f: &Core, purse: &mut Purse) -> Result<Dnf, StepFault
 }
 
 /// The same by the kind of the atom.
-#[tactic(auto, using(purse::proofs::Charging::no_memory, crate::proofs::Atomic::atomic))]
+#[tactic(auto, using(base_budget::proofs::Charging::no_memory, crate::proofs::Atomic::atomic))]
 fn by_kind(alloc: Global, f: &Core, purse: &mut Purse) -> Result<Dnf, StepFault>
     requires { is_atom (form f.now) ≡ true }
     ensures { Charged (eliminating 0 (form f.now)) purse.old result purse.new }

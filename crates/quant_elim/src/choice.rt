@@ -8,8 +8,8 @@ ghost use Rattle.std.specs.Option.{option_map};
 ghost use Rattle.std.specs.Prelude.{◌≡◌, ◌<◌, ◌+◌, ◌&&◌, drop, length, nat_lt, not, position, unsigned_abs};
 
 use clause_set::{Clause, Literal};
+use elim_steps::{is_divisibility, is_equation, is_indivisibility};
 use omega_elim::is_bounded;
-use step_code::{is_divisibility, is_equation, is_indivisibility};
 
 /// The rule that comes first, with the places of its literals in the clause.
 #[derive(Clone, Copy, Debug, PartialEq, Eq)]

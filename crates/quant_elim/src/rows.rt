@@ -2,21 +2,21 @@
 
 ghost use Rattle.clause_set.specs.Rules.{applies, first_rule, rule};
 ghost use Rattle.omega_elim.specs.Projection.{with_entry};
-ghost use Rattle.purse.specs.Work.{Charged};
-ghost use Rattle.purse.specs.declared.log.Entry.TheVariants.{Apart, Equation, Merge, Shift};
+ghost use Rattle.base_budget.specs.Work.{Charged};
+ghost use Rattle.base_budget.specs.declared.log.Entry.TheVariants.{Apart, Equation, Merge, Shift};
 ghost use Rattle.quant_elim.specs.First.{entry_of};
 ghost use Rattle.std.specs.Prelude.{◌≡◌, ◌<◌, ◌^◌, Some, true};
 
 use super::choice::Choice;
+use base_budget::{Entry, Purse, StepFault};
 use clause_set::Clause;
+use elim_rules::{apart_rule, equation_rule, merge_rule, shift_rule};
 use omega_elim::project;
-use purse::{Entry, Purse, StepFault};
-use rule_code::{apart_rule, equation_rule, merge_rule, shift_rule};
 use sqlite_items::Items;
 use std::alloc::Global;
 
 /// The rule of the equation at i, with its entry.
-#[tactic(auto, using(purse::proofs::Charging::charging, elim_laws::proofs::Positions::equation_paid))]
+#[tactic(auto, using(base_budget::proofs::Charging::charging, elim_laws::proofs::Positions::equation_paid))]
 fn equation_row(
     alloc: Global,
     c: Clause,
@@ -33,7 +33,7 @@ fn equation_row(
 }
 
 /// The rule of the negated divisibility at i, with its entry.
-#[tactic(auto, using(purse::proofs::Charging::charging, elim_laws::proofs::Positions::apart_paid))]
+#[tactic(auto, using(base_budget::proofs::Charging::charging, elim_laws::proofs::Positions::apart_paid))]
 fn apart_row(
     alloc: Global,
     c: Clause,
@@ -51,7 +51,7 @@ fn apart_row(
 }
 
 /// The rule of the divisibilities at i and j, with its entry.
-#[tactic(auto, using(purse::proofs::Charging::charging, elim_laws::proofs::Positions::merge_paid))]
+#[tactic(auto, using(base_budget::proofs::Charging::charging, elim_laws::proofs::Positions::merge_paid))]
 fn merge_row(
     alloc: Global,
     c: Clause,
@@ -69,7 +69,7 @@ fn merge_row(
 }
 
 /// The rule of the only divisibility, at i, with its entry.
-#[tactic(auto, using(purse::proofs::Charging::charging, elim_laws::proofs::Positions::shift_paid))]
+#[tactic(auto, using(base_budget::proofs::Charging::charging, elim_laws::proofs::Positions::shift_paid))]
 fn shift_row(
     alloc: Global,
     c: Clause,

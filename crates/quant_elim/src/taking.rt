@@ -2,22 +2,22 @@
 
 ghost use Rattle.elim_laws.specs.Elimination.{IsEvery, IsOut, exists_name, for_all_name, taken_out};
 ghost use Rattle.clause_set.specs.Rules.{unused};
-ghost use Rattle.purse.specs.Trace.{at, each};
-ghost use Rattle.purse.specs.Work.{Charged, ChargedAt, Logged, marks_of};
+ghost use Rattle.base_budget.specs.Trace.{at, each};
+ghost use Rattle.base_budget.specs.Work.{Charged, ChargedAt, Logged, marks_of};
 ghost use Rattle.quant_elim.specs.Logging.{with_log};
 ghost use Rattle.std.specs.Prelude.{◌≡◌, IfOk, [], ◌<◌, ◌-◌, ◌^◌, reverse};
 
 use super::choice::first_choice;
 use super::rows::row;
+use base_budget::{ElimFault, ElimLog, Purse, StepFault};
 use clause_set::{Clause, Dnf, not};
 use elim_laws::know_formed;
 use linear_term::Memory;
-use purse::{ElimFault, ElimLog, Purse, StepFault};
 use sqlite_items::Items;
 use std::alloc::Global;
 
 /// A clause without the name stays.
-#[tactic(auto, using(purse::proofs::Charging::charging))]
+#[tactic(auto, using(base_budget::proofs::Charging::charging))]
 fn staying(alloc: Global, c: Clause, purse: &mut Purse) -> Result<Items<Clause>, StepFault>
     ensures { Charged (unused c) purse.old result purse.new }
 {
@@ -45,7 +45,7 @@ fn turned_round(alloc: Global, cs: Items<Clause>) -> Result<Items<Clause>, Memor
 
 /// x out of c: each rule writes its entry behind those of the log.
 #[cycle(taking)]
-#[tactic(auto, using(purse::proofs::Charging::logging))]
+#[tactic(auto, using(base_budget::proofs::Charging::logging))]
 fn take_out(
     alloc: Global,
     c: Clause,
@@ -68,7 +68,7 @@ fn take_out(
 
 /// x out of each of the clauses that a rule left.
 #[cycle(taking)]
-#[tactic(auto, using(purse::proofs::Charging::logging, crate::proofs::Turning::turning))]
+#[tactic(auto, using(base_budget::proofs::Charging::logging, crate::proofs::Turning::turning))]
 fn take_out_all(
     alloc: Global,
     cs: Items<Clause>,
@@ -88,7 +88,7 @@ fn take_out_all(
 }
 
 /// x out of d, which is handed over, with the entries of the rules behind those of the log.
-#[tactic(auto, using(purse::proofs::Charging::logging))]
+#[tactic(auto, using(base_budget::proofs::Charging::logging))]
 pub(crate) fn take_name_out(
     alloc: Global,
     d: Dnf,
@@ -107,7 +107,7 @@ pub(crate) fn take_name_out(
 ///
 /// Refused with Steps exactly where a charge passes the budget, and else with Overflow exactly where a number that a rule
 /// computes leaves the range, which it names; the log then has the entries of the rules that were performed before.
-#[tactic(auto, using(purse::proofs::Charging::logging))]
+#[tactic(auto, using(base_budget::proofs::Charging::logging))]
 pub fn name_out(
     alloc: Global,
     d: &Dnf,
@@ -160,7 +160,7 @@ pub fn exists_name(
 }
 
 /// x out of d by "every value", with the entries behind those of the log.
-#[tactic(auto, using(purse::proofs::Charging::logging))]
+#[tactic(auto, using(base_budget::proofs::Charging::logging))]
 fn all_values(
     alloc: Global,
     d: &Dnf,

@@ -5,16 +5,16 @@ ghost use Rattle.elim_laws.specs.Whole.{AreOver, IsExact, all_of, any_of, elimin
 ghost use Rattle.formula.specs.Form.{IsFormOver, existential, is_pure, universal};
 ghost use Rattle.formula.specs.Sizes.{depth, depths};
 ghost use Rattle.formula.specs.Tree.{form, forms_of};
-ghost use Rattle.purse.specs.Trace.{at};
-ghost use Rattle.purse.specs.Work.{ChargedAt, Logged, marks_of};
+ghost use Rattle.base_budget.specs.Trace.{at};
+ghost use Rattle.base_budget.specs.Work.{ChargedAt, Logged, marks_of};
 ghost use Rattle.std.specs.Prelude.{◌≡◌, ◌+◌, ◌<◌, ◌≤◌, ◌^◌, [], IfOk, true};
 
 use super::atoms::atom;
 use super::knowing::know_terms;
 use super::taking::{take_name_out, with_log};
+use base_budget::{ElimFault, ElimLog, Purse, StepFault};
 use clause_set::{Dnf, and, not, or_into};
 use formula::{Core, dual, size};
-use purse::{ElimFault, ElimLog, Purse, StepFault};
 use sqlite_items::Items;
 use std::alloc::Global;
 
@@ -48,7 +48,7 @@ fn eliminate_form(
 
 /// The conjunction of the members.
 #[cycle(elimination)]
-#[tactic(auto, using(purse::proofs::Charging::logging))]
+#[tactic(auto, using(base_budget::proofs::Charging::logging))]
 fn conjunction_of(
     alloc: Global,
     members: &[Core],
@@ -70,7 +70,7 @@ fn conjunction_of(
 
 /// The disjunction of the members.
 #[cycle(elimination)]
-#[tactic(auto, using(purse::proofs::Charging::logging))]
+#[tactic(auto, using(base_budget::proofs::Charging::logging))]
 fn disjunction_of(
     alloc: Global,
     members: &[Core],
@@ -92,7 +92,7 @@ fn disjunction_of(
 
 /// The disjunction of "some value of the name `names` makes the body true".
 #[cycle(elimination)]
-#[tactic(auto, using(purse::proofs::Charging::logging))]
+#[tactic(auto, using(base_budget::proofs::Charging::logging))]
 fn some_value(
     alloc: Global,
     body: &Core,
@@ -110,7 +110,7 @@ fn some_value(
 
 /// The disjunction of "every value of the name `names` makes the body true": no value makes its negation true.
 #[cycle(elimination)]
-#[tactic(auto, using(purse::proofs::Charging::logging))]
+#[tactic(auto, using(base_budget::proofs::Charging::logging))]
 fn every_value(
     alloc: Global,
     body: &Core,

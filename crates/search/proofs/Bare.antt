@@ -6,8 +6,8 @@ use Rattle.std.proofs.lemmas.List.Elements.{All-from_recursion, recursion_from_A
 use Rattle.linear_term.proofs.Names.{combination-over}
 use Rattle.clause_set.specs.Weight.{weight}
 use Rattle.linear_term.specs.Linear.{Linear, IsOver}
-use Rattle.purse.specs.Runs.{total}
-use Rattle.purse.specs.Trace.{capped, Traced, just, step, next}
+use Rattle.base_budget.specs.Runs.{total}
+use Rattle.base_budget.specs.Trace.{capped, Traced, just, step, next}
 use Rattle.clause_set.specs.declared.literal.Literal.{Literal}
 use Rattle.clause_set.specs.declared.literal.Literal.TheVariants.{Eq, Geq}
 use Rattle.clause_set.specs.declared.literal.Norm.{Norm}

@@ -2,10 +2,10 @@
 use Rattle.std.proofs.Common.{◌≡◌, ℕ, suc, ◌+◌, ℤ, Bool, true, false, cond, ◌&&◌, nat_eq, nat_lt, List, [], ◌∷◌, ◌++◌, length, map, refl, sym, ◌∙◌, ap, arith, Option, Some, None}
 use Rattle.std.specs.List.{list_all}
 use Rattle.linear_term.specs.Range.{is_in_range}
-use Rattle.purse.specs.declared.log.ElimLog.{ElimLog}
-use Rattle.purse.specs.Runs.{total}
-use Rattle.purse.specs.Trace.{Mark, Traced, just, step, next, note, enter, each}
-use Rattle.purse.proofs.Tracing.{value-next}
+use Rattle.base_budget.specs.declared.log.ElimLog.{ElimLog}
+use Rattle.base_budget.specs.Runs.{total}
+use Rattle.base_budget.specs.Trace.{Mark, Traced, just, step, next, note, enter, each}
+use Rattle.base_budget.proofs.Tracing.{value-next}
 use Rattle.clause_set.specs.declared.literal.Literal.{Literal}
 use Rattle.clause_set.specs.declared.literal.Literal.TheVariants.{Eq, Geq, Div, NDiv}
 use Rattle.clause_set.specs.Dnfs.{tidied}
@@ -17,7 +17,7 @@ use Rattle.formula.specs.Form.{Form, equal, unequal, at_least, holds, fails, dif
 use Rattle.sequent.specs.declared.member.Pick.{Pick}
 use Rattle.sequent.specs.Rules.{allowed, picked, premises_of, shape}
 use Rattle.sequent.specs.Sequent.{Sequent}
-use Rattle.solution_laws.specs.Solutions.{answered, solving, valued, valued_clause}
+use Rattle.solve_laws.specs.Solutions.{answered, solving, valued, valued_clause}
 use Rattle.proof_tree.specs.declared.node.Conclusion.{Conclusion}
 use Rattle.proof_tree.specs.declared.node.Conclusion.TheVariants.{Solution, Nothing}
 use Rattle.proof_tree.specs.Proof.{Proof, node, given, proofs}
@@ -26,7 +26,7 @@ use Rattle.proof_tree.specs.declared.run.Verdict.{Verdict}
 use Rattle.proof_tree.specs.declared.run.Verdict.TheVariants.{Invalid}
 use Rattle.proof_tree.specs.Walk.{in_new_log, is_same, nodes_in, on_some, walked}
 use Rattle.proof_tree.proofs.Walking.{gives_walked, some_then}
-use Rattle.limits.specs.Limits.{branch_limit}
+use Rattle.base_limits.specs.Limits.{branch_limit}
 use Rattle.search.specs.Building.{all_built, built, canonical_constraint}
 use Rattle.search.specs.Rounds.{solved_of, solving_of}
 use Rattle.search.proofs.Pures.{pick_of, pure_pick}

@@ -1,8 +1,8 @@
 -- Closed comparisons are decided by a budget of seven steps a node.
 use Rattle.std.proofs.Common.{◌≡◌, ◌+◌, ◌*◌, ◌≤◌, ◌<◌, ◌&&◌, ℕ, true, cond, nat_lt, List, [], ◌∷◌, ◌++◌, refl, sym, ◌∙◌, ap, subst, arith}
-use Rattle.purse.specs.Runs.{total}
-use Rattle.purse.specs.Trace.{Funds, Event, charge, At, at, capped, cut, done, refused, out_of_range, End, Traced, just, step, next, note, round}
-use Rattle.purse.proofs.Meaning.{refused_where_passes}
+use Rattle.base_budget.specs.Runs.{total}
+use Rattle.base_budget.specs.Trace.{Funds, Event, charge, At, at, capped, cut, done, refused, out_of_range, End, Traced, just, step, next, note, round}
+use Rattle.base_budget.proofs.Meaning.{refused_where_passes}
 use Rattle.clause_set.specs.declared.literal.Literal.{Literal}
 use Rattle.formula.specs.Form as tree
 use Rattle.formula.specs.Form.{Form, Forms, IsFormOver, is_pure, are_pure}
@@ -15,14 +15,14 @@ use Rattle.sequent.specs.declared.member.Pick.{Pick}
 use Rattle.sequent.specs.declared.member.Pick.TheVariants as pick
 use Rattle.sequent.specs.Rules.{allowed, brought, picked, shape}
 use Rattle.sequent.specs.Sequent.{Sequent}
-use Rattle.solution_laws.specs.Solutions.{answered, solving}
+use Rattle.solve_laws.specs.Solutions.{answered, solving}
 use Rattle.pred_unify.specs.Pairs.{closing_of, pairs_of, pures}
 use Rattle.proof_tree.specs.Proves.{start}
 use Rattle.proof_tree.specs.Walk.{fee, in_new_log}
 use Rattle.search.specs.Building.{canonical_constraint}
 use Rattle.search.specs.Closed.{IsClosed, AreClosed}
 use Rattle.search.specs.Pure.{answer_of, at_root, solved}
-use Rattle.purse.specs.Ending.{ended, ending, out_of_steps}
+use Rattle.base_budget.specs.Ending.{ended, ending, out_of_steps}
 use Rattle.search.specs.Run.{RunAnswer, canonical_run}
 use Rattle.search.proofs.Bare.{capped_below, eliminating_steps}
 use Rattle.search.proofs.Pures.{pick_of, pure_pick, pure_run_is}

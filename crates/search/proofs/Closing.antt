@@ -2,15 +2,15 @@
 use Rattle.std.proofs.Common.{rules, arith, ◌≡◌, ◌==◌, ◌+◌, ℕ, true, List, [], ◌∷◌, length, Result, Ok, Err, refl, subst, sym}
 use Rattle.linear_term.specs.declared.range.TermFault.{TermFault}
 use Rattle.linear_term.specs.declared.range.TermFault.TheVariants as term_fault
-use Rattle.purse.specs.declared.log.ElimLog.{ElimLog}
-use Rattle.purse.specs.declared.fault.ElimFault.{ElimFault}
-use Rattle.purse.specs.declared.fault.ElimFault.TheVariants.{Steps, Overflow, Memory}
-use Rattle.purse.specs.declared.fault.StepFault.{StepFault}
-use Rattle.purse.specs.declared.fault.StepFault.TheVariants as step_fault
-use Rattle.purse.specs.Trace.{Funds, Traced, just, next, pay}
-use Rattle.purse.specs.Work.{Charged, Logged}
-use Rattle.purse.proofs.Charging.{free, no_memory, then_fault, then_just, then_ok}
-use Rattle.purse.proofs.Tracing.{next-just}
+use Rattle.base_budget.specs.declared.log.ElimLog.{ElimLog}
+use Rattle.base_budget.specs.declared.fault.ElimFault.{ElimFault}
+use Rattle.base_budget.specs.declared.fault.ElimFault.TheVariants.{Steps, Overflow, Memory}
+use Rattle.base_budget.specs.declared.fault.StepFault.{StepFault}
+use Rattle.base_budget.specs.declared.fault.StepFault.TheVariants as step_fault
+use Rattle.base_budget.specs.Trace.{Funds, Traced, just, next, pay}
+use Rattle.base_budget.specs.Work.{Charged, Logged}
+use Rattle.base_budget.proofs.Charging.{free, no_memory, then_fault, then_just, then_ok}
+use Rattle.base_budget.proofs.Tracing.{next-just}
 use Rattle.clause_set.specs.declared.literal.Literal.{Literal}
 use Rattle.clause_set.specs.Dnfs.{tidied, tidying}
 use Rattle.clause_set.specs.Order.{sorted_once}

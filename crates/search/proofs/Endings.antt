@@ -1,10 +1,10 @@
 -- The end of the canonical run does not depend on how many rounds it was given, once the budget cannot pay for more.
 use Rattle.std.proofs.Common.{◌≡◌, ℕ, suc, zero, ◌+◌, ◌-◌, ◌<◌, ◌≤◌, List, [], ◌∷◌, ◌++◌, refl, sym, ◌∙◌, ap, arith, Option, Some, None}
-use Rattle.purse.specs.Trace.{Event, charge, raw, mark, capped, At, at, End, done, refused, out_of_range, cut, Traced, step, next}
-use Rattle.purse.specs.Followed.{Later}
-use Rattle.purse.specs.Runs.{total, RunsThrough}
-use Rattle.purse.proofs.Cutting.{resume, cut-append}
-use Rattle.purse.proofs.Meaning.{passes_where_runs}
+use Rattle.base_budget.specs.Trace.{Event, charge, raw, mark, capped, At, at, End, done, refused, out_of_range, cut, Traced, step, next}
+use Rattle.base_budget.specs.Followed.{Later}
+use Rattle.base_budget.specs.Runs.{total, RunsThrough}
+use Rattle.base_budget.proofs.Cutting.{resume, cut-append}
+use Rattle.base_budget.proofs.Meaning.{passes_where_runs}
 use Rattle.formula.specs.Form.{Form}
 use Rattle.sequent.specs.declared.member.Pick.{Pick}
 use Rattle.sequent.specs.Rules.{picked, place}
@@ -13,9 +13,9 @@ use Rattle.proof_tree.specs.Proof.{Proof}
 use Rattle.proof_tree.specs.Proves.{start}
 use Rattle.proof_tree.specs.Walk.{fee, fee_by}
 use Rattle.search.specs.Building.{built, entered}
-use Rattle.purse.specs.Ending.{Ending, out_of_steps, overflows, ended, ending}
+use Rattle.base_budget.specs.Ending.{Ending, out_of_steps, overflows, ended, ending}
 use Rattle.search.specs.Run.{judged, one_round, or_further, rounds, canonical_run, OneEnd}
-use Rattle.limits.specs.Limits.{branch_limit}
+use Rattle.base_limits.specs.Limits.{branch_limit}
 
 -- what has passed
 passed : (es : List Event) (a b : At) → a.funds.spent ≤ a.funds.budget → cut es a ≡ done b → RunsThrough es a b

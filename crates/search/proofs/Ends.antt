@@ -4,13 +4,13 @@ use Rattle.std.specs.Prelude.{IsSome}
 use Rattle.std.specs.Option.{option_map}
 use Rattle.std.proofs.lemmas.List.{append-nil}
 use Rattle.linear_term.specs.declared.range.Memory.{Memory}
-use Rattle.purse.specs.declared.fault.StepFault.{StepFault}
-use Rattle.purse.specs.declared.fault.StepFault.TheVariants as step_fault
-use Rattle.purse.specs.declared.log.ElimLog.{ElimLog}
-use Rattle.purse.specs.Followed.{after_notes, Followed, Later}
-use Rattle.purse.specs.Runs.{total}
-use Rattle.purse.specs.Trace.{Funds, Mark, Traced, at, stand}
-use Rattle.purse.proofs.Advancing.{followed_later}
+use Rattle.base_budget.specs.declared.fault.StepFault.{StepFault}
+use Rattle.base_budget.specs.declared.fault.StepFault.TheVariants as step_fault
+use Rattle.base_budget.specs.declared.log.ElimLog.{ElimLog}
+use Rattle.base_budget.specs.Followed.{after_notes, Followed, Later}
+use Rattle.base_budget.specs.Runs.{total}
+use Rattle.base_budget.specs.Trace.{Funds, Mark, Traced, at, stand}
+use Rattle.base_budget.proofs.Advancing.{followed_later}
 use Rattle.clause_set.specs.declared.literal.Literal.{Literal}
 use Rattle.formula.specs.Form.{Form}
 use Rattle.proof_tree.specs.declared.node.Conclusion.TheVariants.{Solution, Nothing}
@@ -31,7 +31,7 @@ use Rattle.search.specs.declared.judge.Outcome.TheVariants as outcome
 use Rattle.search.specs.Course.{noted}
 use Rattle.search.specs.Outcomes.{DecidesAs, EndsAs, IsRun, no_course, run_of, stopped_by}
 use Rattle.search.specs.Rounds.{HasRoot, IsAnswer, IsOutcome, decided_of}
-use Rattle.purse.specs.Ending.{ended, ending, ends_with}
+use Rattle.base_budget.specs.Ending.{ended, ending, ends_with}
 use Rattle.search.specs.Run.{RunAnswer, canonical_run, invalid, saturated, too_long, valid}
 use Rattle.search.specs.Walking.{Gets, IsKeptNode}
 use Rattle.search.proofs.Nodes.{node_of, of_node}

@@ -1,7 +1,7 @@
 -- The constraint of a canonical tree is in form, and speaks of the constants of its sequent alone.
 use Rattle.std.proofs.Common.{◌≡◌, ℕ, Some}
 use Rattle.sequent.specs.Sequent.{Sequent, IsFormedSequent}
-use Rattle.solution_laws.specs.Solutions.{IsGiven}
+use Rattle.solve_laws.specs.Solutions.{IsGiven}
 use Rattle.proof_tree.specs.Proof.{Proof, given}
 use Rattle.proof_tree.specs.Reduced.{IsReducedSequent}
 use Rattle.proof_tree.proofs.Given.{node_given}

@@ -3,16 +3,16 @@ use Rattle.std.proofs.Common.{◌≡◌, ℕ, zero, suc, ◌+◌, ◌-◌, ◌�
 use Rattle.std.proofs.lemmas.List.{drop_more}
 use Rattle.std.proofs.lemmas.Option.{get_or_from_slice_get, slice_get_within}
 use Rattle.std.specs.List.{list_any, slice_get}
-use Rattle.purse.specs.declared.fault.StepFault.{StepFault}
-use Rattle.purse.specs.declared.fault.StepFault.TheVariants.{Memory}
-use Rattle.purse.specs.declared.log.ElimLog.{ElimLog}
-use Rattle.purse.specs.declared.log.Entry.{Entry}
-use Rattle.purse.specs.Followed.{Followed, Later}
-use Rattle.purse.specs.Trace.{Funds, Traced, capped, just, step, next, note, pay, enter, back}
-use Rattle.purse.specs.Work.{Charged}
-use Rattle.purse.proofs.Advancing.{followed_later, followed_whole}
-use Rattle.purse.proofs.Following.{Going, follow_err, follow_just, follow_memory, follow_note, follow_ok, follow_unnoted, going_all, going_ends, going_next}
-use Rattle.purse.proofs.Tracing.{next-assoc, next-just, next-same}
+use Rattle.base_budget.specs.declared.fault.StepFault.{StepFault}
+use Rattle.base_budget.specs.declared.fault.StepFault.TheVariants.{Memory}
+use Rattle.base_budget.specs.declared.log.ElimLog.{ElimLog}
+use Rattle.base_budget.specs.declared.log.Entry.{Entry}
+use Rattle.base_budget.specs.Followed.{Followed, Later}
+use Rattle.base_budget.specs.Trace.{Funds, Traced, capped, just, step, next, note, pay, enter, back}
+use Rattle.base_budget.specs.Work.{Charged}
+use Rattle.base_budget.proofs.Advancing.{followed_later, followed_whole}
+use Rattle.base_budget.proofs.Following.{Going, follow_err, follow_just, follow_memory, follow_note, follow_ok, follow_unnoted, going_all, going_ends, going_next}
+use Rattle.base_budget.proofs.Tracing.{next-assoc, next-just, next-same}
 use Rattle.clause_set.specs.declared.literal.Literal.{Literal}
 use Rattle.sequent.specs.declared.member.Pick.{Pick}
 use Rattle.sequent.specs.declared.member.Pick.TheVariants as pick

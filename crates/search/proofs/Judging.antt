@@ -1,14 +1,14 @@
 -- One round, by the calls that make it.
 use Rattle.std.proofs.Common.{◌≡◌, ℕ, ◌+◌, ◌-◌, ◌≤◌, ℤ, Bool, true, false, cond, List, refl, sym, ◌∙◌, ap, subst, arith, Option, Some, None, Result, Ok, Err, IsErrAnd}
-use Rattle.purse.specs.declared.fault.StepFault.{StepFault}
-use Rattle.purse.specs.declared.fault.StepFault.TheVariants.{Memory}
-use Rattle.purse.specs.declared.log.ElimLog.{ElimLog}
-use Rattle.purse.specs.Followed.{Followed}
-use Rattle.purse.specs.Runs.{total}
-use Rattle.purse.specs.Trace.{Funds, At, Traced, just, next, round, step}
-use Rattle.purse.proofs.Advancing.{followed_whole}
-use Rattle.purse.proofs.Following.{follow_err, follow_just, follow_note, follow_ok, followed_value}
-use Rattle.purse.proofs.Tracing.{next-assoc, next-just, next-same}
+use Rattle.base_budget.specs.declared.fault.StepFault.{StepFault}
+use Rattle.base_budget.specs.declared.fault.StepFault.TheVariants.{Memory}
+use Rattle.base_budget.specs.declared.log.ElimLog.{ElimLog}
+use Rattle.base_budget.specs.Followed.{Followed}
+use Rattle.base_budget.specs.Runs.{total}
+use Rattle.base_budget.specs.Trace.{Funds, At, Traced, just, next, round, step}
+use Rattle.base_budget.proofs.Advancing.{followed_whole}
+use Rattle.base_budget.proofs.Following.{follow_err, follow_just, follow_note, follow_ok, followed_value}
+use Rattle.base_budget.proofs.Tracing.{next-assoc, next-just, next-same}
 use Rattle.clause_set.specs.declared.literal.Literal.{Literal}
 use Rattle.elim_laws.specs.Logs.{entries_of}
 use Rattle.elim_laws.specs.Whole.{AreOver, names_out}
@@ -16,7 +16,7 @@ use Rattle.formula.specs.Form.{Form, IsFormOver, is_pure}
 use Rattle.parameter_solver.specs.declared.solving.Solved.{Solved}
 use Rattle.sequent.specs.Sequent.{Sequent}
 use Rattle.sequent.proofs.Forming.{start_formed}
-use Rattle.solution_laws.specs.Solutions.{solving}
+use Rattle.solve_laws.specs.Solutions.{solving}
 use Rattle.proof_tree.specs.declared.node.Conclusion.{Conclusion}
 use Rattle.proof_tree.specs.declared.node.Conclusion.TheVariants.{Nothing, Solution}
 use Rattle.proof_tree.specs.Proof.{Proof, given}
@@ -31,7 +31,7 @@ use Rattle.search.specs.Building.{built}
 use Rattle.search.specs.Course.{noted}
 use Rattle.search.specs.Rounds.{IsAnswer, IsTreeOf, found_by, solved_of, solving_of}
 use Rattle.search.specs.Run.{RunAnswer, concluded, has_open_leaf, invalid, judged, one_round, saturated, too_long}
-use Rattle.limits.specs.Limits.{branch_limit}
+use Rattle.base_limits.specs.Limits.{branch_limit}
 use Rattle.search.specs.Walking.{IsGrown, Makes}
 use Rattle.search.proofs.Charges.{invalid_charges, saturated_charges, solving_charges, valid_charges}
 use Rattle.search.proofs.Given.{built-given}

@@ -1,7 +1,7 @@
 -- The log of a canonical constraint, redone, makes the same constraint with the same events.
 use Rattle.std.proofs.Common.{◌≡◌, ℕ, suc, List, [], ◌∷◌, ◌++◌, Some, sym, ◌∙◌, ap}
-use Rattle.purse.specs.Trace.{Traced, just, next, note, new_log}
-use Rattle.purse.proofs.Tracing.{next-same, next-assoc, next-just}
+use Rattle.base_budget.specs.Trace.{Traced, just, next, note, new_log}
+use Rattle.base_budget.proofs.Tracing.{next-same, next-assoc, next-just}
 use Rattle.clause_set.specs.declared.literal.Literal.{Literal}
 use Rattle.clause_set.specs.Dnfs.{conjunction, top}
 use Rattle.linear_term.specs.Linear.{Linear}

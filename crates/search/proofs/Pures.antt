@@ -1,7 +1,7 @@
 -- The canonical run on a pure formula is one round of one node.
 use Rattle.std.proofs.Common.{◌≡◌, ℕ, ℤ, Bool, true, cond, nat_lt, List, [], refl, ◌∙◌, ap, Option, Some, None}
-use Rattle.purse.specs.Trace.{Traced, just, next, note, pay, round, enter, back}
-use Rattle.purse.proofs.Tracing.{next-assoc, next-just, next-same}
+use Rattle.base_budget.specs.Trace.{Traced, just, next, note, pay, round, enter, back}
+use Rattle.base_budget.proofs.Tracing.{next-assoc, next-just, next-same}
 use Rattle.clause_set.specs.declared.literal.Literal.{Literal}
 use Rattle.elim_laws.specs.Logs.{entries_of}
 use Rattle.elim_laws.specs.Whole.{names_out}
@@ -12,14 +12,14 @@ use Rattle.sequent.specs.declared.member.Shape.{Shape}
 use Rattle.sequent.specs.declared.member.Shape.TheVariants.{Trivial, Alpha, Delta, Beta, Gamma}
 use Rattle.sequent.specs.Rules.{allowed, at_place, is_shape, or_else, picked, premises_of, shape, suc_place}
 use Rattle.sequent.specs.Sequent.{Sequent}
-use Rattle.solution_laws.specs.Solutions.{solving}
+use Rattle.solve_laws.specs.Solutions.{solving}
 use Rattle.proof_tree.specs.Proof.{Proof}
 use Rattle.proof_tree.specs.Proves.{start}
 use Rattle.proof_tree.specs.Walk.{fee, in_new_log, on_some}
 use Rattle.search.specs.Building.{all_built, built, canonical_constraint, entered, finished}
 use Rattle.search.specs.Pure.{answer_of, at_root, leaf, pure_run, solved}
 use Rattle.search.specs.Run.{RunAnswer, canonical_run, concluded, has_open_leaf, judged, or_further, rounds, saturated}
-use Rattle.limits.specs.Limits.{branch_limit}
+use Rattle.base_limits.specs.Limits.{branch_limit}
 
 -- ---- the rule that a pure formula takes has no premises
 -- the pick of a sequent whose one member fits so

@@ -1,8 +1,8 @@
 -- The canonical tree gives its constraint, and the walk over it is the work of building it: the same events in the same order.
 use Rattle.std.proofs.Common.{◌≡◌, ℕ, suc, zero, ◌+◌, Bool, true, false, cond, List, [], ◌∷◌, ◌++◌, map, refl, sym, ◌∙◌, ap, subst, append_assoc, Option, Some, None}
 use Rattle.std.proofs.lemmas.List.{append-nil}
-use Rattle.purse.specs.declared.log.Entry.{Entry}
-use Rattle.purse.specs.Trace.{enter, back, charge, mark, Traced, just, step, next, pay}
+use Rattle.base_budget.specs.declared.log.Entry.{Entry}
+use Rattle.base_budget.specs.Trace.{enter, back, charge, mark, Traced, just, step, next, pay}
 use Rattle.clause_set.specs.declared.literal.Literal.{Literal}
 use Rattle.elim_laws.specs.Logs.{by_whole_log, entries_of}
 use Rattle.elim_laws.proofs.Wholes.{whole_does}

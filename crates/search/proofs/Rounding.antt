@@ -1,11 +1,11 @@
 -- The loop over rounds.
 use Rattle.std.proofs.Common.{◌≡◌, ℕ, suc, ◌+◌, ◌-◌, ◌≤◌, refl, ◌∙◌, ap, sym, subst, arith, Some, None, Result, Ok, Err, IsErrAnd}
-use Rattle.purse.specs.declared.fault.StepFault.{StepFault}
-use Rattle.purse.specs.Followed.{Followed}
-use Rattle.purse.specs.Runs.{total}
-use Rattle.purse.specs.Trace.{Funds, At, Traced}
-use Rattle.purse.proofs.Advancing.{followed_later, followed_whole}
-use Rattle.purse.proofs.Following.{Going, follow_err, follow_just, follow_ok, going_all, going_ends, going_next}
+use Rattle.base_budget.specs.declared.fault.StepFault.{StepFault}
+use Rattle.base_budget.specs.Followed.{Followed}
+use Rattle.base_budget.specs.Runs.{total}
+use Rattle.base_budget.specs.Trace.{Funds, At, Traced}
+use Rattle.base_budget.proofs.Advancing.{followed_later, followed_whole}
+use Rattle.base_budget.proofs.Following.{Going, follow_err, follow_just, follow_ok, going_all, going_ends, going_next}
 use Rattle.formula.specs.Form.{Form}
 use Rattle.search.specs.declared.course.Course.{Course}
 use Rattle.search.specs.declared.judge.Found.{Found}

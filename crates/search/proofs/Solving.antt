@@ -3,16 +3,16 @@ use Rattle.std.proofs.Common.{◌≡◌, ℕ, ℤ, cond, nat_le, Bool, true, fal
 use Rattle.std.proofs.lemmas.List.{append-nil}
 use Rattle.std.specs.List.{AllByRecursion}
 use Rattle.linear_term.specs.Range.{all_stay}
-use Rattle.purse.specs.declared.log.Entry.{Entry}
-use Rattle.purse.specs.declared.log.ElimLog.{ElimLog}
-use Rattle.purse.specs.declared.fault.StepFault.{StepFault}
-use Rattle.purse.specs.declared.fault.ElimFault.{ElimFault}
-use Rattle.purse.specs.declared.fault.ElimFault.TheVariants.{Steps, Overflow, Memory}
-use Rattle.purse.specs.Followed.{after_notes, Followed}
-use Rattle.purse.specs.Runs.{notes}
-use Rattle.purse.specs.Trace.{Funds, Mark, entry, new_log, round, enter, back, Event, charge, raw, mark, At, at, End, done, refused, out_of_range, cut, stand, after_charge, after_mark, Traced, just}
-use Rattle.purse.specs.Work.{ChargedAt, Logged, marks_of}
-use Rattle.purse.proofs.Following.{follow_ok, follow_fault, follow_just, follow_note}
+use Rattle.base_budget.specs.declared.log.Entry.{Entry}
+use Rattle.base_budget.specs.declared.log.ElimLog.{ElimLog}
+use Rattle.base_budget.specs.declared.fault.StepFault.{StepFault}
+use Rattle.base_budget.specs.declared.fault.ElimFault.{ElimFault}
+use Rattle.base_budget.specs.declared.fault.ElimFault.TheVariants.{Steps, Overflow, Memory}
+use Rattle.base_budget.specs.Followed.{after_notes, Followed}
+use Rattle.base_budget.specs.Runs.{notes}
+use Rattle.base_budget.specs.Trace.{Funds, Mark, entry, new_log, round, enter, back, Event, charge, raw, mark, At, at, End, done, refused, out_of_range, cut, stand, after_charge, after_mark, Traced, just}
+use Rattle.base_budget.specs.Work.{ChargedAt, Logged, marks_of}
+use Rattle.base_budget.proofs.Following.{follow_ok, follow_fault, follow_just, follow_note}
 use Rattle.clause_set.specs.declared.literal.Literal.{Literal}
 use Rattle.clause_set.proofs.Divisors.{kept-append}
 use Rattle.elim_laws.specs.Logs.{IsOfLog, NotesLogs, entries_of}
@@ -22,8 +22,8 @@ use Rattle.parameter_solver.specs.declared.solving.Solved.{Solved}
 use Rattle.parameter_solver.specs.declared.solving.Solved.TheVariants as solved
 use Rattle.sequent.specs.declared.member.Pick.{Pick}
 use Rattle.sequent.specs.Sequent.{Sequent}
-use Rattle.solution_laws.specs.Solutions.{solving}
-use Rattle.solution_laws.proofs.Noting.{solving_logs}
+use Rattle.solve_laws.specs.Solutions.{solving}
+use Rattle.solve_laws.proofs.Noting.{solving_logs}
 use Rattle.proof_tree.specs.Walk.{in_new_log}
 use Rattle.search.specs.declared.course.Course.{Course}
 use Rattle.search.specs.Building.{canonical_constraint}

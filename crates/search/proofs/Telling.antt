@@ -1,6 +1,6 @@
 -- What the end of the canonical run says.
 use Rattle.std.proofs.Common.{◌≡◌, ℕ, zero, suc, ℤ, Bool, true, false, cond, nat_lt, List, [], refl, sym, ◌∙◌, ap, subst, Option, Some, None}
-use Rattle.purse.specs.Trace.{Funds, At, at, End, done, refused, out_of_range, cut, Traced, just, step, next}
+use Rattle.base_budget.specs.Trace.{Funds, At, at, End, done, refused, out_of_range, cut, Traced, just, step, next}
 use Rattle.clause_set.specs.Literals.{dnf_truth}
 use Rattle.elim_laws.specs.Logs.{entries_of}
 use Rattle.elim_laws.specs.Whole.{names_out}
@@ -8,16 +8,16 @@ use Rattle.formula.specs.Form.{Form, IsFormOver, is_pure}
 use Rattle.formula.specs.Reduced.{HasReducedTerms}
 use Rattle.sequent.specs.Rules.{picked, premises_of}
 use Rattle.sequent.proofs.Forming.{start_formed}
-use Rattle.solution_laws.specs.Solutions.{IsGiven, solving}
-use Rattle.solution_laws.proofs.Solving.{solving-best, solving-none}
+use Rattle.solve_laws.specs.Solutions.{IsGiven, solving}
+use Rattle.solve_laws.proofs.Solving.{solving-best, solving-none}
 use Rattle.proof_tree.specs.Proof.{Proof, given}
 use Rattle.proof_tree.specs.Proves.{is_root_rule, rule_of, start}
 use Rattle.proof_tree.proofs.Proving.{root_covers, root_exact}
 use Rattle.search.specs.Building.{all_built, built}
 use Rattle.search.specs.Meaning.{Tells}
-use Rattle.purse.specs.Ending.{ends_with, ended, ending}
+use Rattle.base_budget.specs.Ending.{ends_with, ended, ending}
 use Rattle.search.specs.Run.{RunAnswer, canonical_run, concluded, has_open_leaf, invalid, judged, one_round, or_further, rounds, saturated}
-use Rattle.limits.specs.Limits.{branch_limit}
+use Rattle.base_limits.specs.Limits.{branch_limit}
 use Rattle.search.proofs.Charges.{built_rule, root_rule}
 use Rattle.search.proofs.Given.{built-given}
 use Rattle.search.proofs.Pures.{no_premises, pure_pick}

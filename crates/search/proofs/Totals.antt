@@ -1,7 +1,7 @@
 -- What work in a row charges.
 use Rattle.std.proofs.Common.{◌≡◌, ◌+◌, [], ◌∷◌, refl, arith}
-use Rattle.purse.specs.Runs.{total}
-use Rattle.purse.specs.Trace.{mark, Traced, just, step, next, new_log}
+use Rattle.base_budget.specs.Runs.{total}
+use Rattle.base_budget.specs.Trace.{mark, Traced, just, step, next, new_log}
 use Rattle.proof_tree.specs.Walk.{in_new_log}
 use Rattle.search.proofs.Endings.{total-append}
 

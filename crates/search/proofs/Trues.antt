@@ -1,10 +1,10 @@
 -- The conjunction of constraints that are true.
 use Rattle.std.proofs.Common.{◌≡◌, ℕ, ◌+◌, ◌<◌, ◌≤◌, Bool, true, false, ◌&&◌, List, [], ◌∷◌, drop, get_or, length, Result, Ok, Err, IsErrAnd, refl, sym, subst, ap, ◌∙◌}
-use Rattle.purse.specs.declared.fault.StepFault.{StepFault}
-use Rattle.purse.specs.Trace.{At, Traced, just, next, pay}
-use Rattle.purse.specs.Work.{ChargedAt, Remains}
-use Rattle.purse.proofs.Charging.{drop-item, drop_all, remains_ends, remains_next, then_fault, then_just, then_ok}
-use Rattle.purse.proofs.Tracing.{next-assoc}
+use Rattle.base_budget.specs.declared.fault.StepFault.{StepFault}
+use Rattle.base_budget.specs.Trace.{At, Traced, just, next, pay}
+use Rattle.base_budget.specs.Work.{ChargedAt, Remains}
+use Rattle.base_budget.proofs.Charging.{drop-item, drop_all, remains_ends, remains_next, then_fault, then_just, then_ok}
+use Rattle.base_budget.proofs.Tracing.{next-assoc}
 use Rattle.clause_set.specs.declared.literal.Literal.{Literal}
 use Rattle.clause_set.specs.Clauses.{clause_of, compact}
 use Rattle.clause_set.specs.Dnfs.{conjunction, tidied, top}

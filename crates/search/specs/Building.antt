@@ -1,6 +1,6 @@
 -- The canonical tree of a sequent: on each branch the first rule that fits, depth first, with the charges of its nodes.
 use Rattle.std.specs.Prelude.{ℕ, zero, suc, ◌+◌, List, [], ◌∷◌, ◌++◌, map, Option, Some, None}
-use Rattle.purse.specs.Trace.{Traced, just, next, pay, note, enter, back}
+use Rattle.base_budget.specs.Trace.{Traced, just, next, pay, note, enter, back}
 use Rattle.clause_set.specs.declared.literal.Literal.{Literal}
 use Rattle.clause_set.specs.Dnfs.{top}
 use Rattle.elim_laws.specs.Elimination.{exists_name, for_all_name}

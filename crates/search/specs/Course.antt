@@ -1,14 +1,14 @@
 -- Where a run over trees is: what its notes say.
 use Rattle.std.specs.Prelude.{◌≡◌, ◌+◌, List, [], ◌∷◌, ◌++◌, Result, Ok, Err}
 use Rattle.std.specs.List.{AllByRecursion}
-use Rattle.purse.specs.declared.log.ElimLog.{ElimLog}
-use Rattle.purse.specs.declared.fault.StepFault.{StepFault}
-use Rattle.purse.specs.declared.fault.StepFault.TheVariants as step_fault
-use Rattle.purse.specs.declared.fault.ElimFault.{ElimFault}
-use Rattle.purse.specs.declared.fault.ElimFault.TheVariants.{Steps, Overflow, Memory}
-use Rattle.purse.specs.Followed.{after_notes}
-use Rattle.purse.specs.Trace.{Funds, Mark, entry, new_log, round, enter, back, at, Traced}
-use Rattle.purse.specs.Work.{ChargedAt}
+use Rattle.base_budget.specs.declared.log.ElimLog.{ElimLog}
+use Rattle.base_budget.specs.declared.fault.StepFault.{StepFault}
+use Rattle.base_budget.specs.declared.fault.StepFault.TheVariants as step_fault
+use Rattle.base_budget.specs.declared.fault.ElimFault.{ElimFault}
+use Rattle.base_budget.specs.declared.fault.ElimFault.TheVariants.{Steps, Overflow, Memory}
+use Rattle.base_budget.specs.Followed.{after_notes}
+use Rattle.base_budget.specs.Trace.{Funds, Mark, entry, new_log, round, enter, back, at, Traced}
+use Rattle.base_budget.specs.Work.{ChargedAt}
 use Rattle.elim_laws.specs.Logs.{IsOfLog}
 use Rattle.search.specs.declared.course.Course.{Course}
 

@@ -1,11 +1,11 @@
 -- What the end of the canonical run says of the formula.
 use Rattle.std.specs.Prelude.{◌≡◌, ℕ, ℤ, true, false, List, length}
-use Rattle.typed_formula.specs.Truth.{Meaning}
+use Rattle.form_typed.specs.Truth.{Meaning}
 use Rattle.clause_set.specs.Literals.{dnf_truth}
 use Rattle.elim_laws.specs.Whole.{AreOver}
 use Rattle.formula.specs.Form.{Form, FormTruth, is_pure}
 use Rattle.proof_tree.specs.Proof.{Proof, given}
-use Rattle.solution_laws.specs.Best.{IsBest}
+use Rattle.solve_laws.specs.Best.{IsBest}
 use Rattle.search.specs.Run.{RunAnswer, valid, invalid, saturated, too_long}
 
 -- the constraint of the tree is over the n names and covers the formula: wherever it is true the formula is, in every

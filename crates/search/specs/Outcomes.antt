@@ -3,13 +3,13 @@ use Rattle.std.specs.Prelude.{◌≡◌, ℕ, ◌-◌, Bool, false, List, [], Re
 use Rattle.linear_term.specs.declared.range.Memory.{Memory}
 use Rattle.linear_term.specs.declared.range.Place.{Place}
 use Rattle.linear_term.specs.Range.{stays}
-use Rattle.purse.specs.declared.fault.StepFault.{StepFault}
-use Rattle.purse.specs.declared.fault.StepFault.TheVariants as step_fault
-use Rattle.purse.specs.declared.log.ElimLog.{ElimLog}
-use Rattle.purse.specs.Followed.{after_notes}
-use Rattle.purse.specs.Runs.{total}
-use Rattle.purse.specs.Trace.{Funds, Mark, At, at}
-use Rattle.purse.specs.Work.{Reaches}
+use Rattle.base_budget.specs.declared.fault.StepFault.{StepFault}
+use Rattle.base_budget.specs.declared.fault.StepFault.TheVariants as step_fault
+use Rattle.base_budget.specs.declared.log.ElimLog.{ElimLog}
+use Rattle.base_budget.specs.Followed.{after_notes}
+use Rattle.base_budget.specs.Runs.{total}
+use Rattle.base_budget.specs.Trace.{Funds, Mark, At, at}
+use Rattle.base_budget.specs.Work.{Reaches}
 use Rattle.formula.specs.Form.{Form}
 use Rattle.proof_tree.specs.declared.node.Conclusion.{Conclusion}
 use Rattle.proof_tree.specs.declared.node.Conclusion.TheVariants.{Solution, Nothing}
@@ -29,7 +29,7 @@ use Rattle.search.specs.declared.judge.Outcome.TheVariants.{Valid, Invalid, Satu
 use Rattle.search.specs.Course.{no_log, noted}
 use Rattle.search.specs.Rounds.{IsAnswer}
 use Rattle.search.specs.Walking.{Gets}
-use Rattle.purse.specs.Ending.{ending, ends_with, out_of_steps, overflows}
+use Rattle.base_budget.specs.Ending.{ending, ends_with, out_of_steps, overflows}
 use Rattle.search.specs.Run.{canonical_run, valid, invalid, saturated, too_long}
 
 abbrev pub no_course : Course

@@ -1,6 +1,6 @@
 -- The canonical run for a formula without predicates and functions: one node, then the values of its constraint.
 use Rattle.std.specs.Prelude.{ℕ, ℤ, List, [], Option, Some, None}
-use Rattle.purse.specs.Trace.{Traced, just, next, note, pay, round, enter, back}
+use Rattle.base_budget.specs.Trace.{Traced, just, next, note, pay, round, enter, back}
 use Rattle.clause_set.specs.declared.literal.Literal.{Literal}
 use Rattle.elim_laws.specs.Logs.{entries_of}
 use Rattle.elim_laws.specs.Whole.{names_out}
@@ -8,7 +8,7 @@ use Rattle.formula.specs.Form.{Form}
 use Rattle.sequent.specs.declared.member.Pick.{Pick}
 use Rattle.sequent.specs.Rules.{picked}
 use Rattle.sequent.specs.Sequent.{Sequent}
-use Rattle.solution_laws.specs.Solutions.{solving}
+use Rattle.solve_laws.specs.Solutions.{solving}
 use Rattle.proof_tree.specs.Proof.{Proof, node, no_proof}
 use Rattle.proof_tree.specs.Proves.{start}
 use Rattle.proof_tree.specs.Walk.{fee, in_new_log}

@@ -1,14 +1,14 @@
 -- How the rounds of a run end, as the code tells it.
 use Rattle.std.specs.Prelude.{◌≡◌, ℕ, ℤ, Bool, cond, List, Option, Some, None, IsSome}
-use Rattle.purse.specs.Runs.{total}
-use Rattle.purse.specs.Trace.{Traced, just, next}
+use Rattle.base_budget.specs.Runs.{total}
+use Rattle.base_budget.specs.Trace.{Traced, just, next}
 use Rattle.clause_set.specs.declared.literal.Literal.{Literal}
 use Rattle.elim_laws.specs.Logs.{entries_of}
 use Rattle.elim_laws.specs.Whole.{names_out}
 use Rattle.formula.specs.Form.{Form, is_pure}
 use Rattle.parameter_solver.specs.declared.solving.Solved.{Solved}
 use Rattle.parameter_solver.specs.declared.solving.Solved.TheVariants as solved
-use Rattle.solution_laws.specs.Solutions.{solving}
+use Rattle.solve_laws.specs.Solutions.{solving}
 use Rattle.proof_tree.specs.declared.node.Conclusion.{Conclusion}
 use Rattle.proof_tree.specs.declared.node.Conclusion.TheVariants.{Solution, Nothing}
 use Rattle.proof_tree.specs.declared.node.Node.{Node}

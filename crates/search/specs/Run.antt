@@ -1,17 +1,17 @@
 -- The canonical run: rounds with a rising limit on the uses of gamma, and how it ends.
 use Rattle.std.specs.Prelude.{◌≡◌, ℕ, zero, suc, ◌<◌, ◌≤◌, ℤ, Bool, false, cond, ◌||◌, List, [], ◌∷◌, Option, Some, None}
 use Rattle.std.specs.List.{list_any}
-use Rattle.purse.specs.declared.log.Entry.{Entry}
-use Rattle.purse.specs.Ending.{ending}
-use Rattle.purse.specs.Trace.{Funds, round, at, Traced, just, next, note}
+use Rattle.base_budget.specs.declared.log.Entry.{Entry}
+use Rattle.base_budget.specs.Ending.{ending}
+use Rattle.base_budget.specs.Trace.{Funds, round, at, Traced, just, next, note}
 use Rattle.formula.specs.Form.{Form, is_pure}
 use Rattle.elim_laws.specs.Logs.{entries_of}
 use Rattle.elim_laws.specs.Whole.{names_out}
 use Rattle.sequent.specs.Leaf.{is_open}
 use Rattle.sequent.specs.Rules.{premises_of}
 use Rattle.sequent.specs.Sequent.{Sequent}
-use Rattle.solution_laws.specs.Solutions.{solving}
-use Rattle.limits.specs.Limits.{branch_limit}
+use Rattle.solve_laws.specs.Solutions.{solving}
+use Rattle.base_limits.specs.Limits.{branch_limit}
 use Rattle.proof_tree.specs.Proof.{Proof, Proofs, node, no_proof, and_proof, given}
 use Rattle.proof_tree.specs.Proves.{start}
 use Rattle.proof_tree.specs.Walk.{in_new_log}

@@ -3,13 +3,13 @@ use Rattle.std.specs.Prelude.{◌≡◌, ℕ, ◌+◌, ◌≤◌, Bool, cond, Li
 use Rattle.std.specs.Option.{option_map}
 use Rattle.linear_term.specs.declared.range.TermFault.{TermFault}
 use Rattle.linear_term.specs.declared.range.TermFault.TheVariants as term_fault
-use Rattle.purse.specs.declared.fault.StepFault.{StepFault}
-use Rattle.purse.specs.declared.fault.StepFault.TheVariants as step_fault
-use Rattle.purse.specs.declared.fault.ElimFault.{ElimFault}
-use Rattle.purse.specs.declared.fault.ElimFault.TheVariants.{Steps, Overflow, Memory}
-use Rattle.purse.specs.declared.log.ElimLog.{ElimLog}
-use Rattle.purse.specs.Followed.{Followed}
-use Rattle.purse.specs.Trace.{Funds, Traced, just, next}
+use Rattle.base_budget.specs.declared.fault.StepFault.{StepFault}
+use Rattle.base_budget.specs.declared.fault.StepFault.TheVariants as step_fault
+use Rattle.base_budget.specs.declared.fault.ElimFault.{ElimFault}
+use Rattle.base_budget.specs.declared.fault.ElimFault.TheVariants.{Steps, Overflow, Memory}
+use Rattle.base_budget.specs.declared.log.ElimLog.{ElimLog}
+use Rattle.base_budget.specs.Followed.{Followed}
+use Rattle.base_budget.specs.Trace.{Funds, Traced, just, next}
 use Rattle.clause_set.specs.declared.literal.Literal.{Literal}
 use Rattle.elim_laws.specs.Logs.{entries_of}
 use Rattle.sequent.specs.declared.member.Pick.{Pick}

@@ -5,13 +5,13 @@ ghost use Rattle.clause_set.specs.declared.literal.Literal.{Literal};
 ghost use Rattle.elim_laws.specs.Elimination.{exists_name, for_all_name};
 ghost use Rattle.elim_laws.specs.Whole.{eliminating};
 ghost use Rattle.formula.specs.Sizes.{depth};
-ghost use Rattle.open_branch.specs.Standing.{rule_at, standing};
+ghost use Rattle.tree_branch.specs.Standing.{rule_at, standing};
 ghost use Rattle.pred_unify.specs.Pairs.{closing_of};
 ghost use Rattle.pred_unify.specs.Reading.{HasKinds, sequent_at};
 ghost use Rattle.proof_tree.specs.Rules.{conjoined, first_given};
-ghost use Rattle.purse.specs.Followed.{Followed};
-ghost use Rattle.purse.specs.Trace.{Funds, just, next, pay};
-ghost use Rattle.purse.specs.Work.{Charged, Logged};
+ghost use Rattle.base_budget.specs.Followed.{Followed};
+ghost use Rattle.base_budget.specs.Trace.{Funds, just, next, pay};
+ghost use Rattle.base_budget.specs.Work.{Charged, Logged};
 ghost use Rattle.search.specs.Building.{canonical_constraint};
 ghost use Rattle.search.specs.Course.{noted};
 ghost use Rattle.search.specs.Trues.{are_top};
@@ -22,16 +22,15 @@ ghost use Rattle.std.specs.Prelude.{◌≡◌, ◌+◌, ◌<◌, ◌≤◌, ◌^
 
 use super::constraints::Constraints;
 use super::course::Course;
+use base_budget::{ElimFault, ElimLog, Purse, StepFault};
 use clause_set::Dnf;
 use linear_term::{Memory, TermFault};
-use node_steps::conjoined;
-use open_branch::{Branch, Principal};
 use pred_unify::{Leaf, closing_at};
-use purse::{ElimFault, ElimLog, Purse, StepFault};
 use quant_elim::{eliminate, forall_last};
 use sequent::Shape;
 use sqlite_items::Items;
 use std::alloc::Global;
+use tree_branch::{Branch, Principal, conjoined};
 
 /// The refusal of a call on terms, before the first entry of a log.
 fn without_log(alloc: Global, fault: TermFault) -> ElimFault
@@ -88,7 +87,7 @@ fn free(alloc: Global, outcome: Result<Dnf, Memory>) -> Result<(Dnf, ElimLog), E
 }
 
 /// The charges of the conjunction of a true constraint and another one.
-#[tactic(auto, using(purse::proofs::Charging::logging))]
+#[tactic(auto, using(base_budget::proofs::Charging::logging))]
 fn pay_for_true(purse: &mut Purse) -> Result<(), StepFault>
     ensures { Charged (next (pay 1) (λ _. pay 1)) purse.old result purse.new }
 {
@@ -136,7 +135,7 @@ fn delta(
 }
 
 /// Some value of a constraint without clauses: none again, for the step of tidying it.
-#[tactic(auto, using(purse::proofs::Charging::logging))]
+#[tactic(auto, using(base_budget::proofs::Charging::logging))]
 fn nothing(d: Dnf, purse: &mut Purse) -> Result<Dnf, StepFault>
     requires { d ≡ [] }
     ensures { Charged (next (pay 0) (λ _. just [])) purse.old result purse.new }

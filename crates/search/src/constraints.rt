@@ -8,11 +8,11 @@ ghost use Rattle.std.specs.Prelude.{◌≡◌, ◌++◌, ◌∷◌, ◌↔◌, [
 
 use clause_set::Dnf;
 use linear_term::Memory;
-use node_steps::first;
 use sqlite_items::Items;
 use std::alloc::Global;
 use std::marker::Model;
 use std::slice::from_ref;
+use tree_branch::first;
 
 /// Whether the constraint is true: one clause without literals.
 fn is_true(d: &Dnf) -> bool

@@ -1,11 +1,11 @@
 // Where a run over trees is.
 
-ghost use Rattle.purse.specs.Trace.{back, enter, new_log, round};
+ghost use Rattle.base_budget.specs.Trace.{back, enter, new_log, round};
 ghost use Rattle.search.specs.Course.{cause_of, cut_at, noted};
 ghost use Rattle.search.specs.Outcomes.{no_course};
 ghost use Rattle.std.specs.Prelude.{◌≡◌, ◌+◌, ◌<◌, ◌^◌, [], ℕ};
 
-use purse::{ElimFault, ElimLog, StepFault};
+use base_budget::{ElimFault, ElimLog, StepFault};
 use sqlite_items::Items;
 use std::alloc::Global;
 

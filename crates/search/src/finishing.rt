@@ -2,12 +2,12 @@
 
 ghost use Rattle.clause_set.specs.declared.literal.Literal.{Literal};
 ghost use Rattle.formula.specs.Sizes.{depth};
-ghost use Rattle.open_branch.specs.Standing.{premises_from, rule_at, standing};
+ghost use Rattle.tree_branch.specs.Standing.{premises_from, rule_at, standing};
 ghost use Rattle.pred_unify.specs.Pairs.{closing_of};
 ghost use Rattle.pred_unify.specs.Reading.{HasKinds, sequent_at};
 ghost use Rattle.proof_tree.specs.Proof.{Proof, node, proofs};
 ghost use Rattle.proof_tree.specs.Views.{proof_of};
-ghost use Rattle.purse.specs.declared.log.Entry.{Entry};
+ghost use Rattle.base_budget.specs.declared.log.Entry.{Entry};
 ghost use Rattle.search.specs.Building.{finished};
 ghost use Rattle.search.specs.Run.{has_open_leaf};
 ghost use Rattle.search.specs.Walking.{AreGrown, AreKept, IsFinished, IsKeptNode, Makes, proofs_in};
@@ -20,15 +20,15 @@ ghost use Rattle.std.specs.Prelude.{◌≡◌, ◌+◌, ◌<◌, ◌≤◌, ◌^
 use super::constraint::{made, made_at_leaf};
 use super::course::Course;
 use super::walk::{Built, Children};
+use base_budget::{ElimLog, Purse, StepFault};
 use clause_set::{Clause, Dnf, Literal, copy_literals};
 use linear_term::Memory;
-use open_branch::{Branch, Principal};
 use pred_unify::Leaf;
 use proof_tree::Node;
-use purse::{ElimLog, Purse, StepFault};
 use sequent::Pick;
 use sqlite_items::Items;
 use std::alloc::Global;
+use tree_branch::{Branch, Principal};
 
 /// The clauses as lists of literals.
 fn clauses_of(alloc: Global, clauses: &[Clause]) -> Result<Items<Items<Literal>>, Memory>

@@ -2,7 +2,7 @@
 
 ghost use Rattle.elim_laws.specs.Whole.{AreOver};
 ghost use Rattle.formula.specs.Tree.{form};
-ghost use Rattle.purse.specs.Followed.{Followed};
+ghost use Rattle.base_budget.specs.Followed.{Followed};
 ghost use Rattle.search.specs.Course.{noted};
 ghost use Rattle.search.specs.Outcomes.{stopped_by};
 ghost use Rattle.proof_tree.specs.declared.node.Node.{Node};
@@ -11,12 +11,12 @@ ghost use Rattle.std.specs.Prelude.{◌≡◌, ◌<◌, ◌^◌, IfOk, IsSome, S
 
 use super::course::Course;
 use super::walk::Built;
+use base_budget::{ElimLog, Purse, StepFault};
 use clause_set::Dnf;
 use formula::{Core, is_pure};
 use linear_term::Memory;
 use parameter_solver::{Solved, solve};
 use proof_tree::{Conclusion, Run, Tree, Why};
-use purse::{ElimLog, Purse, StepFault};
 use sqlite_items::Items;
 use std::alloc::Global;
 

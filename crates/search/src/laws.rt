@@ -1,7 +1,7 @@
 // What the canonical run is, each the contract of a function with nothing to do.
 
 ghost use Rattle.std.specs.Prelude.{◌≡◌, ◌+◌, ◌*◌, ◌≤◌, ℕ, [], Some, true};
-ghost use Rattle.purse.specs.Trace.{At, Funds, at};
+ghost use Rattle.base_budget.specs.Trace.{At, Funds, at};
 ghost use Rattle.formula.specs.Form.{Form, IsFormOver, is_pure};
 ghost use Rattle.formula.specs.Sizes.{size};
 ghost use Rattle.formula.specs.Reduced.{HasReducedTerms};
@@ -13,7 +13,7 @@ ghost use Rattle.search.specs.Building.{built};
 ghost use Rattle.search.specs.Pure.{pure_run};
 ghost use Rattle.search.specs.Closed.{IsClosed};
 ghost use Rattle.search.specs.Meaning.{Tells};
-ghost use Rattle.purse.specs.Ending.{ending, ends_with, out_of_steps};
+ghost use Rattle.base_budget.specs.Ending.{ending, ends_with, out_of_steps};
 ghost use Rattle.search.specs.Run.{RunAnswer, OneEnd, canonical_run};
 
 /// The canonical tree of a sequent gives its constraint, and the walk that checks it makes the same charges, computes the same

@@ -11,14 +11,14 @@ ghost use Rattle.std.specs.Prelude.{◌+◌, ◌<◌, ◌≤◌, ◌^◌};
 use super::course::Course;
 use super::judge::{Decided, Found, Outcome, conclude, ended, solution, stopped, without_tree};
 use super::walk::{Plan, build};
+use base_budget::{Purse, StepFault};
+use base_limits::BRANCH_LIMIT;
 use formula::Core;
-use limits::BRANCH_LIMIT;
 use linear_term::Memory;
-use open_branch::{Branch, Passed};
 use proof_tree::{Run, know_reduced};
-use purse::{Purse, StepFault};
 use sequent::start;
 use std::alloc::Global;
+use tree_branch::{Branch, Passed};
 
 /// One round, with this limit on the uses of gamma.
 fn one_round(

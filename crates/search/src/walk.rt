@@ -2,13 +2,13 @@
 // behind, and what a premise did is undone when it is left; where a leaf is closed, its members are read where they lie.
 // Where trees are not kept, all that a finished node leaves is its constraint and whether a leaf below it is open.
 
-ghost use Rattle.open_branch.specs.Passed.{IsPassed};
-ghost use Rattle.open_branch.specs.Standing.{IsPrincipal, premises_from, rule_at, standing};
+ghost use Rattle.tree_branch.specs.Passed.{IsPassed};
+ghost use Rattle.tree_branch.specs.Standing.{IsPrincipal, premises_from, rule_at, standing};
 ghost use Rattle.proof_tree.specs.Proof.{Proof};
-ghost use Rattle.purse.specs.Trace.{Traced};
+ghost use Rattle.base_budget.specs.Trace.{Traced};
 ghost use Rattle.search.specs.Building.{all_built, built, entered};
 ghost use Rattle.search.specs.Walking.{AreNumbered, IfBuilt, IsNumbered, Makes, listed};
-ghost use Rattle.node_steps.specs.Within.{IsWithin};
+ghost use Rattle.tree_branch.specs.Within.{IsWithin};
 ghost use Rattle.sequent.specs.Sequent as q;
 ghost use Rattle.sequent.specs.declared.member.Pick.TheVariants as pick;
 ghost use Rattle.std.specs.Prelude.{◌≡◌, ◌+◌, ◌++◌, ◌<◌, ◌≤◌, ◌^◌, ◌||◌, ◌∷◌, Option, OnOk, [], false, ℕ};
@@ -16,15 +16,14 @@ ghost use Rattle.std.specs.Prelude.{◌≡◌, ◌+◌, ◌++◌, ◌<◌, ◌�
 use super::constraints::Constraints;
 use super::course::Course;
 use super::finishing::{finish, finish_closed};
+use base_budget::{Purse, StepFault};
 use clause_set::Dnf;
 use linear_term::Memory;
-use node_steps::{leaf_fee, principal_fee};
-use open_branch::{Branch, Passed, Principal};
 use pred_unify::Leaf;
 use proof_tree::Node;
-use purse::{Purse, StepFault};
 use sqlite_items::Items;
 use std::alloc::Global;
+use tree_branch::{Branch, Passed, Principal, leaf_fee, principal_fee};
 
 /// How a round goes on below a node: its limit on the uses of gamma, whether trees are kept, and which members from the front
 /// are known to fit no rule.

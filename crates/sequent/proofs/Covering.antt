@@ -1,7 +1,7 @@
 -- Each rule: where its premises' constraints cover them, the rule's constraint covers the sequent; and the same for tight.
 use Rattle.std.proofs.Common.{◌≡◌, ℕ, zero, suc, ◌≤◌, ℤ, pos, Bool, true, false, List, [], ◌∷◌, ◌++◌, take, length, map, Some, ◌⊎◌, inl, inr, sym, ap, arith}
 use Rattle.std.specs.List.{AllByRecursion, remove, slice_get}
-use Rattle.typed_formula.specs.Truth.{Meaning}
+use Rattle.form_typed.specs.Truth.{Meaning}
 use Rattle.formula.specs.Form.{Form, FormTruth, Forms, equal, unequal, at_least, holds, fails, differs, conjunction, disjunction, universal, existential, no_form, and_form, AreFormsTrue, AreFormsFalse}
 use Rattle.sequent.specs.Sequent.{Member, Sequent, member, sequent, IsMemberTrue, AreFalse, SequentTruth, IsMember, IsFormedSequent}
 use Rattle.sequent.specs.Rules.{brought, new_members, one_each, premises_at}

@@ -1,6 +1,6 @@
 -- The last name of a list of integers: what is met there, as the rows say it.
 use Rattle.std.proofs.Common.{◌≡◌, ℕ, zero, suc, ℤ, Bool, true, List, [], ◌∷◌, ◌++◌, length, refl, ap, subst, arith}
-use Rattle.integers.specs.Entry.{put}
+use Rattle.base_integers.specs.Entry.{put}
 use Rattle.sequent.specs.Covers.{RuleTruth}
 use Rattle.formula.specs.Form.{Form, existential}
 

@@ -1,6 +1,6 @@
 -- What a constraint says of a sequent. A constraint is spoken of by what it says: d e is whether it is true at the integers e.
 use Rattle.std.specs.Prelude.{◌≡◌, ℤ, Bool, true, false, List, [], ◌∷◌, ◌++◌, length, ◌⊎◌}
-use Rattle.typed_formula.specs.Truth.{Meaning}
+use Rattle.form_typed.specs.Truth.{Meaning}
 use Rattle.formula.specs.Form.{Form, conjunction, disjunction, universal, existential}
 use Rattle.sequent.specs.Sequent.{Sequent, AreFalse, SequentTruth}
 

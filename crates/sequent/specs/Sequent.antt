@@ -1,7 +1,7 @@
 -- Sequents: members with the number of names that each is over, and a count of constants.
 use Rattle.std.specs.Prelude.{ℕ, ◌≤◌, ℤ, List, take}
 use Rattle.std.specs.List.{AllByRecursion}
-use Rattle.typed_formula.specs.Truth.{Meaning}
+use Rattle.form_typed.specs.Truth.{Meaning}
 use Rattle.formula.specs.Form.{Form, FormTruth, IsFormOver}
 
 -- a formula over the first constants of a sequent, and how often the rule for `some` was used on it

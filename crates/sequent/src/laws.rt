@@ -2,8 +2,8 @@
 
 ghost use Rattle.std.specs.Prelude.{◌≡◌, ◌+◌, ◌≤◌, ◌<◌, ◌^◌, ℕ, ℤ, Bool, List, length, Some, None, take, true, false, [], ◌∷◌};
 ghost use Rattle.std.specs.List.{slice_get, AllByRecursion};
-ghost use Rattle.integers.specs.Entry.{put};
-ghost use Rattle.typed_formula.specs.Truth.{Meaning};
+ghost use Rattle.base_integers.specs.Entry.{put};
+ghost use Rattle.form_typed.specs.Truth.{Meaning};
 ghost use Rattle.formula.specs.Form.{Form, IsFormOver, existential};
 ghost use Rattle.sequent.specs.Sequent.{Member, Sequent, member, sequent, AreFalse, SequentTruth, IsFormedSequent};
 ghost use Rattle.sequent.specs.Rules.{premises_at, applies, picked, is_shape, first_fit, fits};

@@ -1,13 +1,13 @@
 -- The assertions of a check, one more.
 use Rattle.std.proofs.Common.{ℕ, zero, suc, ◌≡◌, ◌+◌, ◌<◌, ◌≤◌, List, [], ◌∷◌, ◌++◌, length, map, take, get_or, refl, sym, ap, ap₂, subst, ◌∙◌, arith}
 use Rattle.std.proofs.lemmas.List.{map-append, take_all, take_more}
-use Rattle.typed_formula.specs.Formula.{Formula, every, formula, formulas, negation}
-use Rattle.typed_formula.specs.declared.typed.Typed.{Typed}
-use Rattle.script_terms.specs.Scripts as scripts
-use Rattle.script_terms.specs.Translation.{asserted, formula_in}
-use Rattle.script_names.specs.declared.body.Body.{Body}
-use Rattle.script_names.specs.Body.{shape}
-use Rattle.script_names.specs.Saying.{calls_of, shape_said}
+use Rattle.form_typed.specs.Formula.{Formula, every, formula, formulas, negation}
+use Rattle.form_typed.specs.declared.typed.Typed.{Typed}
+use Rattle.smt_terms.specs.Scripts as scripts
+use Rattle.smt_terms.specs.Translation.{asserted, formula_in}
+use Rattle.smt_names.specs.declared.body.Body.{Body}
+use Rattle.smt_names.specs.Body.{shape}
+use Rattle.smt_names.specs.Saying.{calls_of, shape_said}
 use Rattle.smt_reader.specs.declared.following.Assertion.{Assertion}
 use Rattle.smt_reader.specs.Following.{AreClaims, IsClaim}
 

@@ -1,32 +1,32 @@
 -- What is held behind one command more.
 use Rattle.std.proofs.Common.{ℕ, zero, suc, ◌+◌, ◌-◌, ap₂, ◌≡◌, ◌≢◌, ◌≤◌, false, List, [], ◌∷◌, ◌++◌, length, take, map, refl, sym, ap, subst, ◌∙◌, arith}
 use Rattle.std.proofs.lemmas.List.{map-append, take_all}
-use Rattle.texts.specs.Texts.{is_among}
+use Rattle.base_texts.specs.Texts.{is_among}
 use Rattle.pri_typing.specs.declared.problem.Symbol.{Symbol}
-use Rattle.script_terms.specs.declared.operator.Sort.TheVariants as sort
-use Rattle.script_terms.specs.Term.{PlacedTerm}
-use Rattle.script_terms.specs.Evaluation.{Globals, constant_of, function_of, predicate_of, defined_by}
-use Rattle.script_terms.specs.Scripts as scripts
-use Rattle.script_terms.specs.Scripts.{State, after_declaration}
-use Rattle.script_terms.specs.Translation.{said, symbol_said}
-use Rattle.script_names.specs.declared.body.Body.{Body}
-use Rattle.script_names.specs.declared.known.Known.{Known}
-use Rattle.script_names.specs.Body.{shape}
-use Rattle.script_names.specs.Known.{Knows}
-use Rattle.script_names.specs.Saying.{calls_of, shape_said}
-use Rattle.script_checks.specs.Formed.{symbol, symbols}
+use Rattle.smt_terms.specs.declared.operator.Sort.TheVariants as sort
+use Rattle.smt_terms.specs.Term.{PlacedTerm}
+use Rattle.smt_terms.specs.Evaluation.{Globals, constant_of, function_of, predicate_of, defined_by}
+use Rattle.smt_terms.specs.Scripts as scripts
+use Rattle.smt_terms.specs.Scripts.{State, after_declaration}
+use Rattle.smt_terms.specs.Translation.{said, symbol_said}
+use Rattle.smt_names.specs.declared.body.Body.{Body}
+use Rattle.smt_names.specs.declared.known.Known.{Known}
+use Rattle.smt_names.specs.Body.{shape}
+use Rattle.smt_names.specs.Known.{Knows}
+use Rattle.smt_names.specs.Saying.{calls_of, shape_said}
+use Rattle.smt_reader.specs.Formed.{symbol, symbols}
 use Rattle.smt_reader.specs.declared.following.Assertion.{Assertion}
 use Rattle.smt_reader.specs.declared.following.Reading.{Reading}
 use Rattle.smt_reader.specs.Following.{AreClaims, FollowsState}
-use Rattle.typed_formula.specs.Formula.{Formula, formulas}
-use Rattle.script_terms.specs.Translation.{asserted, formula_in}
-use Rattle.script_sizes.specs.declared.size.Size.{Size}
-use Rattle.script_sizes.specs.Size.{beside}
-use Rattle.script_sizes.specs.Sizes.{all_sizes, size}
-use Rattle.script_extents.specs.declared.forms.Forms.{Forms}
-use Rattle.script_extents.specs.Forms.{Describes}
+use Rattle.form_typed.specs.Formula.{Formula, formulas}
+use Rattle.smt_terms.specs.Translation.{asserted, formula_in}
+use Rattle.smt_sizes.specs.declared.size.Size.{Size}
+use Rattle.smt_sizes.specs.Size.{beside}
+use Rattle.smt_sizes.specs.Sizes.{all_sizes, size}
+use Rattle.smt_sizes.specs.declared.forms.Forms.{Forms}
+use Rattle.smt_sizes.specs.Forms.{Describes}
 use Rattle.smt_reader.proofs.Claims.{claims_more, claims_on}
-use Rattle.smt_reader.proofs.Sizes.{sizes_more}
+use Rattle.smt_reader.proofs.Together.{sizes_more}
 
 symbols_more : (fs : List scripts.Declared) (f : scripts.Declared) → symbols (fs ++ f ∷ []) ≡ symbols fs ++ symbol f ∷ []
 symbols_more fs f = map-append symbol fs (f ∷ [])

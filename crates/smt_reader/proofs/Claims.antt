@@ -1,11 +1,11 @@
 -- What is held of assertions stays so behind further definitions.
 use Rattle.std.proofs.Common.{ℕ, ◌≡◌, ◌≤◌, List, [], ◌∷◌, ◌++◌, length, take, refl, sym, ap, subst, ◌∙◌, arith}
 use Rattle.std.proofs.lemmas.List.{length-take, take-take}
-use Rattle.script_terms.specs.Scripts as scripts
-use Rattle.script_terms.specs.Translation.{said, symbol_said}
-use Rattle.script_names.specs.declared.body.Body.{Body}
-use Rattle.script_names.specs.Body.{shape}
-use Rattle.script_names.specs.Saying.{calls_of, shape_said}
+use Rattle.smt_terms.specs.Scripts as scripts
+use Rattle.smt_terms.specs.Translation.{said, symbol_said}
+use Rattle.smt_names.specs.declared.body.Body.{Body}
+use Rattle.smt_names.specs.Body.{shape}
+use Rattle.smt_names.specs.Saying.{calls_of, shape_said}
 use Rattle.smt_reader.specs.declared.following.Assertion.{Assertion}
 use Rattle.smt_reader.specs.Following.{AreClaims, IsClaim}
 

@@ -1,19 +1,19 @@
 -- No symbol of a script without faults is declared or defined twice.
 use Rattle.std.proofs.Common.{ℕ, ◌≡◌, true, false, List, [], ◌∷◌, ◌++◌, refl, sym, ap, subst, Option, Some, None}
-use Rattle.sexpr.specs.Expressions.{Expr, place_of}
-use Rattle.script_commands.specs.declared.refusal.ScriptRefusal.{ScriptRefusal}
-use Rattle.script_commands.specs.declared.table.Entry.{Entry}
-use Rattle.script_commands.specs.Commands as form
-use Rattle.script_commands.specs.Commands.{CommandForm}
-use Rattle.script_commands.specs.Symbols.{entry, texts_of}
-use Rattle.script_commands.specs.Faults as faults
-use Rattle.script_commands.specs.Faults.{behind, body_faults, command_faults, or_later, refusal_from, refusal_of, unless_exit}
-use Rattle.script_commands.specs.Least.{least}
-use Rattle.script_commands.proofs.Fitting.{declarable, definable}
-use Rattle.script_terms.specs.Scripts.{Command}
-use Rattle.script_checks.specs.Commands.{commands_of, script_terms, with_form}
+use Rattle.smt_lists.specs.Expressions.{Expr, place_of}
+use Rattle.smt_commands.specs.declared.refusal.ScriptRefusal.{ScriptRefusal}
+use Rattle.smt_commands.specs.declared.table.Entry.{Entry}
+use Rattle.smt_commands.specs.Commands as form
+use Rattle.smt_commands.specs.Commands.{CommandForm}
+use Rattle.smt_commands.specs.Symbols.{entry, texts_of}
+use Rattle.smt_commands.specs.Faults as faults
+use Rattle.smt_commands.specs.Faults.{behind, body_faults, command_faults, or_later, refusal_from, refusal_of, unless_exit}
+use Rattle.smt_commands.specs.Least.{least}
+use Rattle.smt_commands.proofs.Fitting.{declarable, definable}
+use Rattle.smt_terms.specs.Scripts.{Command}
+use Rattle.smt_reader.specs.Commands.{commands_of, script_terms, with_form}
 use Rattle.smt_reader.specs.Following.{AreNew}
-use Rattle.script_commands.specs.Symbols.{sort_of}
+use Rattle.smt_commands.specs.Symbols.{sort_of}
 
 here_none : (a later : Option ScriptRefusal) → or_later a later ≡ None → a ≡ None
 here_none None later e = refl

@@ -1,21 +1,21 @@
 -- A text is a script or is refused, and in one way.
 use Rattle.std.proofs.Common.{ℕ, ◌≡◌, ◌≢◌, ◌⊎◌, inl, inr, List, [], ◌∷◌, ◌++◌, length, map, refl, sym, ap, ap₂, subst, ◌∙◌, append_assoc, Option, Some, None}
-use Rattle.sexpr.specs.declared.tree.Sexp.{Sexp}
-use Rattle.sexpr.specs.Expressions.{expr}
-use Rattle.script_tokens.specs.declared.terminals.Lexeme.{Lexeme}
-use Rattle.script_tokens.specs.Lexemes.{lexemes_of}
-use Rattle.script_lists.specs.declared.refusal.ReadRefusal.{ReadRefusal}
-use Rattle.script_lists.specs.declared.refusal.ReadRefusal.TheVariants as e
-use Rattle.script_lists.specs.Grammar.{IsScript, IsScriptText}
-use Rattle.script_lists.proofs.Complete.{one_script}
-use Rattle.script_lists.specs.First.{BeginsScript, ListsDeepAt, IsFirst, ListsSyntaxAt, place}
-use Rattle.script_commands.specs.declared.refusal.ScriptRefusal.{ScriptRefusal}
-use Rattle.script_commands.specs.declared.refusal.ScriptRefusal.TheVariants as r
-use Rattle.script_commands.specs.Faults.{refusal_of}
-use Rattle.script_commands.specs.Least.{IsScriptRefused}
-use Rattle.script_reading.specs.Scripts.{RefusesCommands, RefusesScript, RefusesTokens, as_script}
+use Rattle.smt_lists.specs.declared.tree.Sexp.{Sexp}
+use Rattle.smt_lists.specs.Expressions.{expr}
+use Rattle.smt_tokens.specs.declared.terminals.Lexeme.{Lexeme}
+use Rattle.smt_tokens.specs.Lexemes.{lexemes_of}
+use Rattle.smt_lists.specs.declared.refusal.ReadRefusal.{ReadRefusal}
+use Rattle.smt_lists.specs.declared.refusal.ReadRefusal.TheVariants as e
+use Rattle.smt_lists.specs.Grammar.{IsScript, IsScriptText}
+use Rattle.smt_lists.proofs.Complete.{one_script}
+use Rattle.smt_lists.specs.First.{BeginsScript, ListsDeepAt, IsFirst, ListsSyntaxAt, place}
+use Rattle.smt_commands.specs.declared.refusal.ScriptRefusal.{ScriptRefusal}
+use Rattle.smt_commands.specs.declared.refusal.ScriptRefusal.TheVariants as r
+use Rattle.smt_commands.specs.Faults.{refusal_of}
+use Rattle.smt_commands.specs.Least.{IsScriptRefused}
+use Rattle.smt_reader.specs.Scripts.{RefusesCommands, RefusesScript, RefusesTokens, as_script}
 use Rattle.pri_typing.specs.declared.problem.Problem.{Problem}
-use Rattle.script_checks.specs.Commands.{script_terms}
+use Rattle.smt_reader.specs.Commands.{script_terms}
 use Rattle.smt_reader.specs.Poses.{AreLarge, IsLargeScript, IsScriptOf, checks_in}
 
 -- two ways to part a list: alike, or one front goes further

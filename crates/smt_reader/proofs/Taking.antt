@@ -1,24 +1,24 @@
 -- One command further.
 use Rattle.std.proofs.Common.{ℕ, ◌≡◌, ◌≢◌, List, [], ◌∷◌, ◌++◌, length, map, refl, sym, ap, ap₂, subst, ◌∙◌, append_assoc, Some, None}
 use Rattle.pri_typing.specs.declared.problem.Problem.{Problem}
-use Rattle.script_terms.specs.Scripts.{Command, State, after, declare, define, claim, check, checks, checks_from}
-use Rattle.script_checks.specs.Posed.{IsCheckPosed}
+use Rattle.smt_terms.specs.Scripts.{Command, State, after, declare, define, claim, check, checks, checks_from}
+use Rattle.smt_reader.specs.Posed.{IsCheckPosed}
 use Rattle.smt_reader.specs.declared.following.Reading.{Reading}
 use Rattle.smt_reader.specs.Following.{AreNew, FollowsState, IsNewSymbol, texts_behind}
 use Rattle.smt_reader.specs.Poses.{ArePosed}
 use Rattle.std.proofs.lemmas.List.{map-append}
-use Rattle.typed_formula.specs.Formula.{formulas}
-use Rattle.script_terms.specs.Scripts.{refutation}
-use Rattle.script_sizes.specs.declared.size.Size.{Size}
-use Rattle.script_sizes.specs.declared.size.Size.TheVariants.{Large, Fits}
-use Rattle.script_terms.specs.Translation.{asserted}
-use Rattle.script_sizes.specs.Size.{above, beside}
-use Rattle.script_sizes.specs.Sizes.{all_sizes, size}
-use Rattle.script_sizes.proofs.Limits.{together_law}
+use Rattle.form_typed.specs.Formula.{formulas}
+use Rattle.smt_terms.specs.Scripts.{refutation}
+use Rattle.smt_sizes.specs.declared.size.Size.{Size}
+use Rattle.smt_sizes.specs.declared.size.Size.TheVariants.{Large, Fits}
+use Rattle.smt_terms.specs.Translation.{asserted}
+use Rattle.smt_sizes.specs.Size.{above, beside}
+use Rattle.smt_sizes.specs.Sizes.{all_sizes, size}
+use Rattle.smt_sizes.proofs.Limits.{together_law}
 use Rattle.smt_reader.specs.declared.scripts.Gathered.{Gathered}
 use Rattle.smt_reader.specs.Poses.{AreLarge, refutations}
 use Rattle.smt_reader.specs.Taking.{ArePosedOrLarge, AreTaken, IsGathered, at_check, size_together}
-use Rattle.smt_reader.proofs.Sizes.{large_stays, sizes_more}
+use Rattle.smt_reader.proofs.Together.{large_stays, sizes_more}
 
 pub posed_more : (ss : List State) (ps : List Problem) (s : State) (p : Problem) → ArePosed ss ps → IsCheckPosed s p → ArePosed (ss ++ s ∷ []) (ps ++ p ∷ [])
 posed_more [] [] s p h k = (k, tt)

@@ -1,17 +1,17 @@
 -- What is held of the commands so far, beside what they came to.
 use Rattle.std.specs.Prelude.{◌≡◌, ◌≤◌, ℕ, false, List, [], ◌∷◌, ◌++◌, length, map, take}
-use Rattle.texts.specs.Texts.{is_among}
-use Rattle.script_terms.specs.Scripts as scripts
-use Rattle.script_terms.specs.Scripts.{Command, State, declare, define, claim, check}
-use Rattle.typed_formula.specs.Formula.{formulas}
-use Rattle.script_terms.specs.Translation.{asserted, said, symbol_said}
-use Rattle.script_sizes.specs.Sizes.{all_sizes}
-use Rattle.script_extents.specs.Forms.{Describes}
-use Rattle.script_names.specs.declared.body.Body.{Body}
-use Rattle.script_names.specs.Body.{shape}
-use Rattle.script_names.specs.Known.{Knows}
-use Rattle.script_names.specs.Saying.{calls_of, shape_said}
-use Rattle.script_checks.specs.Formed.{symbols}
+use Rattle.base_texts.specs.Texts.{is_among}
+use Rattle.smt_terms.specs.Scripts as scripts
+use Rattle.smt_terms.specs.Scripts.{Command, State, declare, define, claim, check}
+use Rattle.form_typed.specs.Formula.{formulas}
+use Rattle.smt_terms.specs.Translation.{asserted, said, symbol_said}
+use Rattle.smt_sizes.specs.Sizes.{all_sizes}
+use Rattle.smt_sizes.specs.Forms.{Describes}
+use Rattle.smt_names.specs.declared.body.Body.{Body}
+use Rattle.smt_names.specs.Body.{shape}
+use Rattle.smt_names.specs.Known.{Knows}
+use Rattle.smt_names.specs.Saying.{calls_of, shape_said}
+use Rattle.smt_reader.specs.Formed.{symbols}
 use Rattle.smt_reader.specs.declared.following.Assertion.{Assertion}
 use Rattle.smt_reader.specs.declared.following.Reading.{Reading}
 

@@ -1,3 +1,9 @@
+pub mod Scripts
+pub mod Commands
+pub mod Formed
+pub mod Posed
+pub mod Effects
+pub mod Order
 pub mod Following
 pub mod Poses
 pub mod Taking

@@ -1,19 +1,19 @@
 -- Which texts are scripts, with which problems, and how others are refused.
 use Rattle.std.specs.Prelude.{◌≡◌, ◌⊎◌, ℕ, List, [], ◌∷◌, map, None}
-use Rattle.sexpr.specs.declared.tree.Sexp.{Sexp}
-use Rattle.sexpr.specs.Expressions.{expr}
-use Rattle.typed_formula.specs.Formula.{Formulas, formulas}
+use Rattle.smt_lists.specs.declared.tree.Sexp.{Sexp}
+use Rattle.smt_lists.specs.Expressions.{expr}
+use Rattle.form_typed.specs.Formula.{Formulas, formulas}
 use Rattle.pri_typing.specs.declared.problem.Problem.{Problem}
-use Rattle.script_lists.specs.Grammar.{IsScriptText}
-use Rattle.script_commands.specs.declared.refusal.ScriptRefusal.{ScriptRefusal}
-use Rattle.script_commands.specs.declared.refusal.ScriptRefusal.TheVariants as r
-use Rattle.script_commands.specs.Faults.{refusal_of}
-use Rattle.script_commands.specs.Least.{IsScriptRefused}
-use Rattle.script_reading.specs.Scripts.{RefusesScript}
-use Rattle.script_sizes.specs.Extent.{IsTooLarge, all_extent}
-use Rattle.script_terms.specs.Scripts.{State, checks, refutation}
-use Rattle.script_checks.specs.Commands.{commands_of, script_terms}
-use Rattle.script_checks.specs.Posed.{IsCheckPosed}
+use Rattle.smt_lists.specs.Grammar.{IsScriptText}
+use Rattle.smt_commands.specs.declared.refusal.ScriptRefusal.{ScriptRefusal}
+use Rattle.smt_commands.specs.declared.refusal.ScriptRefusal.TheVariants as r
+use Rattle.smt_commands.specs.Faults.{refusal_of}
+use Rattle.smt_commands.specs.Least.{IsScriptRefused}
+use Rattle.smt_reader.specs.Scripts.{RefusesScript}
+use Rattle.smt_sizes.specs.Extent.{IsTooLarge, all_extent}
+use Rattle.smt_terms.specs.Scripts.{State, checks, refutation}
+use Rattle.smt_reader.specs.Commands.{commands_of, script_terms}
+use Rattle.smt_reader.specs.Posed.{IsCheckPosed}
 
 -- one problem for each check, in order
 abbrev pub ArePosed : List State → List Problem → Type 0

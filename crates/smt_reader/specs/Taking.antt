@@ -1,11 +1,11 @@
 -- What comes of the commands of a script in turn.
 use Rattle.std.specs.Prelude.{◌≡◌, ◌≢◌, List, [], ◌∷◌, ◌++◌, map, Option, Some, None}
-use Rattle.typed_formula.specs.Formula.{formulas}
+use Rattle.form_typed.specs.Formula.{formulas}
 use Rattle.pri_typing.specs.declared.problem.Problem.{Problem}
-use Rattle.script_terms.specs.Scripts.{Command, State, declare, define, claim, check, checks, checks_from, refutation}
-use Rattle.script_sizes.specs.declared.size.Size.{Size}
-use Rattle.script_sizes.specs.declared.size.Size.TheVariants.{Large}
-use Rattle.script_sizes.specs.Sizes.{all_sizes}
+use Rattle.smt_terms.specs.Scripts.{Command, State, declare, define, claim, check, checks, checks_from, refutation}
+use Rattle.smt_sizes.specs.declared.size.Size.{Size}
+use Rattle.smt_sizes.specs.declared.size.Size.TheVariants.{Large}
+use Rattle.smt_sizes.specs.Sizes.{all_sizes}
 use Rattle.smt_reader.specs.declared.following.Reading.{Reading}
 use Rattle.smt_reader.specs.declared.scripts.Gathered.{Gathered}
 use Rattle.smt_reader.specs.Following.{AreNew, FollowsState}

@@ -1,22 +1,21 @@
 // What the commands of a script come to, one after another.
 
 ghost use Rattle.std.specs.Prelude.{◌≡◌, ◌≢◌, ◌++◌, ◌∷◌, [], IfOk, false};
-ghost use Rattle.texts.specs.Texts.{is_among};
-ghost use Rattle.script_terms.specs.declared.operator.Sort.TheVariants as sort;
-ghost use Rattle.script_terms.specs.Evaluation as evaluation;
-ghost use Rattle.script_terms.specs.Scripts as scripts;
-ghost use Rattle.script_terms.specs.Scripts.{State, after, after_declaration};
-ghost use Rattle.script_terms.specs.Term.{phrase};
-ghost use Rattle.script_checks.specs.Effects.{command_is};
+ghost use Rattle.base_texts.specs.Texts.{is_among};
+ghost use Rattle.smt_terms.specs.declared.operator.Sort.TheVariants as sort;
+ghost use Rattle.smt_terms.specs.Evaluation as evaluation;
+ghost use Rattle.smt_terms.specs.Scripts as scripts;
+ghost use Rattle.smt_terms.specs.Scripts.{State, after, after_declaration};
+ghost use Rattle.smt_terms.specs.Term.{phrase};
+ghost use Rattle.smt_reader.specs.Effects.{command_is};
 ghost use Rattle.smt_reader.specs.Following.{FollowsState, IsNewSymbol, texts_behind};
 
+use crate::effects::Effect;
 use linear_term::Memory;
 use pri_typing::Symbol;
-use script_checks::Effect;
-use script_extents::Forms;
-use script_names::{Body, Declared, Known};
-use script_sizes::{NOTHING, Size, beside};
-use script_terms::{Sort, Term, Variable};
+use smt_names::{Body, Declared, Known};
+use smt_sizes::{Forms, NOTHING, Size, beside};
+use smt_terms::{Sort, Term, Variable};
 use sqlite_items::Items;
 use std::alloc::Global;
 

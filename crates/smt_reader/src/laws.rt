@@ -1,9 +1,9 @@
 // A script or a refusal, as the contract of a function with nothing to do.
 
 ghost use Rattle.pri_typing.specs.declared.problem.Problem.{Problem};
-ghost use Rattle.script_checks.specs.Commands.{script_terms};
-ghost use Rattle.script_commands.specs.declared.refusal.ScriptRefusal.{ScriptRefusal};
-ghost use Rattle.script_reading.specs.Scripts.{RefusesScript};
+ghost use Rattle.smt_reader.specs.Commands.{script_terms};
+ghost use Rattle.smt_commands.specs.declared.refusal.ScriptRefusal.{ScriptRefusal};
+ghost use Rattle.smt_reader.specs.Scripts.{RefusesScript};
 ghost use Rattle.smt_reader.specs.Poses.{IsLargeScript, IsScriptOf};
 ghost use Rattle.std.specs.Prelude.{◌≡◌, ◌≢◌, List, ℕ};
 

@@ -1,11 +1,18 @@
-// A script of SMT-LIB from its bytes to the problems of its checks, or to its refusal.
+// A script of SMT-LIB from its bytes to its symbols, to what its commands come to, and to the problems of its checks, each of
+// them well formed; or to its refusal.
 #![tactic(auto)]
 
+mod check_laws;
+mod effects;
 mod following;
 mod laws;
 mod posing;
+mod reading;
 mod scripts;
 
+pub use check_laws::{answers_law, checks_law, problem_law, refusal_law, sizes_law};
+pub use effects::{Effect, read_effects};
 pub use laws::one_law;
 pub use posing::Script;
+pub use reading::read;
 pub use scripts::script;

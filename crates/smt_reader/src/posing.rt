@@ -1,22 +1,22 @@
 // The problem of a check.
 
 ghost use Rattle.std.specs.Prelude.{◌≡◌, ◌≤◌, IfOk, List, length, map, take};
-ghost use Rattle.typed_formula.specs.Formula.{every, formula, formulas, negation};
+ghost use Rattle.form_typed.specs.Formula.{every, formula, formulas, negation};
 ghost use Rattle.pri_typing.specs.Files.{all_int};
-ghost use Rattle.script_terms.specs.Scripts as scripts;
-ghost use Rattle.script_terms.specs.Scripts.{State};
-ghost use Rattle.script_terms.specs.Translation.{asserted};
-ghost use Rattle.script_checks.specs.Posed.{IsCheckPosed};
+ghost use Rattle.smt_terms.specs.Scripts as scripts;
+ghost use Rattle.smt_terms.specs.Scripts.{State};
+ghost use Rattle.smt_terms.specs.Translation.{asserted};
+ghost use Rattle.smt_reader.specs.Posed.{IsCheckPosed};
 ghost use Rattle.smt_reader.specs.Following.{AreClaims, FollowsState};
 
 use crate::following::{Assertion, Reading};
+use form_typed::{Sort, Typed};
 use linear_term::Memory;
 use pri_typing::{Problem, copy_symbols, copy_texts};
-use script_names::Body;
-use script_writing::write_formula;
+use smt_names::Body;
+use smt_writing::write_formula;
 use sqlite_items::{Boxed, Items};
 use std::alloc::Global;
-use typed_formula::{Sort, Typed};
 
 /// A script, by the problem of each `check-sat` in order: nothing satisfies the assertions before it exactly where the problem
 /// holds.

@@ -1,27 +1,25 @@
 // A script from its bytes to the problems of its checks.
 
 ghost use Rattle.std.specs.Prelude.{◌≡◌, ◌≢◌, ◌++◌, ◌∷◌, [], IfErr, IfOk, List, None, map};
-ghost use Rattle.sexpr.specs.Expressions.{expr};
-ghost use Rattle.script_reading.specs.Scripts.{as_script};
-ghost use Rattle.script_terms.specs.Scripts.{State, checks};
-ghost use Rattle.script_checks.specs.Effects.{command_is};
+ghost use Rattle.smt_lists.specs.Expressions.{expr};
+ghost use Rattle.smt_reader.specs.Scripts.{as_script};
+ghost use Rattle.smt_terms.specs.Scripts.{State, checks};
+ghost use Rattle.smt_reader.specs.Effects.{command_is};
 ghost use Rattle.smt_reader.specs.Following.{AreNew, FollowsState};
 ghost use Rattle.smt_reader.specs.Poses.{ArePosed, IsPosedBy, IsRefusedBy, IsScriptOf, IsScriptRefusal, checks_in};
-ghost use Rattle.script_checks.specs.Commands.{script_terms};
-ghost use Rattle.script_commands.specs.Faults.{refusal_of};
+ghost use Rattle.smt_reader.specs.Commands.{script_terms};
+ghost use Rattle.smt_commands.specs.Faults.{refusal_of};
 ghost use Rattle.smt_reader.specs.Taking.{ArePosedOrLarge, IsGathered, at_check, size_together};
 
+use crate::effects::{Effect, read_effects};
 use crate::following::{Reading, follow, start};
 use crate::posing::{Script, pose};
 use linear_term::Memory;
 use pri_typing::Problem;
-use script_checks::{Effect, read_effects};
-use script_commands::ScriptRefusal;
-use script_lists::{ReadRefusal, lists};
-use script_sizes::{NOTHING, Size, above, beside};
-use script_typing::Typing;
-use script_walk::walk;
-use sexpr::Sexp;
+use smt_commands::ScriptRefusal;
+use smt_lists::{ReadRefusal, Sexp, lists};
+use smt_sizes::{NOTHING, Size, above, beside};
+use smt_typing::{Typing, walk};
 use sqlite_items::Items;
 use std::alloc::Global;
 

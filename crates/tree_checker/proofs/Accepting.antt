@@ -1,9 +1,9 @@
 -- A check accepts exactly the proofs.
 use Rattle.std.proofs.Common.{◌≡◌, ◌∙◌, ◌+◌, ◌≤◌, ◌↔◌, ℕ, List, [], ◌++◌, Option, Some, None, refl, sym, ap, arith}
 use Rattle.clause_set.specs.declared.literal.Literal.{Literal}
-use Rattle.purse.specs.Trace.{At, at, End, done, refused, out_of_range, cut, next}
-use Rattle.purse.specs.Runs.{total, notes}
-use Rattle.purse.proofs.Meaning.{passes_where_runs}
+use Rattle.base_budget.specs.Trace.{At, at, End, done, refused, out_of_range, cut, next}
+use Rattle.base_budget.specs.Runs.{total, notes}
+use Rattle.base_budget.proofs.Meaning.{passes_where_runs}
 use Rattle.formula.specs.Form.{Form}
 use Rattle.proof_tree.specs.declared.node.Conclusion.{Conclusion}
 use Rattle.proof_tree.specs.declared.run.Verdict.{Verdict}

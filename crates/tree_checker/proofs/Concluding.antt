@@ -2,19 +2,19 @@
 use Rattle.std.proofs.Common.{◌≡◌, ◌∙◌, ◌+◌, ℕ, suc, ℤ, Bool, true, false, cond, ◌&&◌, nat_eq, List, [], ◌∷◌, length, Option, Some, None, Result, Ok, Err, IsErrAnd, refl, sym, subst, arith}
 use Rattle.std.specs.List.{list_all}
 use Rattle.linear_term.specs.Range.{is_in_range}
-use Rattle.purse.specs.declared.fault.StepFault.{StepFault}
-use Rattle.purse.specs.declared.log.ElimLog.{ElimLog}
-use Rattle.purse.specs.Followed.{Followed}
-use Rattle.purse.specs.Trace.{Funds, Traced, each, just, next}
-use Rattle.purse.specs.Work.{Worked}
-use Rattle.purse.proofs.Charging.{Left, left_ends, left_next, work_err, work_just}
-use Rattle.purse.proofs.Following.{follow_err, follow_free, follow_just, follow_ok}
+use Rattle.base_budget.specs.declared.fault.StepFault.{StepFault}
+use Rattle.base_budget.specs.declared.log.ElimLog.{ElimLog}
+use Rattle.base_budget.specs.Followed.{Followed}
+use Rattle.base_budget.specs.Trace.{Funds, Traced, each, just, next}
+use Rattle.base_budget.specs.Work.{Worked}
+use Rattle.base_budget.proofs.Charging.{Left, left_ends, left_next, work_err, work_just}
+use Rattle.base_budget.proofs.Following.{follow_err, follow_free, follow_just, follow_ok}
 use Rattle.clause_set.specs.declared.literal.Literal.{Literal}
 use Rattle.clause_set.specs.Dnfs.{tidied}
 use Rattle.elim_laws.specs.Logs.{by_whole_log, names_by_log}
 use Rattle.elim_check.specs.Checked.{Checked}
 use Rattle.elim_check.specs.declared.fault.LogFault.{LogFault}
-use Rattle.solution_laws.specs.Solutions.{valued_clause}
+use Rattle.solve_laws.specs.Solutions.{valued_clause}
 use Rattle.proof_tree.specs.declared.run.Verdict.{Verdict}
 use Rattle.proof_tree.specs.declared.run.Verdict.TheVariants.{Invalid}
 use Rattle.proof_tree.specs.Proves.{values_put, verdict_if}

@@ -2,18 +2,18 @@
 use Rattle.std.proofs.Common.{◌≡◌, ◌∙◌, ℕ, suc, List, [], ◌∷◌, ◌++◌, length, append_assoc, append-nil, Option, Some, refl, sym, ap, subst, arith}
 use Rattle.std.specs.Prelude.{map}
 use Rattle.clause_set.specs.declared.literal.Literal.{Literal}
-use Rattle.line_source.specs.Told.{TellsLine}
-use Rattle.line_source.specs.declared.Line.{Line}
-use Rattle.line_source.specs.declared.Line.TheVariants as line
+use Rattle.proof_file.specs.Told.{TellsLine}
+use Rattle.proof_file.specs.declared.source.Line.{Line}
+use Rattle.proof_file.specs.declared.source.Line.TheVariants as line
 use Rattle.proof_tree.specs.declared.node.Conclusion.{Conclusion}
 use Rattle.proof_tree.specs.declared.node.Node.{Node, out-Node}
 use Rattle.proof_tree.specs.declared.node.Node.TheFolds.{fold_out-Node}
 use Rattle.proof_tree.specs.Proof.{Proof, node, proofs}
 use Rattle.proof_tree.specs.Views.{proof_of, proof_step}
 use Rattle.proof_tree.specs.Walk.{width}
-use Rattle.purse.specs.declared.log.ElimLog.{ElimLog}
-use Rattle.proof_line.specs.Lines.{last_lines}
-use Rattle.proof_line.specs.declared.lines.TextLine.{TextLine}
+use Rattle.base_budget.specs.declared.log.ElimLog.{ElimLog}
+use Rattle.proof_grammar.specs.Lines.{last_lines}
+use Rattle.proof_grammar.specs.declared.lines.TextLine.{TextLine}
 use Rattle.tree_checker.specs.Frames.{IsLineTold, all_due, below, due, ends, row_line}
 use Rattle.tree_checker.specs.Told.{told_all, told_lines, told_width}
 use Rattle.tree_checker.specs.declared.frames.Frame.{Frame}

@@ -1,10 +1,10 @@
 -- The check of a whole proof.
 use Rattle.std.proofs.Common.{◌≡◌, ◌∙◌, ℕ, ◌&&◌, List, [], Option, Some, None, Result, Ok, Err, IsErrAnd, refl, sym, ap, subst, arith}
-use Rattle.purse.specs.declared.fault.StepFault.{StepFault}
-use Rattle.purse.specs.declared.fault.StepFault.TheVariants as step_fault
-use Rattle.purse.specs.Followed.{Followed}
-use Rattle.purse.specs.Trace.{Funds, at, cut, enter, next, note}
-use Rattle.purse.proofs.Following.{follow_err, follow_just, follow_memory, follow_note, follow_ok}
+use Rattle.base_budget.specs.declared.fault.StepFault.{StepFault}
+use Rattle.base_budget.specs.declared.fault.StepFault.TheVariants as step_fault
+use Rattle.base_budget.specs.Followed.{Followed}
+use Rattle.base_budget.specs.Trace.{Funds, at, cut, enter, next, note}
+use Rattle.base_budget.proofs.Following.{follow_err, follow_just, follow_memory, follow_note, follow_ok}
 use Rattle.clause_set.specs.declared.literal.Literal.{Literal}
 use Rattle.formula.specs.Form.{Form, is_pure}
 use Rattle.sequent.specs.declared.member.Pick.{Pick}

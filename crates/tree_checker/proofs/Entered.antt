@@ -1,13 +1,13 @@
 -- How the walk enters a node.
 use Rattle.std.proofs.Common.{◌≡◌, ◌∙◌, ℕ, suc, ◌+◌, Bool, true, false, ◌&&◌, nat_eq, List, [], ◌∷◌, ◌++◌, length, append_assoc, Option, Some, None, Result, Ok, Err, IsErrAnd, refl, sym, ap, subst, arith}
 use Rattle.std.proofs.lemmas.Bool.Decides.{Decides-eqb}
-use Rattle.purse.specs.declared.fault.StepFault.{StepFault}
-use Rattle.purse.specs.declared.fault.StepFault.TheVariants.{Memory}
-use Rattle.purse.specs.declared.log.Entry.{Entry}
-use Rattle.purse.specs.Followed.{Followed}
-use Rattle.purse.specs.Trace.{Funds, Traced, enter, just, next, pay}
-use Rattle.purse.specs.Work.{Charged}
-use Rattle.purse.proofs.Following.{follow_err, follow_just, follow_memory, follow_note, follow_ok, follow_unnoted}
+use Rattle.base_budget.specs.declared.fault.StepFault.{StepFault}
+use Rattle.base_budget.specs.declared.fault.StepFault.TheVariants.{Memory}
+use Rattle.base_budget.specs.declared.log.Entry.{Entry}
+use Rattle.base_budget.specs.Followed.{Followed}
+use Rattle.base_budget.specs.Trace.{Funds, Traced, enter, just, next, pay}
+use Rattle.base_budget.specs.Work.{Charged}
+use Rattle.base_budget.proofs.Following.{follow_err, follow_just, follow_memory, follow_note, follow_ok, follow_unnoted}
 use Rattle.clause_set.specs.declared.literal.Literal.{Literal}
 use Rattle.sequent.specs.declared.member.Pick.{Pick}
 use Rattle.sequent.specs.Rules.{applies, premises_of}
@@ -15,9 +15,9 @@ use Rattle.sequent.specs.Sequent.{Sequent}
 use Rattle.proof_tree.specs.Proves.{rule_of}
 use Rattle.proof_tree.specs.Proof.{Proof, Proofs, no_proof, and_proof, node}
 use Rattle.proof_tree.specs.Walk.{all_walked, fee, fits, left_at, nodes_in, on_some, walked, width}
-use Rattle.proof_line.specs.declared.lines.TextLine.{TextLine}
-use Rattle.proof_line.specs.declared.lines.TextLine.TheVariants as w
-use Rattle.proof_line.specs.Lines.{last_lines}
+use Rattle.proof_grammar.specs.declared.lines.TextLine.{TextLine}
+use Rattle.proof_grammar.specs.declared.lines.TextLine.TheVariants as w
+use Rattle.proof_grammar.specs.Lines.{last_lines}
 use Rattle.tree_checker.specs.declared.course.Course.{Course}
 use Rattle.tree_checker.specs.Hand.{at_node}
 use Rattle.tree_checker.specs.Told.{HasLevels, HaveLevels, told_all, told_lines, told_width}

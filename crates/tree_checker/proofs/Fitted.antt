@@ -1,15 +1,15 @@
 -- Which count of premises a row tells, and what it means that a rule has so many.
 use Rattle.std.proofs.Common.{◌≡◌, ◌∙◌, ℕ, zero, suc, ◌+◌, ◌<◌, ◌≤◌, Bool, true, false, cond, ◌&&◌, nat_eq, nat_lt, List, [], ◌∷◌, ◌++◌, length, is_none, is_some, refl, sym, arith}
-use Rattle.purse.specs.declared.log.Entry.{Entry}
+use Rattle.base_budget.specs.declared.log.Entry.{Entry}
 use Rattle.sequent.specs.declared.member.Pick.{Pick}
 use Rattle.sequent.specs.declared.member.Pick.TheVariants as pick
 use Rattle.sequent.specs.Rules.{applies, place, premises_of}
 use Rattle.sequent.specs.Sequent.{Sequent}
 use Rattle.proof_tree.specs.Proof.{Proof, Proofs, node, no_proof, and_proof}
 use Rattle.proof_tree.specs.Walk.{eliminates, fits, is_empty, width}
-use Rattle.proof_line.specs.declared.lines.TextLine.TheVariants as w
-use Rattle.proof_line.specs.Lines.{last_lines, lines, lines_all}
-use Rattle.proof_line.specs.Owed.{HasWidth, Shallow}
+use Rattle.proof_grammar.specs.declared.lines.TextLine.TheVariants as w
+use Rattle.proof_grammar.specs.Lines.{last_lines, lines, lines_all}
+use Rattle.proof_grammar.specs.Owed.{HasWidth, Shallow}
 use Rattle.proof_grammar.specs.Shaped.{AreShapedNodes, IsShapedNode}
 use Rattle.tree_checker.specs.Told.{HasLevels, HaveLevels, told_all, told_lines, told_width, too_many}
 

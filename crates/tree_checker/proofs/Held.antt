@@ -1,12 +1,12 @@
 -- The proof that a file holds, checked.
 use Rattle.std.proofs.Common.{◌≡◌, ◌∷◌, ◌++◌, ◌≤◌, [], ℕ, List, Result, Ok, Err, sym, subst}
-use Rattle.purse.specs.declared.log.ElimLog.{ElimLog}
+use Rattle.base_budget.specs.declared.log.ElimLog.{ElimLog}
 use Rattle.formula.specs.Form.{Form}
 use Rattle.proof_tree.specs.declared.node.Conclusion.{Conclusion}
 use Rattle.proof_tree.specs.Proof.{Proof}
-use Rattle.proof_line.specs.Lines.{lines}
-use Rattle.proof_line.specs.Owed.{Shallow}
-use Rattle.proof_line.specs.declared.lines.TextLine.TheVariants as w
+use Rattle.proof_grammar.specs.Lines.{lines}
+use Rattle.proof_grammar.specs.Owed.{Shallow}
+use Rattle.proof_grammar.specs.declared.lines.TextLine.TheVariants as w
 use Rattle.proof_grammar.specs.Shaped.{IsShapedNode}
 use Rattle.proof_grammar.specs.declared.walk.Walk.{Walk}
 use Rattle.proof_file.specs.declared.refusal.ProofRefusal.{ProofRefusal}

@@ -1,12 +1,12 @@
 -- How the walk leaves a node.
 use Rattle.std.proofs.Common.{◌≡◌, ℕ, Bool, true, false, cond, List, [], Option, Some, None, Result, Ok, Err, IfSome, IsErrAnd, refl, sym, ap, subst, ◌∙◌}
-use Rattle.purse.specs.declared.fault.StepFault.{StepFault}
-use Rattle.purse.specs.declared.fault.StepFault.TheVariants.{Memory}
-use Rattle.purse.specs.declared.log.ElimLog.{ElimLog}
-use Rattle.purse.specs.declared.log.Entry.{Entry}
-use Rattle.purse.specs.Followed.{Followed}
-use Rattle.purse.specs.Trace.{Funds, back, next}
-use Rattle.purse.proofs.Following.{follow_err, follow_just, follow_memory, follow_note, follow_ok}
+use Rattle.base_budget.specs.declared.fault.StepFault.{StepFault}
+use Rattle.base_budget.specs.declared.fault.StepFault.TheVariants.{Memory}
+use Rattle.base_budget.specs.declared.log.ElimLog.{ElimLog}
+use Rattle.base_budget.specs.declared.log.Entry.{Entry}
+use Rattle.base_budget.specs.Followed.{Followed}
+use Rattle.base_budget.specs.Trace.{Funds, back, next}
+use Rattle.base_budget.proofs.Following.{follow_err, follow_just, follow_memory, follow_note, follow_ok}
 use Rattle.clause_set.specs.declared.literal.Literal.{Literal}
 use Rattle.sequent.specs.declared.member.Pick.{Pick}
 use Rattle.sequent.specs.Sequent.{Sequent}

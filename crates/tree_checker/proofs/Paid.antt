@@ -1,11 +1,11 @@
 -- What is paid while a proof is walked, and what did not come out of a call.
 use Rattle.std.proofs.Common.{◌≡◌, ◌+◌, ◌≤◌, Option, Result, Ok, Err, IsErrAnd, ap, arith}
-use Rattle.purse.specs.declared.fault.StepFault.{StepFault}
-use Rattle.purse.specs.Followed.{Later}
-use Rattle.purse.specs.Trace.{Funds, capped, pay, step}
-use Rattle.purse.specs.Work.{Charged}
-use Rattle.purse.proofs.Advancing.{followed_later, followed_whole}
-use Rattle.purse.proofs.Following.{follow_unnoted}
+use Rattle.base_budget.specs.declared.fault.StepFault.{StepFault}
+use Rattle.base_budget.specs.Followed.{Later}
+use Rattle.base_budget.specs.Trace.{Funds, capped, pay, step}
+use Rattle.base_budget.specs.Work.{Charged}
+use Rattle.base_budget.proofs.Advancing.{followed_later, followed_whole}
+use Rattle.base_budget.proofs.Following.{follow_unnoted}
 use Rattle.sequent.specs.declared.member.Pick.{Pick}
 use Rattle.sequent.specs.declared.member.Pick.TheVariants as pick
 use Rattle.sequent.specs.Sequent.{Sequent}

@@ -1,15 +1,15 @@
 -- What a checked log answers, as the work of a walk.
 use Rattle.std.proofs.Common.{◌≡◌, ◌∙◌, ℕ, suc, List, [], ◌∷◌, map, take, Option, Some, Result, Ok, Err, refl, sym, subst, arith, ◌+◌, ◌-◌}
 use Rattle.linear_term.specs.declared.range.TermFault.{TermFault}
-use Rattle.purse.specs.declared.log.Entry.{Entry}
-use Rattle.purse.specs.declared.fault.StepFault.{StepFault}
-use Rattle.purse.specs.declared.fault.StepFault.TheVariants as step_fault
-use Rattle.purse.specs.Trace.{Funds, entry, new_log, Traced, just, next, note}
-use Rattle.purse.specs.Work.{Charged, step_fault_of}
-use Rattle.purse.specs.Followed.{Followed, after_notes, UnlessMemory}
-use Rattle.purse.proofs.Following.{follow_ok, follow_fault, follow_just, follow_free, follow_note, follow_unnoted}
-use Rattle.purse.proofs.Charging.{then_just}
-use Rattle.purse.proofs.Tracing.{next-same, next-just, next-assoc}
+use Rattle.base_budget.specs.declared.log.Entry.{Entry}
+use Rattle.base_budget.specs.declared.fault.StepFault.{StepFault}
+use Rattle.base_budget.specs.declared.fault.StepFault.TheVariants as step_fault
+use Rattle.base_budget.specs.Trace.{Funds, entry, new_log, Traced, just, next, note}
+use Rattle.base_budget.specs.Work.{Charged, step_fault_of}
+use Rattle.base_budget.specs.Followed.{Followed, after_notes, UnlessMemory}
+use Rattle.base_budget.proofs.Following.{follow_ok, follow_fault, follow_just, follow_free, follow_note, follow_unnoted}
+use Rattle.base_budget.proofs.Charging.{then_just}
+use Rattle.base_budget.proofs.Tracing.{next-same, next-just, next-assoc}
 use Rattle.clause_set.specs.declared.literal.Literal.{Literal}
 use Rattle.formula.specs.Form.{Form}
 use Rattle.formula.specs.Made.{Made}

@@ -3,15 +3,15 @@ use Rattle.std.proofs.Common.{◌≡◌, ◌∙◌, ℕ, suc, ◌+◌, List, [],
 use Rattle.std.proofs.lemmas.List.{append-nil, drop_more}
 use Rattle.std.proofs.lemmas.Option.{get_or_from_slice_get, slice_get_within}
 use Rattle.std.specs.List.{slice_get}
-use Rattle.purse.specs.declared.fault.StepFault.{StepFault}
-use Rattle.purse.specs.declared.fault.StepFault.TheVariants.{Memory}
-use Rattle.purse.specs.Trace.{Funds, next}
-use Rattle.purse.proofs.Following.{Going, follow_err, follow_just, follow_memory, follow_ok, going_all, going_ends, going_next}
+use Rattle.base_budget.specs.declared.fault.StepFault.{StepFault}
+use Rattle.base_budget.specs.declared.fault.StepFault.TheVariants.{Memory}
+use Rattle.base_budget.specs.Trace.{Funds, next}
+use Rattle.base_budget.proofs.Following.{Going, follow_err, follow_just, follow_memory, follow_ok, going_all, going_ends, going_next}
 use Rattle.clause_set.specs.declared.literal.Literal.{Literal}
 use Rattle.sequent.specs.Sequent.{Sequent}
 use Rattle.proof_tree.specs.Proof.{Proof, Proofs, no_proof, and_proof, given, all_given}
 use Rattle.proof_tree.specs.Walk.{all_walked, nodes_in, nodes_in_all, on_some, walked, width}
-use Rattle.proof_line.specs.declared.lines.TextLine.{TextLine}
+use Rattle.proof_grammar.specs.declared.lines.TextLine.{TextLine}
 use Rattle.tree_checker.specs.declared.course.Course.{Course}
 use Rattle.tree_checker.specs.Hand.{at_node}
 use Rattle.tree_checker.specs.Told.{HasLevels, HaveLevels, told_all, told_lines}

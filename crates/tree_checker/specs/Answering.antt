@@ -2,11 +2,11 @@
 use Rattle.std.specs.Prelude.{◌≡◌, ℕ, ℤ, true, false, ◌&&◌, List, length, Contains, Option, Some, None, Result, Ok, Err}
 use Rattle.linear_term.specs.declared.range.Place.{Place}
 use Rattle.linear_term.specs.Range.{stays}
-use Rattle.typed_formula.specs.Truth.{Meaning}
-use Rattle.purse.specs.declared.fault.StepFault.{StepFault}
-use Rattle.purse.specs.declared.fault.StepFault.TheVariants as step_fault
-use Rattle.purse.specs.Followed.{Followed}
-use Rattle.purse.specs.Trace.{Funds, enter, next, note}
+use Rattle.form_typed.specs.Truth.{Meaning}
+use Rattle.base_budget.specs.declared.fault.StepFault.{StepFault}
+use Rattle.base_budget.specs.declared.fault.StepFault.TheVariants as step_fault
+use Rattle.base_budget.specs.Followed.{Followed}
+use Rattle.base_budget.specs.Trace.{Funds, enter, next, note}
 use Rattle.clause_set.specs.declared.literal.Literal.{Literal}
 use Rattle.clause_set.specs.Literals.{dnf_truth}
 use Rattle.formula.specs.Form.{Form, FormTruth, is_pure}

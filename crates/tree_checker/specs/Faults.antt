@@ -1,8 +1,8 @@
 -- What a check of a proof answers: what the proof proves, or the first thing that is wrong with it.
 use Rattle.std.specs.Prelude.{ℕ, List, [], Option, Some, None}
 use Rattle.linear_term.specs.declared.range.Place.{Place}
-use Rattle.purse.specs.Followed.{after_notes}
-use Rattle.purse.specs.Trace.{Mark, At, at, End, done, refused, out_of_range, cut, Traced}
+use Rattle.base_budget.specs.Followed.{after_notes}
+use Rattle.base_budget.specs.Trace.{Mark, At, at, End, done, refused, out_of_range, cut, Traced}
 use Rattle.formula.specs.Form.{Form}
 use Rattle.proof_tree.specs.declared.node.Conclusion.{Conclusion}
 use Rattle.proof_tree.specs.declared.run.Verdict.{Verdict}

@@ -2,17 +2,17 @@
 use Rattle.std.specs.Prelude.{◌≡◌, List, [], ◌∷◌, ◌++◌, map, Option, None, Some}
 use Rattle.std.specs.Option.{option_copied}
 use Rattle.clause_set.specs.declared.literal.Literal.{Literal}
-use Rattle.line_source.specs.Told.{TellsLine}
-use Rattle.line_source.specs.declared.Line.{Line}
+use Rattle.proof_file.specs.Told.{TellsLine}
+use Rattle.proof_file.specs.declared.source.Line.{Line}
 use Rattle.proof_tree.specs.declared.node.Conclusion.{Conclusion}
 use Rattle.proof_tree.specs.declared.node.Tree.{Tree}
 use Rattle.proof_tree.specs.Proof.{Proof, node, proofs}
 use Rattle.proof_tree.specs.Views.{proof_of}
 use Rattle.proof_tree.specs.Walk.{width}
-use Rattle.purse.specs.declared.log.ElimLog.{ElimLog}
-use Rattle.proof_line.specs.Lines.{last_lines}
-use Rattle.proof_line.specs.declared.lines.TextLine.{TextLine}
-use Rattle.proof_line.specs.declared.lines.TextLine.TheVariants as w
+use Rattle.base_budget.specs.declared.log.ElimLog.{ElimLog}
+use Rattle.proof_grammar.specs.Lines.{last_lines}
+use Rattle.proof_grammar.specs.declared.lines.TextLine.{TextLine}
+use Rattle.proof_grammar.specs.declared.lines.TextLine.TheVariants as w
 use Rattle.tree_checker.specs.Told.{told_all, told_lines, told_width}
 use Rattle.tree_checker.specs.declared.frames.Frame.{Frame}
 use Rattle.tree_checker.specs.declared.frames.Stage.{Stage}

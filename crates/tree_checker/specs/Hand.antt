@@ -1,8 +1,8 @@
 -- Where a walk over a proof is, and how it says what a checked log answers.
 use Rattle.std.specs.Prelude.{ℕ, Option, Some, None, Result, Ok, Err}
-use Rattle.purse.specs.Trace.{Mark, entry, new_log, round, enter, back}
-use Rattle.purse.specs.declared.fault.StepFault.{StepFault}
-use Rattle.purse.specs.declared.fault.StepFault.TheVariants as step
+use Rattle.base_budget.specs.Trace.{Mark, entry, new_log, round, enter, back}
+use Rattle.base_budget.specs.declared.fault.StepFault.{StepFault}
+use Rattle.base_budget.specs.declared.fault.StepFault.TheVariants as step
 use Rattle.elim_check.specs.declared.fault.LogFault.{LogFault}
 use Rattle.elim_check.specs.declared.fault.LogFault.TheVariants.{Entry, Range, Cost, Memory}
 

@@ -1,12 +1,12 @@
 -- The lines in which a walk is told of a proof, whatever the proof is: those of its text, but for the premises that a row counts.
 use Rattle.std.specs.Prelude.{ℕ, zero, suc, cond, ◌&&◌, nat_lt, true, List, [], ◌∷◌, ◌++◌}
-use Rattle.purse.specs.declared.log.Entry.{Entry}
+use Rattle.base_budget.specs.declared.log.Entry.{Entry}
 use Rattle.sequent.specs.declared.member.Pick.{Pick}
 use Rattle.proof_tree.specs.Proof.{Proof, Proofs, node, no_proof, and_proof}
 use Rattle.proof_tree.specs.Walk.{eliminates, is_empty, width}
-use Rattle.proof_line.specs.declared.lines.TextLine.{TextLine}
-use Rattle.proof_line.specs.declared.lines.TextLine.TheVariants as w
-use Rattle.proof_line.specs.Lines.{last_lines}
+use Rattle.proof_grammar.specs.declared.lines.TextLine.{TextLine}
+use Rattle.proof_grammar.specs.declared.lines.TextLine.TheVariants as w
+use Rattle.proof_grammar.specs.Lines.{last_lines}
 
 -- more premises than a rule has
 abbrev pub too_many : ℕ

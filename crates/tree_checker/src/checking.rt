@@ -1,9 +1,9 @@
 // A check of a whole proof: the walk over its tree, and then its conclusion.
 
 ghost use Rattle.formula.specs.Tree.{form};
-ghost use Rattle.limits.specs.Limits.{branch_limit, most_budget};
+ghost use Rattle.base_limits.specs.Limits.{branch_limit, most_budget};
 ghost use Rattle.formula.specs.Searchable.{IsSearchable};
-ghost use Rattle.open_branch.specs.Standing.{standing};
+ghost use Rattle.tree_branch.specs.Standing.{standing};
 ghost use Rattle.proof_tree.specs.Proof.{Proof};
 ghost use Rattle.proof_tree.specs.Proves as proves;
 ghost use Rattle.proof_tree.specs.declared.node.Conclusion as tree;
@@ -11,25 +11,25 @@ ghost use Rattle.std.specs.Prelude.{◌≡◌, ◌++◌, ◌∷◌, ◌≤◌, [
 ghost use Rattle.tree_checker.specs.Answering.{ChecksAs, HasChecked, HasConcluded, answer_at};
 ghost use Rattle.tree_checker.specs.Told.{HasLevels, told_lines};
 ghost use Rattle.tree_checker.specs.Walking.{IsPaid};
-ghost use Rattle.proof_line.specs.Lines as text;
-ghost use Rattle.proof_line.specs.Owed.{Shallow};
-ghost use Rattle.proof_line.specs.declared.lines.TextLine.TheVariants as w;
+ghost use Rattle.proof_grammar.specs.Lines as text;
+ghost use Rattle.proof_grammar.specs.Owed.{Shallow};
+ghost use Rattle.proof_grammar.specs.declared.lines.TextLine.TheVariants as w;
 ghost use Rattle.proof_grammar.specs.Shaped.{IsShapedNode};
 
 use crate::conclusion::{conclude, is_exact};
 use crate::course::Course;
 use crate::reading::{read_end, read_row};
 use crate::walk::enter;
+use base_budget::{Purse, StepFault};
+use base_limits::BRANCH_LIMIT;
 use clause_set::Dnf;
 use formula::Core;
-use limits::BRANCH_LIMIT;
-use line_source::ProofLines;
 use linear_term::{Memory, Place};
-use open_branch::Branch;
+use proof_file::ProofLines;
 use proof_tree::Verdict;
-use purse::{Purse, StepFault};
 use sequent::{Pick, start};
 use std::alloc::Global;
+use tree_branch::Branch;
 
 /// What a check of a proof accepts: the constraint of the root, whether that is exact, and what the proof says.
 #[derive(Drop)]

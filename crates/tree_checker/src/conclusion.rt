@@ -11,9 +11,9 @@ ghost use Rattle.proof_tree.specs.Walk.{is_same, on_some};
 ghost use Rattle.proof_tree.specs.declared.node.Conclusion.TheVariants as conclusion;
 ghost use Rattle.proof_tree.specs.declared.run.Verdict.TheVariants as verdict;
 ghost use Rattle.clause_set.specs.Dnfs.{top};
-ghost use Rattle.purse.specs.Followed.{Followed};
-ghost use Rattle.purse.specs.Trace.{Funds, just, next};
-ghost use Rattle.purse.specs.Work.{Worked};
+ghost use Rattle.base_budget.specs.Followed.{Followed};
+ghost use Rattle.base_budget.specs.Trace.{Funds, just, next};
+ghost use Rattle.base_budget.specs.Work.{Worked};
 ghost use Rattle.sequent.specs.declared.member.Pick.{Pick};
 ghost use Rattle.std.specs.List.{list_all};
 ghost use Rattle.std.specs.Prelude.{◌≡◌, ◌<◌, ◌^◌, ◌&&◌, [], length, true, ℕ};
@@ -21,16 +21,16 @@ ghost use Rattle.tree_checker.specs.Hand.{at_node};
 
 use crate::constraints::outcome;
 use crate::same::{is_bottom, is_top};
+use base_budget::{ElimLog, Purse, StepFault};
 use clause_set::Dnf;
 use elim_check::check_all;
 use formula::{Core, is_pure};
 use linear_term::in_range;
 use proof_tree::{Conclusion, Verdict};
-use purse::{ElimLog, Purse, StepFault};
 use sequent::Pick;
+use solve_values::valued_clauses;
 use sqlite_items::Items;
 use std::alloc::Global;
-use value_steps::valued_clauses;
 
 /// Whether the values are in the range of coefficients.
 fn are_in_range(vs: &[i128]) -> bool
@@ -47,7 +47,7 @@ fn are_in_range(vs: &[i128]) -> bool
 }
 
 /// What is left of the constraint where the names from 0 on have these values.
-#[tactic(auto, using(purse::proofs::Charging::leaving))]
+#[tactic(auto, using(base_budget::proofs::Charging::leaving))]
 fn values_put(alloc: Global, vs: &[i128], d: &Dnf) -> Result<Dnf, StepFault>
     requires range { list_all is_in_range vs.now ≡ true }
     requires few { length vs.now < 2 ^ 32 }
@@ -66,7 +66,7 @@ fn values_put(alloc: Global, vs: &[i128], d: &Dnf) -> Result<Dnf, StepFault>
 }
 
 /// The verdict of values that satisfy the constraint; nothing where they do not.
-#[tactic(auto, using(purse::proofs::Charging::working))]
+#[tactic(auto, using(base_budget::proofs::Charging::working))]
 fn satisfied(alloc: Global, vs: &[i128], d: &Dnf) -> Result<Option<Verdict>, StepFault>
     requires range { list_all is_in_range vs.now ≡ true }
     requires few { length vs.now < 2 ^ 32 }

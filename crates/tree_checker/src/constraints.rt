@@ -5,27 +5,26 @@ ghost use Rattle.formula.specs.Sizes.{depth};
 ghost use Rattle.elim_laws.specs.Logs.{by_whole_log, name_by_log, reads_none, every_by_log};
 ghost use Rattle.pred_unify.specs.Pairs.{closing_of};
 ghost use Rattle.pred_unify.specs.Reading.{HasKinds, sequent_at};
-ghost use Rattle.open_branch.specs.Standing.{rule_at, standing};
+ghost use Rattle.tree_branch.specs.Standing.{rule_at, standing};
 ghost use Rattle.proof_tree.specs.Rules.{conjoined, first_given};
 ghost use Rattle.proof_tree.specs.Walk.{eliminates, redone};
-ghost use Rattle.purse.specs.Followed.{Followed, Later};
-ghost use Rattle.purse.specs.Trace.{Funds, just};
-ghost use Rattle.purse.specs.declared.log.Entry.{Entry};
+ghost use Rattle.base_budget.specs.Followed.{Followed, Later};
+ghost use Rattle.base_budget.specs.Trace.{Funds, just};
+ghost use Rattle.base_budget.specs.declared.log.Entry.{Entry};
 ghost use Rattle.sequent.specs.Views.{HasRoom, sequent_of};
 ghost use Rattle.sequent.specs.declared.member.Pick.TheVariants as pick;
 ghost use Rattle.std.specs.Prelude.{◌≡◌, ◌+◌, ◌<◌, ◌≤◌, ◌^◌, [], List, ℕ};
 ghost use Rattle.tree_checker.specs.Hand.{at_node, outcome};
 ghost use Rattle.tree_checker.specs.Walking.{IsLogOf};
 
+use base_budget::{ElimLog, Purse, StepFault};
 use clause_set::Dnf;
 use elim_check::{LogFault, check_exists, check_forall, check_log};
-use node_steps::conjoined;
-use open_branch::{Branch, Principal};
 use pred_unify::{Leaf, closing_at};
-use purse::{ElimLog, Purse, StepFault};
 use sequent::Shape;
 use sqlite_items::Items;
 use std::alloc::Global;
+use tree_branch::{Branch, Principal, conjoined};
 
 /// The answer about a log, as a walk over a proof has it.
 pub fn outcome(answer: Result<Dnf, LogFault>) -> Result<Option<Dnf>, StepFault>
@@ -53,7 +52,7 @@ fn first_of(alloc: Global, given: Items<Dnf>) -> Dnf
 }
 
 /// The constraint of trivial.
-#[tactic(auto, using(purse::proofs::Following::follow_memory, crate::proofs::Redoing::unlogged_just))]
+#[tactic(auto, using(base_budget::proofs::Following::follow_memory, crate::proofs::Redoing::unlogged_just))]
 fn trivial(alloc: Global) -> Result<Option<Dnf>, StepFault>
     ensures { (b : Funds) (n : ℕ) → Followed at_node (by_whole_log (reads_none (just top)) []) b n result b n }
 {
@@ -69,7 +68,7 @@ fn alpha(alloc: Global, given: Items<Dnf>) -> Result<Option<Dnf>, StepFault>
 }
 
 /// The constraint of beta: that of each premise.
-#[tactic(auto, using(purse::proofs::Following::follow_memory, crate::proofs::Redoing::unlogged_ok, crate::proofs::Redoing::unlogged_err))]
+#[tactic(auto, using(base_budget::proofs::Following::follow_memory, crate::proofs::Redoing::unlogged_ok, crate::proofs::Redoing::unlogged_err))]
 fn beta(alloc: Global, given: &[Dnf], purse: &mut Purse) -> Result<Option<Dnf>, StepFault>
     ensures { (n : ℕ) → Followed at_node (by_whole_log (reads_none (conjoined given.now top)) []) purse.old n result purse.new n }
 {

@@ -1,6 +1,6 @@
 // Where a check is.
 
-ghost use Rattle.purse.specs.Trace.{back, enter};
+ghost use Rattle.base_budget.specs.Trace.{back, enter};
 ghost use Rattle.std.specs.Prelude.{◌≡◌, ◌+◌, ◌<◌, ◌^◌};
 ghost use Rattle.tree_checker.specs.Hand.{at_node};
 

@@ -1,25 +1,25 @@
 // The lines of a tree in memory, one by one. Each node that was begun has a frame: what is still to come of it.
 
 ghost use Rattle.clause_set.specs.declared.literal.Literal.{Literal};
-ghost use Rattle.line_source.specs.Told.{KeepsLog, TellsLine};
+ghost use Rattle.proof_file.specs.Told.{KeepsLog, TellsLine};
 ghost use Rattle.proof_tree.specs.Views.{proof_of};
 ghost use Rattle.proof_tree.specs.declared.node.Conclusion as tree;
-ghost use Rattle.purse.specs.declared.log.ElimLog as logs;
+ghost use Rattle.base_budget.specs.declared.log.ElimLog as logs;
 ghost use Rattle.std.specs.Option.{option_copied};
 ghost use Rattle.std.specs.Prelude.{◌≡◌, ◌++◌, ◌∷◌, [], IfErr, IfOk, List, None, Some};
 ghost use Rattle.tree_checker.specs.Frames.{IsLineTold, all_due, below, due, ends, row_line, still_due};
 ghost use Rattle.tree_checker.specs.Told as told;
 ghost use Rattle.tree_checker.specs.Told.{told_lines};
-ghost use Rattle.proof_line.specs.Lines.{last_lines};
-ghost use Rattle.proof_line.specs.declared.lines.TextLine.{TextLine};
-ghost use Rattle.proof_line.specs.declared.lines.TextLine.TheVariants as w;
+ghost use Rattle.proof_grammar.specs.Lines.{last_lines};
+ghost use Rattle.proof_grammar.specs.declared.lines.TextLine.{TextLine};
+ghost use Rattle.proof_grammar.specs.declared.lines.TextLine.TheVariants as w;
 
 use crate::nodes::eliminates;
+use base_budget::ElimLog;
 use clause_set::Literal;
-use line_source::{Line, ProofLines};
 use linear_term::Memory;
+use proof_file::{Line, ProofLines};
 use proof_tree::{Conclusion, Node, Tree, copy_clauses};
-use purse::ElimLog;
 use sequent::Pick;
 use sqlite_items::Items;
 use std::alloc::Global;
@@ -172,10 +172,10 @@ impl<'a> TreeLines<'a> {
 }
 
 impl<'a> ProofLines for TreeLines<'a> {
-    ghost use Rattle.line_source.specs.Told.{KeepsLog, TellsLine};
+    ghost use Rattle.proof_file.specs.Told.{KeepsLog, TellsLine};
     ghost use Rattle.std.specs.Prelude.{◌≡◌, ◌∷◌, [], IfErr, IfOk, List, None};
     ghost use Rattle.tree_checker.specs.Frames.{still_due};
-    ghost use Rattle.proof_line.specs.declared.lines.TextLine.{TextLine};
+    ghost use Rattle.proof_grammar.specs.declared.lines.TextLine.{TextLine};
 
     ghost coming = { λ s ls. ls ≡ still_due s.stage s.tree.now s.outer };
 

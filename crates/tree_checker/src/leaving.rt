@@ -1,16 +1,16 @@
 // How the walk leaves a node: its log and its constraint come, and the constraint is made again.
 
 ghost use Rattle.clause_set.specs.declared.literal.Literal.{Literal};
-ghost use Rattle.node_steps.specs.Within.{IsWithin};
-ghost use Rattle.open_branch.specs.Standing.{rule_at, standing};
+ghost use Rattle.tree_branch.specs.Within.{IsWithin};
+ghost use Rattle.tree_branch.specs.Standing.{rule_at, standing};
 ghost use Rattle.pred_unify.specs.Reading.{HasKinds, sequent_at};
 ghost use Rattle.proof_tree.specs.Proof as tree;
 ghost use Rattle.proof_tree.specs.Proof.{Proofs};
 ghost use Rattle.proof_tree.specs.Walk as walk;
 ghost use Rattle.proof_tree.specs.Walk.{on_some};
-ghost use Rattle.purse.specs.Followed.{Followed};
-ghost use Rattle.purse.specs.Trace.{Funds};
-ghost use Rattle.purse.specs.declared.log.Entry.{Entry};
+ghost use Rattle.base_budget.specs.Followed.{Followed};
+ghost use Rattle.base_budget.specs.Trace.{Funds};
+ghost use Rattle.base_budget.specs.declared.log.Entry.{Entry};
 ghost use Rattle.sequent.specs.Rules.{applies, place};
 ghost use Rattle.sequent.specs.Views.{sequent_of};
 ghost use Rattle.sequent.specs.declared.member.Pick.TheVariants as pick;
@@ -18,23 +18,22 @@ ghost use Rattle.std.specs.Prelude.{◌≡◌, ◌&&◌, ◌++◌, [], false, is
 ghost use Rattle.tree_checker.specs.Hand.{at_node};
 ghost use Rattle.tree_checker.specs.Told.{told_all, told_width};
 ghost use Rattle.tree_checker.specs.Walking.{HasLeft, HasWalked, IfGiven, IsPaid};
-ghost use Rattle.proof_line.specs.Lines.{last_lines};
-ghost use Rattle.proof_line.specs.declared.lines.TextLine.{TextLine};
+ghost use Rattle.proof_grammar.specs.Lines.{last_lines};
+ghost use Rattle.proof_grammar.specs.declared.lines.TextLine.{TextLine};
 
 use crate::constraints::{redo, redo_leaf};
 use crate::course::Course;
 use crate::nodes::is_leaf;
 use crate::reading::read_last;
 use crate::same::is_same;
+use base_budget::{Purse, StepFault};
 use clause_set::{Dnf, Literal};
-use line_source::ProofLines;
-use node_steps::leaf_fee;
-use open_branch::{Branch, Principal};
 use pred_unify::Leaf;
-use purse::{Purse, StepFault};
+use proof_file::ProofLines;
 use sequent::Pick;
 use sqlite_items::Items;
 use std::alloc::Global;
+use tree_branch::{Branch, Principal, leaf_fee};
 
 /// What was made again, where that is what the node gives.
 fn confirmed(made: Option<Dnf>, gives: &[Items<Literal>]) -> Option<Dnf>

@@ -3,17 +3,17 @@
 ghost use Rattle.clause_set.specs.declared.literal.Literal.{Literal};
 ghost use Rattle.proof_tree.specs.Walk.{eliminates};
 ghost use Rattle.proof_tree.specs.declared.node.Conclusion.{Conclusion};
-ghost use Rattle.purse.specs.declared.log.Entry.{Entry};
+ghost use Rattle.base_budget.specs.declared.log.Entry.{Entry};
 ghost use Rattle.sequent.specs.declared.member.Pick.{Pick};
 ghost use Rattle.std.specs.Prelude.{◌≡◌, ◌++◌, ◌∷◌, IfOk, List, Some, ℕ, true};
-ghost use Rattle.proof_line.specs.Lines.{last_lines};
-ghost use Rattle.proof_line.specs.declared.lines.TextLine.{TextLine};
-ghost use Rattle.proof_line.specs.declared.lines.TextLine.TheVariants as w;
+ghost use Rattle.proof_grammar.specs.Lines.{last_lines};
+ghost use Rattle.proof_grammar.specs.declared.lines.TextLine.{TextLine};
+ghost use Rattle.proof_grammar.specs.declared.lines.TextLine.TheVariants as w;
 
 use crate::nodes::eliminates;
 use clause_set::Literal;
-use line_source::{Line, ProofLines};
 use linear_term::Memory;
+use proof_file::{Line, ProofLines};
 use sequent::Pick;
 use sqlite_items::Items;
 use std::alloc::Global;

@@ -1,7 +1,7 @@
 // The check of the proof in a file, line by line.
 
 ghost use Rattle.formula.specs.Tree.{form};
-ghost use Rattle.limits.specs.Limits.{most_budget};
+ghost use Rattle.base_limits.specs.Limits.{most_budget};
 ghost use Rattle.formula.specs.Searchable.{IsSearchable};
 ghost use Rattle.proof_file.specs.Body.{body};
 ghost use Rattle.proof_file.specs.Coming.{HoldsAll};

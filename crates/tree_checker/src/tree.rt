@@ -1,7 +1,7 @@
 // A check of a proof that is a tree in memory, by the same walk as over the lines of a text.
 
 ghost use Rattle.formula.specs.Tree.{form};
-ghost use Rattle.limits.specs.Limits.{branch_limit, most_budget};
+ghost use Rattle.base_limits.specs.Limits.{branch_limit, most_budget};
 ghost use Rattle.formula.specs.Searchable.{IsSearchable};
 ghost use Rattle.proof_tree.specs.Views.{proof_of};
 ghost use Rattle.std.specs.Prelude.{◌≤◌};

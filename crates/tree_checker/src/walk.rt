@@ -3,30 +3,29 @@
 // once its proof is checked, and the members are copied where a leaf is closed, and nowhere else.
 
 ghost use Rattle.clause_set.specs.declared.literal.Literal.{Literal};
-ghost use Rattle.node_steps.specs.Within.{IsWithin};
-ghost use Rattle.open_branch.specs.Standing.{IsPrincipal, premises_from, rule_at, standing};
+ghost use Rattle.tree_branch.specs.Within.{IsWithin};
+ghost use Rattle.tree_branch.specs.Standing.{IsPrincipal, premises_from, rule_at, standing};
 ghost use Rattle.proof_tree.specs.Proof as tree;
 ghost use Rattle.proof_tree.specs.Proof.{Proof, Proofs};
 ghost use Rattle.proof_tree.specs.Walk as walk;
-ghost use Rattle.purse.specs.declared.log.Entry.{Entry};
+ghost use Rattle.base_budget.specs.declared.log.Entry.{Entry};
 ghost use Rattle.sequent.specs.Rules.{applies};
 ghost use Rattle.std.specs.Prelude.{◌≡◌, ◌+◌, ◌++◌, length, List, true};
 ghost use Rattle.tree_checker.specs.Told.{HasLevels, HaveLevels, told_all, told_lines, told_width};
 ghost use Rattle.tree_checker.specs.Walking.{HasWalked, HaveWalked, IfGiven, IsPaid};
-ghost use Rattle.proof_line.specs.Lines.{last_lines};
-ghost use Rattle.proof_line.specs.declared.lines.TextLine.{TextLine};
+ghost use Rattle.proof_grammar.specs.Lines.{last_lines};
+ghost use Rattle.proof_grammar.specs.declared.lines.TextLine.{TextLine};
 
 use crate::course::Course;
 use crate::leaving::{close, leave};
 use crate::reading::read_row;
+use base_budget::{Purse, StepFault};
 use clause_set::Dnf;
-use line_source::ProofLines;
-use node_steps::principal_fee;
-use open_branch::{Branch, Principal};
-use purse::{Purse, StepFault};
+use proof_file::ProofLines;
 use sequent::Pick;
 use sqlite_items::Items;
 use std::alloc::Global;
+use tree_branch::{Branch, Principal, principal_fee};
 
 /// Checks the node that comes next, against the sequent where the branch stands: its constraint; nothing at the first thing that
 /// is wrong. It has at most `left` levels. Where a constraint comes out, the branch is what it was.

@@ -1,6 +1,6 @@
 use Rattle.std.proofs.Common.{◌≡◌, take, map}
 use Rattle.formula.specs.Tree.{form}
-use Rattle.root_laws.specs.Clausal.{clause_form}
+use Rattle.clause_root_laws.specs.Clausal.{clause_form}
 use Rattle.clause_root.proofs.clausal.clause_forms.Given as goal
 
 abbrev pub invariant-loop-c : goal.invariant-loop-c

@@ -1,6 +1,6 @@
 use Rattle.std.proofs.Common.{All, sym, subst}
-use Rattle.root_laws.specs.Clausal.{AreTermsOver}
-use Rattle.root_laws.proofs.Clausal.{clauses_over}
+use Rattle.clause_root_laws.specs.Clausal.{AreTermsOver}
+use Rattle.clause_root_laws.proofs.Clausal.{clauses_over}
 use Rattle.clause_root.proofs.clausal.dnf_form.Goals as goal
 
 pub clause_forms-requires : goal.clause_forms-requires

@@ -1,6 +1,6 @@
 use Rattle.std.proofs.Common.{◌&&◌, ap, sym, ◌∙◌, arith}
-use Rattle.application_naming.specs.Naming.{is_pure_but}
-use Rattle.purse.proofs.Charging.{drop-item, drop_all}
+use Rattle.form_naming.specs.Naming.{is_pure_but}
+use Rattle.base_budget.proofs.Charging.{drop-item, drop_all}
 use Rattle.formula.specs.Form.{universal, existential}
 use Rattle.formula.specs.Tree.{form}
 use Rattle.formula.proofs.Building.{form-Forall, form-Exists}

@@ -2,7 +2,7 @@ use Rattle.std.proofs.Common.{◌≡◌, ◌+◌, ◌*◌, ◌≤◌, drop, map}
 use Rattle.formula.specs.Form.{AreFormsOver}
 use Rattle.formula.specs.Sizes.{depth, depths}
 use Rattle.formula.specs.Tree.{form, forms_of}
-use Rattle.root_laws.specs.Prepared.{all_prepared}
+use Rattle.clause_root_laws.specs.Prepared.{all_prepared}
 use Rattle.clause_root.proofs.Members.{behind}
 use Rattle.clause_root.proofs.preparing.+preparing.Given as goal
 

@@ -1,7 +1,7 @@
 use Rattle.std.proofs.Common.{◌↔◌, false, ap, sym, subst}
 use Rattle.formula.specs.Form.{FormTruth, IsFormOver}
 use Rattle.formula.specs.Tree.{form}
-use Rattle.root_laws.proofs.Prepared.{prepared_is, prepared_over}
+use Rattle.clause_root_laws.proofs.Prepared.{prepared_is, prepared_over}
 use Rattle.clause_root.proofs.Members.{if_ok}
 use Rattle.clause_root.proofs.preparing.prepare.Goals as goal
 

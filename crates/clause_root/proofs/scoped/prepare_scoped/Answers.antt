@@ -4,11 +4,11 @@ use Rattle.formula.specs.declared.calculus.Core.{Core}
 use Rattle.formula.specs.Form.{Form, FormTruth, IsFormOver}
 use Rattle.formula.specs.Sizes.{depth}
 use Rattle.formula.specs.Tree.{form}
-use Rattle.miniscope.proofs.Depths.{miniscoped_depth}
-use Rattle.miniscope.proofs.Miniscope.{miniscoped_is}
-use Rattle.miniscope.proofs.Over.{miniscoped_over}
-use Rattle.miniscope.specs.Miniscope.{miniscoped}
-use Rattle.root_laws.specs.Prepared.{prepared}
+use Rattle.form_miniscope.proofs.Depths.{miniscoped_depth}
+use Rattle.form_miniscope.proofs.Miniscope.{miniscoped_is}
+use Rattle.form_miniscope.proofs.Over.{miniscoped_over}
+use Rattle.form_miniscope.specs.Miniscope.{miniscoped}
+use Rattle.clause_root_laws.specs.Prepared.{prepared}
 use Rattle.clause_root.proofs.Members.{if_ok}
 use Rattle.clause_root.proofs.scoped.prepare_scoped.Goals as goal
 

@@ -1,5 +1,5 @@
 use Rattle.std.proofs.Common.{arith}
-use Rattle.purse.proofs.Charging.{drop-item, free, remains_next}
+use Rattle.base_budget.proofs.Charging.{drop-item, free, remains_next}
 use Rattle.clause_set.proofs.negation.negated_clause.Goals as goal
 
 pub loop-l-preserved : goal.loop-l-preserved

@@ -1,6 +1,6 @@
 use Rattle.std.proofs.Common.{[], drop}
-use Rattle.purse.specs.Trace.{at, each}
-use Rattle.purse.specs.Work.{Remains}
+use Rattle.base_budget.specs.Trace.{at, each}
+use Rattle.base_budget.specs.Work.{Remains}
 use Rattle.clause_set.specs.Dnfs.{negated_literal, negated_clause}
 use Rattle.clause_set.proofs.negation.negated_clause.Given as goal
 

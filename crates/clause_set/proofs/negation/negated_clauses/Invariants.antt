@@ -1,6 +1,6 @@
 use Rattle.std.proofs.Common.{[], drop}
-use Rattle.purse.specs.Trace.{at}
-use Rattle.purse.specs.Work.{Remains}
+use Rattle.base_budget.specs.Trace.{at}
+use Rattle.base_budget.specs.Work.{Remains}
 use Rattle.clause_set.specs.Dnfs.{negated_clauses, negation}
 use Rattle.clause_set.proofs.negation.negated_clauses.Given as goal
 

@@ -1,4 +1,4 @@
-use Rattle.purse.proofs.Charging.{work_ok, work_err}
+use Rattle.base_budget.proofs.Charging.{work_ok, work_err}
 use Rattle.clause_set.proofs.negation.negated_equation.Goals as goal
 
 pub returns-in_err-more : goal.returns-in_err-more

@@ -1,7 +1,7 @@
 use Rattle.std.proofs.Common.{List}
 use Rattle.std.proofs.lemmas.Result.{err_from_is_err_and}
-use Rattle.text_words.specs.Tokens.{tokens}
-use Rattle.text_words.specs.Reading.{both}
+use Rattle.clause_words.specs.Tokens.{tokens}
+use Rattle.clause_words.specs.Reading.{both}
 use Rattle.clause_text.specs.Head.{format_line, charges_line, prepared_line, values_line, root_line}
 use Rattle.clause_text.proofs.HeadSteps.{both_done, both_first, both_second, head_done, head_fails, behind_format, behind_charges, behind_prepared}
 use Rattle.clause_text.proofs.head.any_head.Goals as goal

@@ -1,8 +1,8 @@
 use Rattle.std.specs.Prelude.{codes}
 use Rattle.std.proofs.lemmas.Result.{err_from_is_err_and}
-use Rattle.text_words.specs.Tokens.{tokens}
-use Rattle.text_words.specs.Numbers.{index_of, integer_of}
-use Rattle.text_words.specs.Reading.{fields, word_as}
+use Rattle.clause_words.specs.Tokens.{tokens}
+use Rattle.clause_words.specs.Numbers.{index_of, integer_of}
+use Rattle.clause_words.specs.Reading.{fields, word_as}
 use Rattle.clause_text.specs.HeadWords.{charge_of, format_word, is_label}
 use Rattle.clause_text.specs.Literals.{literal_of}
 use Rattle.clause_text.proofs.HeadSteps.{both_done, both_first, both_second, one_done, one_label_fails, one_field_fails, one_end_fails, word_field, blank_field, wrong_field}

@@ -1,4 +1,4 @@
-use Rattle.text_words.proofs.Exact.{refused}
+use Rattle.clause_words.proofs.Exact.{refused}
 use Rattle.clause_text.specs.Head.{head_of, head_text, IsHead}
 use Rattle.clause_text.proofs.ExactHead.{head_reads}
 use Rattle.clause_text.proofs.laws.head_law.Goals as goal

@@ -1,8 +1,8 @@
 use Rattle.std.proofs.Common.{sym, ap, ◌∙◌, ◌≡◌}
 use Rattle.std.proofs.lemmas.Result.{err_from_is_err_and}
-use Rattle.text_words.specs.Tokens.{tokens}
-use Rattle.text_words.specs.Reading.{done, fields_to, unless}
-use Rattle.text_words.proofs.Unless.{to_loop_bad, to_loop_end, to_loop_more, to_loop_wrong}
+use Rattle.clause_words.specs.Tokens.{tokens}
+use Rattle.clause_words.specs.Reading.{done, fields_to, unless}
+use Rattle.clause_words.proofs.Unless.{to_loop_bad, to_loop_end, to_loop_more, to_loop_wrong}
 use Rattle.clause_text.specs.Literals.{literal_of}
 use Rattle.clause_text.specs.Shapes.{by}
 use Rattle.clause_text.proofs.line_words.clause.Goals as goal

@@ -1,7 +1,7 @@
 use Rattle.std.proofs.Common.{◌≡◌, length}
-use Rattle.text_words.specs.Tokens.{tokens}
-use Rattle.text_words.specs.Reading.{fields_to, unless}
-use Rattle.text_words.proofs.Lists.{with_front}
+use Rattle.clause_words.specs.Tokens.{tokens}
+use Rattle.clause_words.specs.Reading.{fields_to, unless}
+use Rattle.clause_words.proofs.Lists.{with_front}
 use Rattle.clause_text.specs.Literals.{literal_of}
 use Rattle.clause_text.specs.Shapes.{by}
 use Rattle.clause_text.proofs.line_words.clause.Given as goal

@@ -1,8 +1,8 @@
 use Rattle.std.proofs.Common.{sym, ap, ◌∙◌, ◌≡◌}
 use Rattle.std.proofs.lemmas.Result.{err_from_is_err_and}
-use Rattle.text_words.specs.Tokens.{tokens}
-use Rattle.text_words.specs.Reading.{done, fields, joint}
-use Rattle.text_words.proofs.Lists.{loop_bad, loop_end, loop_more, loop_wrong}
+use Rattle.clause_words.specs.Tokens.{tokens}
+use Rattle.clause_words.specs.Reading.{done, fields, joint}
+use Rattle.clause_words.proofs.Lists.{loop_bad, loop_end, loop_more, loop_wrong}
 use Rattle.clause_text.proofs.line_words.fields.Goals as goal
 
 pub returns-in_err-more : goal.returns-in_err-more

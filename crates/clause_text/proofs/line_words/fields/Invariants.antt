@@ -1,7 +1,7 @@
 use Rattle.std.proofs.Common.{◌≡◌, length}
-use Rattle.text_words.specs.Tokens.{tokens}
-use Rattle.text_words.specs.Reading.{fields}
-use Rattle.text_words.proofs.Lists.{with_front}
+use Rattle.clause_words.specs.Tokens.{tokens}
+use Rattle.clause_words.specs.Reading.{fields}
+use Rattle.clause_words.proofs.Lists.{with_front}
 use Rattle.clause_text.proofs.line_words.fields.Given as goal
 
 abbrev pub invariant-words : goal.invariant-words

@@ -1,5 +1,5 @@
 use Rattle.std.proofs.Common.{sym, ◌∙◌}
-use Rattle.text_words.proofs.Splitting.{empty_word, no_value, one_value, is_none, is_some}
+use Rattle.clause_words.proofs.Splitting.{empty_word, no_value, one_value, is_none, is_some}
 use Rattle.clause_text.proofs.line_words.word_as.Goals as goal
 
 pub returns-then-is_empty-clause-exact : goal.returns-then-is_empty-clause-exact

@@ -1,6 +1,6 @@
 use Rattle.clause_text.specs.declared.line_word.LineWord.TheVariants as w
 use Rattle.clause_text.proofs.Steps.{arm}
-use Rattle.text_words.specs.Tokens.{tokens}
+use Rattle.clause_words.specs.Tokens.{tokens}
 use Rattle.clause_text.proofs.lines.line_behind.Goals as goal
 
 pub returns-in-Open : goal.returns-in-Open

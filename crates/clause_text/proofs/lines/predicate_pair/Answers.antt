@@ -2,7 +2,7 @@ use Rattle.std.proofs.lemmas.Result.{err_from_is_err_and}
 use Rattle.clause_text.specs.declared.line_word.LineWord.TheVariants as w
 use Rattle.clause_text.specs.Shapes.{number, integer, literal, term, nothing, one, many}
 use Rattle.clause_text.proofs.Steps.{field_fails, step_done, step_fails, end_done, end_fails, line_done, line_fails}
-use Rattle.text_words.specs.Tokens.{tokens}
+use Rattle.clause_words.specs.Tokens.{tokens}
 use Rattle.clause_text.proofs.lines.predicate_pair.Goals as goal
 
 pub returns-in_err-second : goal.returns-in_err-second

@@ -1,7 +1,7 @@
 use Rattle.std.proofs.Common.{◌≡◌, ◌++◌, drop}
 use Rattle.clause_text.specs.Literals.{literal_text}
-use Rattle.text_words.specs.Texts.{list_text}
-use Rattle.text_words.specs.Tokens.{spelled}
+use Rattle.clause_words.specs.Texts.{list_text}
+use Rattle.clause_words.specs.Tokens.{spelled}
 use Rattle.clause_text.proofs.printing.literals.Given as goal
 
 abbrev pub invariant-loop-l : goal.invariant-loop-l

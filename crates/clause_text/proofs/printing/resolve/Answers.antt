@@ -4,7 +4,7 @@ use Rattle.clause_text.specs.Literals.{literal_text}
 use Rattle.clause_text.specs.Shapes.{by}
 use Rattle.clause_text.specs.Words.{word_text}
 use Rattle.clause_text.proofs.Written.{by_written_ok}
-use Rattle.text_words.specs.Texts.{list_text, list_to_text}
+use Rattle.clause_words.specs.Texts.{list_text, list_to_text}
 use Rattle.clause_text.proofs.printing.resolve.Goals as goal
 
 pub returns : goal.returns

@@ -1,7 +1,7 @@
 use Rattle.std.proofs.Common.{◌≡◌, ◌++◌, drop}
-use Rattle.text_words.specs.Terms.{term_text}
-use Rattle.text_words.specs.Texts.{list_text}
-use Rattle.text_words.specs.Tokens.{spelled}
+use Rattle.clause_words.specs.Terms.{term_text}
+use Rattle.clause_words.specs.Texts.{list_text}
+use Rattle.clause_words.specs.Tokens.{spelled}
 use Rattle.clause_text.proofs.printing.terms.Given as goal
 
 abbrev pub invariant-loop-t : goal.invariant-loop-t

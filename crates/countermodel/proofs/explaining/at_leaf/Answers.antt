@@ -1,4 +1,4 @@
-use Rattle.open_walk.specs.Stopped.{stop_of}
+use Rattle.countermodel.specs.Stopped.{stop_of}
 use Rattle.countermodel.proofs.Told.{found_whole, table_cut, wants_memory}
 use Rattle.countermodel.proofs.explaining.at_leaf.Goals as goal
 

@@ -1,5 +1,5 @@
-use Rattle.purse.proofs.Following.{follow_memory}
-use Rattle.purse.specs.declared.fault.StepFault.TheVariants.{Memory}
+use Rattle.base_budget.proofs.Following.{follow_memory}
+use Rattle.base_budget.specs.declared.fault.StepFault.TheVariants.{Memory}
 use Rattle.sequent.specs.Views.{sequent_of}
 use Rattle.proof_tree.specs.Views.{proof_of}
 use Rattle.countermodel.specs.Explaining.{explained_as}

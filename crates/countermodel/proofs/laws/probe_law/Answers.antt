@@ -1,5 +1,5 @@
 use Rattle.std.proofs.lemmas.List.Elements.{recursion_from_All}
-use Rattle.typed_formula.specs.Sorts.{IsSortRanged}
+use Rattle.form_typed.specs.Sorts.{IsSortRanged}
 use Rattle.countermodel.proofs.Nearest.{probe_is, probe_none, probes_are, probes_none, probes_ranged, typed_probes}
 use Rattle.countermodel.proofs.laws.probe_law.Goals as goal
 

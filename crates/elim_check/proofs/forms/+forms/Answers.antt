@@ -7,8 +7,8 @@ use Rattle.elim_laws.specs.Logs.{name_by_log, reads_none, read_next}
 use Rattle.elim_laws.specs.Whole.{paid, two_sides}
 use Rattle.formula.specs.Sizes.{size}
 use Rattle.formula.specs.Tree.{form}
-use Rattle.purse.specs.Trace.{just}
-use Rattle.purse.proofs.Charging.{drop-item, drop_all}
+use Rattle.base_budget.specs.Trace.{just}
+use Rattle.base_budget.proofs.Charging.{drop-item, drop_all}
 use Rattle.elim_check.specs.Reading.{reading}
 use Rattle.elim_check.proofs.Arms.{arm_Eq, arm_Geq, arm_Neq, arm_Pred, arm_NotPred, arm_NotFun, arm_And, arm_Or, some_ok, some_err, every_refused, every_ok, every_err, dual_deep}
 use Rattle.elim_check.proofs.Chained.{read_ok, read_err, quiet_ok, quiet_err, read_memory}

@@ -1,6 +1,6 @@
 use Rattle.std.proofs.Common.{[], length}
-use Rattle.purse.specs.Trace.{at}
-use Rattle.purse.specs.Work.{Remains}
+use Rattle.base_budget.specs.Trace.{at}
+use Rattle.base_budget.specs.Work.{Remains}
 use Rattle.elim_check.specs.Steps.{passed}
 use Rattle.elim_check.proofs.replay.pass.Given as goal
 

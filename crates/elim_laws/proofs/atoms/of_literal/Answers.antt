@@ -1,7 +1,7 @@
 use Rattle.std.proofs.Common.{◌≡◌, ◌+◌, [], ◌∷◌, length, ◌∙◌, ap}
 use Rattle.linear_term.specs.Linear.{Linear}
-use Rattle.purse.specs.Trace.{capped, just, pay}
-use Rattle.purse.proofs.Charging.{then_ok, then_just}
+use Rattle.base_budget.specs.Trace.{capped, just, pay}
+use Rattle.base_budget.proofs.Charging.{then_ok, then_just}
 use Rattle.clause_set.specs.Clauses.{clauses_of}
 use Rattle.clause_set.specs.Literals.{term_of}
 use Rattle.elim_laws.proofs.Sides.{one_tidied}

@@ -1,5 +1,5 @@
 use Rattle.std.proofs.Common.{◌∙◌, ◌+◌, sym, ap, arith}
-use Rattle.purse.specs.Trace.{just}
+use Rattle.base_budget.specs.Trace.{just}
 use Rattle.formula.specs.Form.{equal, unequal, at_least, holds, fails, differs, conjunction, disjunction, universal, existential}
 use Rattle.formula.specs.Tree.{form, forms_of}
 use Rattle.formula.proofs.Building.{form-Eq, form-Neq, form-Geq, form-Pred, form-NotPred, form-NotFun, form-And, form-Or, form-Forall, form-Exists}

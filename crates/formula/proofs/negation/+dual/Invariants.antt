@@ -1,5 +1,5 @@
 use Rattle.std.proofs.Common.{map, drop}
-use Rattle.purse.proofs.Charging.{Left}
+use Rattle.base_budget.proofs.Charging.{Left}
 use Rattle.formula.specs.Duals.{duals}
 use Rattle.formula.specs.Tree.{form, forms_of}
 use Rattle.formula.proofs.Negating.{rest}

@@ -1,6 +1,6 @@
 use Rattle.std.proofs.Common.{reverse, ap, ◌∷◌, ◌∙◌}
 use Rattle.formula.proofs.Making.{made_memory}
-use Rattle.encoding.specs.Encoding.{product_of}
+use Rattle.form_encoding.specs.Encoding.{product_of}
 use Rattle.function_encoding.specs.Actions.{top, under}
 use Rattle.function_encoding.proofs.Acting.{joined_err, joined_ok}
 use Rattle.function_encoding.proofs.actions.multiplied.Goals as goal

@@ -1,4 +1,4 @@
-use Rattle.purse.specs.Trace.{just}
+use Rattle.base_budget.specs.Trace.{just}
 use Rattle.formula.specs.Form.{equal}
 use Rattle.formula.specs.Tree.{form}
 use Rattle.formula.proofs.Building.{form-Eq}

@@ -1,6 +1,6 @@
 use Rattle.std.proofs.Common.{pos, negsuc}
 use Rattle.linear_term.specs.Linear.{number}
-use Rattle.purse.specs.Trace.{combining}
+use Rattle.base_budget.specs.Trace.{combining}
 use Rattle.formula.proofs.Making.{made_ok, made_err}
 use Rattle.function_encoding.proofs.atoms.less_one.Goals as goal
 

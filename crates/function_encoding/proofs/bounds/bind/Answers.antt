@@ -1,8 +1,8 @@
 use Rattle.std.proofs.Common.{map, ap, ◌∙◌}
-use Rattle.purse.specs.Trace.{just}
+use Rattle.base_budget.specs.Trace.{just}
 use Rattle.formula.specs.Tree.{form}
 use Rattle.formula.proofs.Making.{made_ok, made_err, made_just, made_memory}
-use Rattle.encoding.specs.Encoding.{bounds, limits, quantified, restricted}
+use Rattle.form_encoding.specs.Encoding.{bounds, limits, quantified, restricted}
 use Rattle.function_encoding.proofs.Bounding.{alone}
 use Rattle.function_encoding.proofs.bounds.bind.Goals as goal
 

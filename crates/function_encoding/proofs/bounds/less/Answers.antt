@@ -1,7 +1,7 @@
 use Rattle.std.proofs.Common.{pos, negsuc}
 use Rattle.formula.specs.Tree.{form}
 use Rattle.formula.proofs.Making.{made_ok, made_err}
-use Rattle.encoding.specs.Encoding.{inequality}
+use Rattle.form_encoding.specs.Encoding.{inequality}
 use Rattle.function_encoding.proofs.bounds.less.Goals as goal
 
 pub returns-in_err-other : goal.returns-in_err-other

@@ -1,7 +1,7 @@
 use Rattle.std.proofs.Common.{map}
 use Rattle.formula.specs.Tree.{form}
 use Rattle.formula.proofs.Making.{made_ok, made_err}
-use Rattle.encoding.specs.Encoding.{greatest}
+use Rattle.form_encoding.specs.Encoding.{greatest}
 use Rattle.function_encoding.proofs.Bounding.{int_limits, nat_limits, range_limits, limit, one_more}
 use Rattle.function_encoding.proofs.bounds.limits.Goals as goal
 

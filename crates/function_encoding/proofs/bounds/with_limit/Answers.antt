@@ -1,5 +1,5 @@
 use Rattle.std.proofs.Common.{◌++◌, ◌∷◌, [], map, ap, refl, ◌∙◌}
-use Rattle.purse.specs.Trace.{just}
+use Rattle.base_budget.specs.Trace.{just}
 use Rattle.formula.specs.Tree.{form}
 use Rattle.formula.proofs.Making.{made_ok, made_err, made_just, made_memory, pushed}
 use Rattle.function_encoding.proofs.bounds.with_limit.Goals as goal

@@ -1,7 +1,7 @@
 use Rattle.std.proofs.Common.{◌≡◌, ◌++◌, OnOk, sym, ap, ◌∙◌, subst, refl}
 use Rattle.std.specs.List.{filter}
-use Rattle.typed_formula.specs.Formula.{formula, negation}
-use Rattle.typed_formula.proofs.Folds.{formula-Truth, formula-Rel, formula-Pred, formula-Not, formula-Iff, formula-Forall, formula-Exists}
+use Rattle.form_typed.specs.Formula.{formula, negation}
+use Rattle.form_typed.proofs.Folds.{formula-Truth, formula-Rel, formula-Pred, formula-Not, formula-Iff, formula-Forall, formula-Exists}
 use Rattle.pri_typing.specs.WellFormed.{formula_components}
 use Rattle.function_encoding.specs.Encoded.{all_signed, is_in}
 use Rattle.function_encoding.proofs.Chosen.{none_collected}

@@ -1,6 +1,6 @@
 use Rattle.std.proofs.Common.{◌≡◌, ◌++◌, drop}
 use Rattle.std.specs.List.{filter}
-use Rattle.typed_formula.specs.Formula.{formulas_of}
+use Rattle.form_typed.specs.Formula.{formulas_of}
 use Rattle.pri_typing.specs.WellFormed.{all_formula_components}
 use Rattle.function_encoding.specs.Encoded.{all_signed, is_in}
 use Rattle.function_encoding.proofs.components.+components.Given as goal

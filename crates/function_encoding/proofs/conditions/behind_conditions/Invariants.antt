@@ -1,5 +1,5 @@
 use Rattle.std.proofs.Common.{◌≡◌, ◌≤◌, ◌+◌, ◌||◌, drop, length}
-use Rattle.encoding.specs.Extent.{behind_atoms}
+use Rattle.form_encoding.specs.Extent.{behind_atoms}
 use Rattle.function_encoding.specs.Bounds.{kept_bounds}
 use Rattle.function_encoding.specs.Counted.{counted}
 use Rattle.function_encoding.specs.Marks.{is_marked}

@@ -1,5 +1,5 @@
 use Rattle.std.proofs.Common.{◌+◌, ◌||◌, drop, map}
-use Rattle.purse.proofs.Charging.{Left}
+use Rattle.base_budget.proofs.Charging.{Left}
 use Rattle.formula.specs.Tree.{form}
 use Rattle.function_encoding.specs.Marks.{is_marked}
 use Rattle.function_encoding.proofs.Kept.{left_over}

@@ -1,6 +1,6 @@
 use Rattle.std.proofs.Common.{◌≡◌, ◌-◌, ◌∙◌, ap, drop, length, arith}
-use Rattle.typed_formula.specs.Formula.{formulas_of, expressions_of}
-use Rattle.encoding.specs.Extent as extents
+use Rattle.form_typed.specs.Formula.{formulas_of, expressions_of}
+use Rattle.form_encoding.specs.Extent as extents
 use Rattle.function_encoding.specs.Counted.{counted}
 use Rattle.function_encoding.proofs.Extents.{extents_end, extents_with_end, extents_back, extents_with_back}
 use Rattle.function_encoding.proofs.counting.+extent.Goals as goal

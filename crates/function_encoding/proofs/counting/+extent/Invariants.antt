@@ -1,6 +1,6 @@
 use Rattle.std.proofs.Common.{◌≡◌, ◌≤◌, drop, length}
-use Rattle.typed_formula.specs.Formula.{formulas_of, expressions_of}
-use Rattle.encoding.specs.Extent.{extents, extents_with}
+use Rattle.form_typed.specs.Formula.{formulas_of, expressions_of}
+use Rattle.form_encoding.specs.Extent.{extents, extents_with}
 use Rattle.function_encoding.specs.Counted.{counted}
 use Rattle.function_encoding.proofs.counting.+extent.Given as goal
 

@@ -1,15 +1,15 @@
 use Rattle.std.proofs.Common.{length, map, ◌≡◌, suc, ◌+◌, ◌*◌, true, false, not, [], ◌∷◌, ◌++◌, drop, reverse, refl, sym, ap, ◌∙◌, subst, arith}
 use Rattle.std.specs.Bool.{beq}
 use Rattle.linear_term.specs.Linear as linear
-use Rattle.typed_formula.specs.Formula.{formula, formulas_of, expression, expressions_of, applies, negation, compares, every, some, implies, iff, for_all, for_some, part}
-use Rattle.typed_formula.proofs.Folds.{formula-Truth, formula-Rel, formula-Pred, formula-Not, formula-And, formula-Or, formula-Implies, formula-Iff, formula-Forall, formula-Exists, formula-Part}
-use Rattle.purse.specs.Trace.{just}
+use Rattle.form_typed.specs.Formula.{formula, formulas_of, expression, expressions_of, applies, negation, compares, every, some, implies, iff, for_all, for_some, part}
+use Rattle.form_typed.proofs.Folds.{formula-Truth, formula-Rel, formula-Pred, formula-Not, formula-And, formula-Or, formula-Implies, formula-Iff, formula-Forall, formula-Exists, formula-Part}
+use Rattle.base_budget.specs.Trace.{just}
 use Rattle.formula.specs.Form.{conjunction, disjunction, forms, universal}
 use Rattle.formula.specs.Made.{Made}
 use Rattle.formula.specs.Tree.{form, forms_of}
 use Rattle.formula.proofs.Making.{made_ok, made_err, made_just, made_memory, left_made, left_err, pushed}
-use Rattle.encoding.specs.Encoding.{all_encoded, bounds, encoded, junction, related}
-use Rattle.encoding.specs.Extent.{above_two, extent, extents, leaf}
+use Rattle.form_encoding.specs.Encoding.{all_encoded, bounds, encoded, junction, related}
+use Rattle.form_encoding.specs.Extent.{above_two, extent, extents, leaf}
 use Rattle.function_encoding.specs.Actions.{ran}
 use Rattle.function_encoding.specs.Instructions.{actions_of}
 use Rattle.function_encoding.specs.Ranged.{HasRangedNumbers}

@@ -1,9 +1,9 @@
 use Rattle.std.proofs.Common.{◌+◌, ◌*◌, ◌≤◌, drop, map}
-use Rattle.typed_formula.specs.Formula.{applies, compares, expression, expressions_of, formula, formulas_of}
-use Rattle.purse.proofs.Charging.{Left}
+use Rattle.form_typed.specs.Formula.{applies, compares, expression, expressions_of, formula, formulas_of}
+use Rattle.base_budget.proofs.Charging.{Left}
 use Rattle.formula.specs.Tree.{form}
-use Rattle.encoding.specs.Encoding.{all_encoded}
-use Rattle.encoding.specs.Extent.{extents}
+use Rattle.form_encoding.specs.Encoding.{all_encoded}
+use Rattle.form_encoding.specs.Extent.{extents}
 use Rattle.function_encoding.specs.Instructions.{actions_of}
 use Rattle.function_encoding.specs.Ranged.{HaveRangedNumbers}
 use Rattle.function_encoding.specs.Room.{HasNamesLeft}

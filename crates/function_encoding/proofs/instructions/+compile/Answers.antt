@@ -1,6 +1,6 @@
 use Rattle.std.proofs.Common.{◌∷◌, OnOk, sym, ap, ◌∙◌, subst, arith}
-use Rattle.typed_formula.specs.Formula.{absolute, choice, expression, expressions_of, formula, greater, lesser, minus, total}
-use Rattle.typed_formula.proofs.Folds.{expression-Abs, expression-Apply, expression-If, expression-Max, expression-Min, expression-Minus, expression-Name, expression-Sum}
+use Rattle.form_typed.specs.Formula.{absolute, choice, expression, expressions_of, formula, greater, lesser, minus, total}
+use Rattle.form_typed.proofs.Folds.{expression-Abs, expression-Apply, expression-If, expression-Max, expression-Min, expression-Minus, expression-Name, expression-Sum}
 use Rattle.function_encoding.specs.Actions.{apply, compiled, compiled_all}
 use Rattle.function_encoding.specs.Instructions.{FollowsActions, action_of, actions_of}
 use Rattle.function_encoding.proofs.Compiling.{compiled_as, follows_last, terms_many, more_pushed, lighter}

@@ -1,5 +1,5 @@
 use Rattle.std.proofs.Common.{◌+◌, ◌≤◌, drop}
-use Rattle.typed_formula.specs.Formula.{expression, expressions_of}
+use Rattle.form_typed.specs.Formula.{expression, expressions_of}
 use Rattle.function_encoding.specs.Actions.{compiled_all, compiled_more}
 use Rattle.function_encoding.specs.Instructions.{actions_of}
 use Rattle.function_encoding.specs.Weight.{weight_of, weights_of}

@@ -1,5 +1,5 @@
 use Rattle.std.proofs.Common.{[], ◌∷◌, length, sym, ap, ◌∙◌}
-use Rattle.typed_formula.specs.Formula.{expressions_of}
+use Rattle.form_typed.specs.Formula.{expressions_of}
 use Rattle.function_encoding.specs.Actions.{compiled_all, predicate}
 use Rattle.function_encoding.specs.Instructions.{actions_of}
 use Rattle.function_encoding.proofs.Compiling.{follows_none, terms_many}

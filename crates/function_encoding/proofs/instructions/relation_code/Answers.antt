@@ -1,5 +1,5 @@
 use Rattle.std.proofs.Common.{◌∷◌}
-use Rattle.typed_formula.specs.Formula.{expression}
+use Rattle.form_typed.specs.Formula.{expression}
 use Rattle.function_encoding.specs.Actions.{compiled, relate}
 use Rattle.function_encoding.specs.Instructions.{actions_of}
 use Rattle.function_encoding.proofs.Compiling.{follows_none}

@@ -1,6 +1,6 @@
 use Rattle.std.proofs.Common.{◌≡◌, nat_lt, length, drop}
 use Rattle.std.specs.List.{list_any}
-use Rattle.encoding.specs.Encoding.{bounds}
+use Rattle.form_encoding.specs.Encoding.{bounds}
 use Rattle.function_encoding.proofs.largeness.has_bounds.Given as goal
 
 abbrev pub invariant-loop-sort : goal.invariant-loop-sort

@@ -1,5 +1,5 @@
 use Rattle.std.proofs.Common.{true, ◌∙◌, sym}
-use Rattle.encoding.specs.Extent.{restricted_extent}
+use Rattle.form_encoding.specs.Extent.{restricted_extent}
 use Rattle.function_encoding.specs.Bounds.{below_types, kept_bounds}
 use Rattle.function_encoding.specs.Counted.{counted}
 use Rattle.function_encoding.proofs.Limits.{problem_extent, large_is}

@@ -1,9 +1,9 @@
 use Rattle.std.proofs.Common.{◌+◌, ◌∙◌, ap, drop, sym, arith}
-use Rattle.typed_formula.specs.Formula.{absolute, applies, call, every, expression, expressions_of, for_all, for_some, formula, formulas_of, minus, negation, part, some, total}
-use Rattle.typed_formula.proofs.Folds.{expression-Abs, expression-Apply, expression-Minus, expression-Number, expression-Sum, formula-And, formula-Exists, formula-Forall, formula-Not, formula-Or, formula-Part, formula-Pred, formula-Truth}
-use Rattle.encoding.specs.Occurrences.{names_in, names_in_term}
+use Rattle.form_typed.specs.Formula.{absolute, applies, call, every, expression, expressions_of, for_all, for_some, formula, formulas_of, minus, negation, part, some, total}
+use Rattle.form_typed.proofs.Folds.{expression-Abs, expression-Apply, expression-Minus, expression-Number, expression-Sum, formula-And, formula-Exists, formula-Forall, formula-Not, formula-Or, formula-Part, formula-Pred, formula-Truth}
+use Rattle.form_encoding.specs.Occurrences.{names_in, names_in_term}
 use Rattle.function_encoding.specs.Marks.{marked}
-use Rattle.purse.proofs.Charging.{drop-item}
+use Rattle.base_budget.proofs.Charging.{drop-item}
 use Rattle.function_encoding.proofs.Marking.{formulas_next, mark_If, mark_Iff, mark_Implies, mark_Max, mark_Min, mark_Product, mark_Rel, terms_next}
 use Rattle.function_encoding.proofs.marks.+marks.Goals as goal
 

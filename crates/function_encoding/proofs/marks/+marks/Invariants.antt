@@ -1,6 +1,6 @@
 use Rattle.std.proofs.Common.{◌≡◌, drop}
-use Rattle.typed_formula.specs.Formula.{expressions_of, formulas_of}
-use Rattle.encoding.specs.Occurrences.{names_in_all, names_in_terms}
+use Rattle.form_typed.specs.Formula.{expressions_of, formulas_of}
+use Rattle.form_encoding.specs.Occurrences.{names_in_all, names_in_terms}
 use Rattle.function_encoding.specs.Marks.{marked}
 use Rattle.function_encoding.proofs.marks.+marks.Given as goal
 

@@ -1,9 +1,9 @@
 use Rattle.std.proofs.Common.{◌+◌, ◌∙◌, ap, drop, sym, arith}
-use Rattle.typed_formula.specs.Formula.{formula, negation}
-use Rattle.typed_formula.proofs.Folds.{formula-Exists, formula-Forall, formula-Iff, formula-Not, formula-Pred, formula-Rel, formula-Truth}
+use Rattle.form_typed.specs.Formula.{formula, negation}
+use Rattle.form_typed.proofs.Folds.{formula-Exists, formula-Forall, formula-Iff, formula-Not, formula-Pred, formula-Rel, formula-Truth}
 use Rattle.pri_typing.specs.WellFormed.{formula_components}
 use Rattle.function_encoding.specs.Marks.{marked, names_of_parts}
-use Rattle.purse.proofs.Charging.{drop-item}
+use Rattle.base_budget.proofs.Charging.{drop-item}
 use Rattle.function_encoding.proofs.Marking.{mark_parts_Implies, parts_next}
 use Rattle.function_encoding.proofs.marks.+side.Goals as goal
 

@@ -1,5 +1,5 @@
 use Rattle.std.proofs.Common.{◌≡◌, drop}
-use Rattle.typed_formula.specs.Formula.{formulas_of}
+use Rattle.form_typed.specs.Formula.{formulas_of}
 use Rattle.pri_typing.specs.WellFormed.{all_formula_components}
 use Rattle.function_encoding.specs.Marks.{marked, names_of_parts}
 use Rattle.function_encoding.proofs.marks.+side.Given as goal

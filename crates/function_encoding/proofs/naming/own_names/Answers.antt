@@ -1,5 +1,5 @@
 use Rattle.std.proofs.Common.{arith}
-use Rattle.encoding.specs.Root.{names_from}
+use Rattle.form_encoding.specs.Root.{names_from}
 use Rattle.function_encoding.proofs.OwnNames.{names_pushed, names_all}
 use Rattle.function_encoding.proofs.naming.own_names.Goals as goal
 

@@ -1,5 +1,5 @@
 use Rattle.std.proofs.Common.{◌≡◌, ◌-◌, ◌++◌}
-use Rattle.encoding.specs.Root.{names_from}
+use Rattle.form_encoding.specs.Root.{names_from}
 use Rattle.function_encoding.proofs.naming.own_names.Given as goal
 
 abbrev pub invariant-loop-x : goal.invariant-loop-x

@@ -1,5 +1,5 @@
 use Rattle.std.proofs.Common.{◌≡◌, ◌+◌, ◌≤◌, All, length, ap, ◌∙◌, sym, subst, map, arith}
-use Rattle.typed_formula.specs.Sorts.{IsSortRanged}
+use Rattle.form_typed.specs.Sorts.{IsSortRanged}
 use Rattle.formula.specs.Tree.{form}
 use Rattle.function_encoding.proofs.Chosen.{two_lists_err, two_lists_ok}
 use Rattle.function_encoding.proofs.parts.all_conditions.Goals as goal

@@ -1,11 +1,11 @@
 use Rattle.std.proofs.Common.{◌≡◌, ◌+◌, ◌≤◌, ◌++◌, true, map, ap, subst, sym, ◌∙◌, arith}
-use Rattle.purse.specs.Trace.{just, next}
+use Rattle.base_budget.specs.Trace.{just, next}
 use Rattle.formula.specs.Form.{conjunction, forms}
 use Rattle.formula.specs.Tree.{form, forms_of}
 use Rattle.formula.proofs.Making.{made_ok, made_err, made_just, made_memory}
-use Rattle.encoding.specs.Extent.{extents}
-use Rattle.encoding.specs.Problems.{constants, types}
-use Rattle.encoding.specs.Root.{conditions, names_from}
+use Rattle.form_encoding.specs.Extent.{extents}
+use Rattle.form_encoding.specs.Problems.{constants, types}
+use Rattle.form_encoding.specs.Root.{conditions, names_from}
 use Rattle.function_encoding.specs.Encoded.{all_assumed}
 use Rattle.function_encoding.specs.Marks.{is_marked}
 use Rattle.function_encoding.specs.Room.{HasNamesLeft}

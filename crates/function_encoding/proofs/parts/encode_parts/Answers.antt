@@ -1,9 +1,9 @@
 use Rattle.std.proofs.Common.{◌≡◌, true, false, Bool, sym, ap, subst, ◌∙◌}
 use Rattle.formula.specs.Form.{is_pure}
-use Rattle.encoding.specs.Extent.{above}
-use Rattle.encoding.specs.Problems.{constants, is_large, parts_root}
+use Rattle.form_encoding.specs.Extent.{above}
+use Rattle.form_encoding.specs.Problems.{constants, is_large, parts_root}
 use Rattle.pri_typing.specs.Problems.{assumed_by}
-use Rattle.encoding.proofs.Parts.{parts_pure}
+use Rattle.form_encoding.proofs.Parts.{parts_pure}
 use Rattle.function_encoding.specs.Bounds.{extents_before}
 use Rattle.function_encoding.specs.Counted.{counted}
 use Rattle.function_encoding.specs.Encoded.{all_assumed}

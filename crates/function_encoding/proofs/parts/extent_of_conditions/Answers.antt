@@ -1,5 +1,5 @@
 use Rattle.std.proofs.Common.{◌≡◌, ◌+◌, length, ap, ◌∙◌, sym, arith}
-use Rattle.encoding.specs.Extent.{behind_atoms, nothing}
+use Rattle.form_encoding.specs.Extent.{behind_atoms, nothing}
 use Rattle.function_encoding.specs.Bounds.{kept_bounds}
 use Rattle.function_encoding.specs.Marks.{is_marked}
 use Rattle.function_encoding.proofs.Chosen.{marked_bounds}

@@ -1,7 +1,7 @@
 use Rattle.std.proofs.Common.{◌+◌, true, drop, arith}
 use Rattle.formula.specs.Tree.{form, forms_of}
 use Rattle.formula.proofs.Making.{made_memory, left_made, left_err}
-use Rattle.encoding.specs.Encoding.{all_encoded}
+use Rattle.form_encoding.specs.Encoding.{all_encoded}
 use Rattle.function_encoding.specs.Encoded.{all_assumed}
 use Rattle.function_encoding.proofs.Chosen.{chosen_next, chosen_end, chosen_ranged, chosen_room}
 use Rattle.function_encoding.proofs.Encodings.{rest_all, rest_pushed}

@@ -1,8 +1,8 @@
 use Rattle.std.proofs.Common.{true, drop, map}
-use Rattle.purse.proofs.Charging.{Left}
+use Rattle.base_budget.proofs.Charging.{Left}
 use Rattle.formula.specs.Tree.{form}
-use Rattle.encoding.specs.Encoding.{all_encoded}
-use Rattle.encoding.specs.Extent.{extents}
+use Rattle.form_encoding.specs.Encoding.{all_encoded}
+use Rattle.form_encoding.specs.Extent.{extents}
 use Rattle.function_encoding.specs.Encoded.{all_assumed}
 use Rattle.function_encoding.specs.Ranged.{HaveRangedNumbers}
 use Rattle.function_encoding.specs.Room.{HasNamesLeft}

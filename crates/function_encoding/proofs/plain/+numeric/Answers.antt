@@ -1,6 +1,6 @@
 use Rattle.std.proofs.Common.{sym, ap, ◌∙◌}
-use Rattle.typed_formula.specs.Formula.{expression}
-use Rattle.typed_formula.proofs.Folds.{expression-Number, expression-Name, expression-Apply, expression-If, expression-Abs, expression-Min, expression-Max}
+use Rattle.form_typed.specs.Formula.{expression}
+use Rattle.form_typed.proofs.Folds.{expression-Number, expression-Name, expression-Apply, expression-If, expression-Abs, expression-Min, expression-Max}
 use Rattle.pri_typing.specs.WellFormed.{is_numeric}
 use Rattle.function_encoding.proofs.plain.+numeric.Goals as goal
 

@@ -1,5 +1,5 @@
 use Rattle.std.proofs.Common.{◌≡◌, drop}
-use Rattle.typed_formula.specs.Formula.{expressions_of}
+use Rattle.form_typed.specs.Formula.{expressions_of}
 use Rattle.pri_typing.specs.WellFormed.{are_numeric}
 use Rattle.function_encoding.proofs.plain.+numeric.Given as goal
 

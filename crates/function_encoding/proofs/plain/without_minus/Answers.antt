@@ -1,6 +1,6 @@
 use Rattle.std.proofs.Common.{sym, ap, ◌∙◌}
-use Rattle.typed_formula.specs.Formula.{expression}
-use Rattle.typed_formula.proofs.Folds.{expression-Minus, expression-Number, expression-Name, expression-Apply, expression-Sum, expression-Product, expression-If, expression-Abs, expression-Min, expression-Max}
+use Rattle.form_typed.specs.Formula.{expression}
+use Rattle.form_typed.proofs.Folds.{expression-Minus, expression-Number, expression-Name, expression-Apply, expression-Sum, expression-Product, expression-If, expression-Abs, expression-Min, expression-Max}
 use Rattle.function_encoding.specs.Members.{without_minus}
 use Rattle.function_encoding.proofs.plain.without_minus.Goals as goal
 

@@ -1,9 +1,9 @@
 use Rattle.std.proofs.Common.{◌≡◌, ◌+◌, ◌≤◌, true, length, ap, ◌∙◌, arith}
-use Rattle.typed_formula.specs.Formula.{formula}
+use Rattle.form_typed.specs.Formula.{formula}
 use Rattle.formula.specs.Tree.{form}
 use Rattle.formula.proofs.Making.{made_memory}
-use Rattle.encoding.specs.Problems.{constants}
-use Rattle.encoding.specs.Root.{names_from}
+use Rattle.form_encoding.specs.Problems.{constants}
+use Rattle.form_encoding.specs.Root.{names_from}
 use Rattle.function_encoding.proofs.Encodings.{bound_as}
 use Rattle.function_encoding.proofs.Roots.{ranged_of, problem_room}
 use Rattle.function_encoding.proofs.problem.body.Goals as goal

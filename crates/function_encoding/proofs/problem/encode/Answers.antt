@@ -1,6 +1,6 @@
 use Rattle.std.proofs.Common.{◌↔◌, IsTrue, sym, ap, ◌∙◌, subst}
 use Rattle.pri_typing.specs.Problems.{IsPure}
-use Rattle.encoding.specs.Problems.{is_large}
+use Rattle.form_encoding.specs.Problems.{is_large}
 use Rattle.function_encoding.proofs.Roots.{made_value, root_names, root_pure, root_truth}
 use Rattle.function_encoding.proofs.problem.encode.Goals as goal
 

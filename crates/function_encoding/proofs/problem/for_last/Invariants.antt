@@ -1,9 +1,9 @@
 use Rattle.std.proofs.Common.{◌≤◌, ◌+◌, drop, length, Ok}
-use Rattle.purse.specs.Trace.{Traced}
+use Rattle.base_budget.specs.Trace.{Traced}
 use Rattle.formula.specs.Form.{Form}
 use Rattle.formula.specs.Made.{Made}
 use Rattle.formula.specs.Tree.{form}
-use Rattle.encoding.specs.Root.{for_last}
+use Rattle.form_encoding.specs.Root.{for_last}
 use Rattle.function_encoding.proofs.problem.for_last.Given as goal
 
 abbrev pub invariant-loop-i : goal.invariant-loop-i

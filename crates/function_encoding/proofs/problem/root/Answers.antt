@@ -1,11 +1,11 @@
 use Rattle.std.proofs.Common.{◌≡◌, ◌+◌, ◌≤◌, true, false, map, length, All, sym, ap, subst, ◌∙◌, arith}
-use Rattle.typed_formula.specs.Sorts.{IsSortRanged}
-use Rattle.purse.specs.Trace.{just, next}
+use Rattle.form_typed.specs.Sorts.{IsSortRanged}
+use Rattle.base_budget.specs.Trace.{just, next}
 use Rattle.formula.specs.Tree.{form}
 use Rattle.formula.proofs.Making.{made_ok, made_err, made_just, made_memory}
-use Rattle.encoding.specs.Encoding.{restricted}
-use Rattle.encoding.specs.Problems.{body}
-use Rattle.encoding.specs.Root.{conditions, for_last}
+use Rattle.form_encoding.specs.Encoding.{restricted}
+use Rattle.form_encoding.specs.Problems.{body}
+use Rattle.form_encoding.specs.Root.{conditions, for_last}
 use Rattle.function_encoding.proofs.Bounding.{alone, last_failed}
 use Rattle.function_encoding.proofs.Roots.{last_as, conditions_as}
 use Rattle.function_encoding.proofs.problem.root.Goals as goal

@@ -1,5 +1,5 @@
 use Rattle.std.proofs.Common.{cond, Ok, reverse, refl, sym, subst}
-use Rattle.purse.specs.Trace.{just}
+use Rattle.base_budget.specs.Trace.{just}
 use Rattle.formula.specs.Made.{Made}
 use Rattle.formula.proofs.Making.{made_just}
 use Rattle.function_encoding.specs.Actions.{negated}

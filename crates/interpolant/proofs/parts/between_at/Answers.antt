@@ -1,5 +1,5 @@
 use Rattle.std.proofs.Common.{ap}
-use Rattle.cut_sides.specs.Sides.{first_sets, other_sets}
+use Rattle.itp_sides.specs.Sides.{first_sets, other_sets}
 use Rattle.interpolant.proofs.Answering.{AreStrongest, Stand, cut_read, with_sets}
 use Rattle.interpolant.proofs.parts.between_at.Goals as goal
 

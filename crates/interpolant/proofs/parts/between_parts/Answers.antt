@@ -1,6 +1,6 @@
 use Rattle.std.proofs.Common.{length, ap, ◌∙◌}
 use Rattle.formula.specs.Tree.{form}
-use Rattle.encoding.specs.Problems.{constants}
+use Rattle.form_encoding.specs.Problems.{constants}
 use Rattle.interpolant.proofs.Answering.{between_done, cut_short, few_marks, marks_room, no_memory_left, not_encoded, run_done, slice_marks, strongest_done}
 use Rattle.interpolant.proofs.parts.between_parts.Goals as goal
 

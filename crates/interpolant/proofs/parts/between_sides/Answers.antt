@@ -1,6 +1,6 @@
 use Rattle.std.proofs.Common.{arith, ◌≡◌}
 use Rattle.std.proofs.lemmas.Grind.{common_steps}
-use Rattle.cut_sides.specs.Sides.{first_sets, other_sets}
+use Rattle.itp_sides.specs.Sides.{first_sets, other_sets}
 use Rattle.interpolant.proofs.Answering.{AreStrongest, Stand, with_sets}
 use Rattle.interpolant.proofs.parts.between_sides.Goals as goal
 

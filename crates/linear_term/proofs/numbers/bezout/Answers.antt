@@ -3,7 +3,7 @@ use Rattle.std.proofs.lemmas.Int.{to_z-of_z, to_z_pos, ints}
 use lib.IntN.{+ℤ_idl}
 use mir.Syntax.{w128}
 use mir.Val.{SFits}
-use Rattle.integers.proofs.Divisor.{gcd-only}
+use Rattle.base_integers.proofs.Divisor.{gcd-only}
 use Rattle.linear_term.proofs.Euclid.{gcd_of_sizes, IsGcd-from_crosses, cross_small, positive_size, cross_sum, cross_least}
 use Rattle.linear_term.proofs.numbers.bezout.Goals as goal
 

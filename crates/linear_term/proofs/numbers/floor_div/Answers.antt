@@ -2,7 +2,7 @@ use Rattle.std.proofs.Common.{rules}
 use Rattle.std.proofs.lemmas.Int.{to_z-of_z}
 use mir.Syntax.{w128}
 use mir.Val.{SFits}
-use Rattle.integers.proofs.Floors.{floor-is}
+use Rattle.base_integers.proofs.Floors.{floor-is}
 use Rattle.linear_term.proofs.numbers.floor_div.Goals as goal
 
 pub returns-clause-floor : goal.returns-clause-floor

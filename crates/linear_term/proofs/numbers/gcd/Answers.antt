@@ -2,7 +2,7 @@ use Rattle.std.proofs.Common.{◌<◌, ◌^◌, arith}
 use Rattle.std.proofs.lemmas.Int.{to_z-of_z, to_z_pos, ints}
 use mir.Syntax.{w128}
 use mir.Val.{SFits}
-use Rattle.integers.proofs.Divisor.{gcd-only}
+use Rattle.base_integers.proofs.Divisor.{gcd-only}
 use Rattle.linear_term.proofs.Euclid.{gcd_small, gcd_of_sizes}
 use Rattle.linear_term.proofs.numbers.gcd.Goals as goal
 

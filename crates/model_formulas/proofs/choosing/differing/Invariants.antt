@@ -1,5 +1,5 @@
 use Rattle.std.proofs.Common.{◌≡◌, ℕ, ℤ, List, drop}
-use Rattle.typed_formula.specs.Truth.{Meaning}
+use Rattle.form_typed.specs.Truth.{Meaning}
 use Rattle.linear_term.specs.Linear.{value_of}
 use Rattle.model_formulas.specs.Choices.{AreChoices}
 use Rattle.model_formulas.proofs.Chosen.{CasesSo}

@@ -1,5 +1,5 @@
 use Rattle.std.proofs.Common.{◌∙◌, ap, cond, sym}
-use Rattle.purse.specs.declared.log.Entry.TheVariants.{OneSided, Exact, Dark}
+use Rattle.base_budget.specs.declared.log.Entry.TheVariants.{OneSided, Exact, Dark}
 use Rattle.clause_set.specs.Shadows.{one_sided, exact, dark}
 use Rattle.omega_elim.proofs.Choice.{two_sided_is, entry-one_sided, entry-two_sided, one_sided_rule, exact_rule, dark_rule, done_by, failed_by}
 use Rattle.omega_elim.proofs.bounded.by_bounds.Goals as goal

@@ -2,8 +2,8 @@ use Rattle.std.proofs.Common.{rules, ap, ◌∙◌, to_z-of_z}
 use Rattle.std.specs.Prelude.{Bool, Option, ℤ}
 use mir.Syntax.{w128}
 use mir.Val.{SFits}
-use Rattle.solution_laws.specs.Nearest.{is_at_most}
-use Rattle.least_laws.specs.Floors.{floor_when}
+use Rattle.solve_laws.specs.Nearest.{is_at_most}
+use Rattle.optimiser.specs.Floors.{floor_when}
 use Rattle.optimiser.proofs.Residues.{above_failed, above_unmeasured, above_done}
 use Rattle.optimiser.proofs.classes.floor_above.Goals as goal
 

@@ -1,7 +1,7 @@
 use Rattle.std.proofs.Common.{◌≡◌, ◌^◌, ◌∙◌, ap, to_z-of_z, Result, Ok}
 use mir.Syntax.{w128}
 use mir.Val.{SFits}
-use Rattle.purse.specs.declared.fault.ElimFault.{ElimFault}
+use Rattle.base_budget.specs.declared.fault.ElimFault.{ElimFault}
 use Rattle.quant_elim.proofs.Budgets.{below_budget}
 use Rattle.parameter_solver.specs.declared.solving.Solved.{Solved}
 use Rattle.parameter_solver.specs.declared.solving.Solved.TheVariants as solved

@@ -1,7 +1,7 @@
 use Rattle.std.proofs.Common.{◌^◌, sym, subst}
 use Rattle.std.specs.Prelude.{All}
-use Rattle.purse.proofs.Charging.{charged_value}
-use Rattle.purse.proofs.Following.{followed_value}
+use Rattle.base_budget.proofs.Charging.{charged_value}
+use Rattle.base_budget.proofs.Following.{followed_value}
 use Rattle.quant_elim.proofs.Budgets.{below_budget}
 use Rattle.parameter_solver.specs.Names.{IsOfName}
 use Rattle.parameter_solver.proofs.Spanning.{all_out, all_entries}

@@ -2,9 +2,9 @@ use Rattle.std.proofs.Common.{pos, negsuc, to_z-of_z}
 use mir.Syntax.{w128}
 use mir.Val.{SFits}
 use Rattle.linear_term.specs.Linear.{number}
-use Rattle.purse.specs.Trace.{combining}
-use Rattle.purse.proofs.Charging.{then_ok, then_err, free}
-use Rattle.least_laws.specs.Least.{with_zero}
+use Rattle.base_budget.specs.Trace.{combining}
+use Rattle.base_budget.proofs.Charging.{then_ok, then_err, free}
+use Rattle.optimiser.specs.Least.{with_zero}
 use Rattle.optimiser.proofs.terms.with_level.Goals as goal
 
 pub returns-in_err-s : goal.returns-in_err-s

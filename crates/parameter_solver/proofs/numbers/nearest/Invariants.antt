@@ -1,5 +1,5 @@
 use Rattle.std.proofs.Common.{◌≡◌, drop}
-use Rattle.solution_laws.specs.Nearest.{nearest, nearest_of}
+use Rattle.solve_laws.specs.Nearest.{nearest, nearest_of}
 use Rattle.parameter_solver.proofs.numbers.nearest.Given as goal
 
 abbrev pub invariant-loop-i : goal.invariant-loop-i

@@ -1,9 +1,9 @@
 use Rattle.std.proofs.Common.{rules, ℤ, Bool, List, ◌++◌, ap, ◌∙◌, to_z-of_z}
 use mir.Syntax.{w128}
 use mir.Val.{SFits}
-use Rattle.purse.proofs.Charging.{work_err, work_ok, work_just}
-use Rattle.solution_laws.specs.Nearest.{when, is_at_most}
-use Rattle.solution_laws.specs.Candidates.{computed, up_from, down_from}
+use Rattle.base_budget.proofs.Charging.{work_err, work_ok, work_just}
+use Rattle.solve_laws.specs.Nearest.{when, is_at_most}
+use Rattle.solve_laws.specs.Candidates.{computed, up_from, down_from}
 use Rattle.parameter_solver.proofs.numbers.two_between.Goals as goal
 
 pub returns-in_err-up : goal.returns-in_err-up

@@ -2,9 +2,9 @@ use Rattle.std.proofs.Common.{rules, ap, sym, subst, ◌∙◌, ◌<◌, length,
 use Rattle.std.specs.Prelude.{remove}
 use mir.Syntax.{w128}
 use mir.Val.{SFits}
-use Rattle.purse.proofs.Charging.{work_memory}
+use Rattle.base_budget.proofs.Charging.{work_memory}
 use Rattle.linear_term.specs.Linear.{Linear}
-use Rattle.rule_code.proofs.Calls.{rest_divisors}
+use Rattle.elim_rules.proofs.Calls.{rest_divisors}
 use Rattle.parameter_solver.proofs.OneName.{equation_within, root_at_done, rest_alone}
 use Rattle.parameter_solver.proofs.single.at_root.Goals as goal
 

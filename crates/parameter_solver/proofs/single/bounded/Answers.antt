@@ -1,6 +1,6 @@
 use Rattle.std.proofs.Common.{arith, pos, sym, subst, ◌∙◌}
 use Rattle.std.specs.Prelude.{All}
-use Rattle.solution_laws.specs.Candidates.{IsAlone}
+use Rattle.solve_laws.specs.Candidates.{IsAlone}
 use Rattle.parameter_solver.proofs.OneName.{class_step, bounded_here, bounded_none, two_ok_range}
 use Rattle.parameter_solver.proofs.single.bounded.Goals as goal
 

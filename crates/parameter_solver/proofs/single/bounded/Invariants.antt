@@ -1,5 +1,5 @@
 use Rattle.std.proofs.Common.{◌≡◌, drop}
-use Rattle.solution_laws.specs.Candidates.{class_of}
+use Rattle.solve_laws.specs.Candidates.{class_of}
 use Rattle.parameter_solver.proofs.single.bounded.Given as goal
 
 abbrev pub invariant-loop-l : goal.invariant-loop-l

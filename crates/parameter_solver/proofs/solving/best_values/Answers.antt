@@ -1,8 +1,8 @@
 use Rattle.std.proofs.Common.{◌^◌, ◌≡◌, arith, sym, ◌∙◌, length}
-use Rattle.purse.proofs.Following.{follow_ok, follow_err}
+use Rattle.base_budget.proofs.Following.{follow_ok, follow_err}
 use Rattle.quant_elim.proofs.Budgets.{below_budget}
 use Rattle.elim_laws.specs.Whole.{names_out}
-use Rattle.solution_laws.specs.Solutions.{answered, solving}
+use Rattle.solve_laws.specs.Solutions.{answered, solving}
 use Rattle.parameter_solver.proofs.Spanning.{all_out, all_entries}
 use Rattle.parameter_solver.proofs.Answered.{answered_none, answered_some, answered_err}
 use Rattle.parameter_solver.proofs.solving.best_values.Goals as goal

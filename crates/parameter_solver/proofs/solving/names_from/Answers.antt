@@ -1,5 +1,5 @@
 use Rattle.std.proofs.Common.{◌≡◌, ◌<◌, ◌^◌, arith, refl}
-use Rattle.purse.proofs.Charging.{then_err, then_just, no_memory, remains_next, remains_ends}
+use Rattle.base_budget.proofs.Charging.{then_err, then_just, no_memory, remains_next, remains_ends}
 use Rattle.quant_elim.proofs.Budgets.{below_budget}
 use Rattle.parameter_solver.proofs.Spanning.{names_next}
 use Rattle.parameter_solver.proofs.solving.names_from.Goals as goal

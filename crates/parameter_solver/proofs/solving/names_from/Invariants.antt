@@ -1,7 +1,7 @@
 use Rattle.std.proofs.Common.{◌<◌, ◌≤◌, ◌^◌}
-use Rattle.purse.specs.Trace.{at}
-use Rattle.purse.specs.Work.{Remains, marks_of}
-use Rattle.solution_laws.specs.Solutions.{names_from}
+use Rattle.base_budget.specs.Trace.{at}
+use Rattle.base_budget.specs.Work.{Remains, marks_of}
+use Rattle.solve_laws.specs.Solutions.{names_from}
 use Rattle.parameter_solver.proofs.solving.names_from.Given as goal
 
 abbrev pub invariant-loop-rest : goal.invariant-loop-rest

@@ -2,8 +2,8 @@ use Rattle.std.proofs.Common.{rules, refl, sym, subst, to_z-of_z}
 use Rattle.std.specs.Prelude.{All}
 use mir.Syntax.{w128}
 use mir.Val.{SFits}
-use Rattle.purse.specs.Trace.{new_log}
-use Rattle.purse.proofs.Following.{follow_ok, follow_err, follow_just, follow_unnoted, follow_note, followed_value}
+use Rattle.base_budget.specs.Trace.{new_log}
+use Rattle.base_budget.proofs.Following.{follow_ok, follow_err, follow_just, follow_unnoted, follow_note, followed_value}
 use Rattle.parameter_solver.specs.Names.{IsOfName}
 use Rattle.parameter_solver.proofs.Spanning.{from_next, left_names}
 use Rattle.parameter_solver.proofs.solving.value_step.Goals as goal

@@ -1,7 +1,7 @@
 use Rattle.std.proofs.Common.{◌≡◌, ℕ, ◌+◌, ◌-◌, ◌<◌, ◌^◌, arith, refl, rules, subst, to_z-of_z}
 use mir.Syntax.{w128}
 use mir.Val.{SFits}
-use Rattle.purse.proofs.Following.{follow_err, follow_just, follow_memory, going_next, going_ends}
+use Rattle.base_budget.proofs.Following.{follow_err, follow_just, follow_memory, going_next, going_ends}
 use Rattle.quant_elim.proofs.Budgets.{below_budget}
 use Rattle.parameter_solver.specs.Names.{IsOfNames}
 use Rattle.parameter_solver.proofs.Spanning.{step_names, values_next}

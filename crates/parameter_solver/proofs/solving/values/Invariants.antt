@@ -1,6 +1,6 @@
 use Rattle.std.proofs.Common.{[], ◌-◌, ◌<◌, ◌^◌}
-use Rattle.purse.proofs.Following.{Going}
-use Rattle.solution_laws.specs.Solutions.{values_at}
+use Rattle.base_budget.proofs.Following.{Going}
+use Rattle.solve_laws.specs.Solutions.{values_at}
 use Rattle.parameter_solver.specs.Logs.{in_log}
 use Rattle.parameter_solver.specs.Names.{IsOfNames}
 use Rattle.parameter_solver.proofs.solving.values.Given as goal

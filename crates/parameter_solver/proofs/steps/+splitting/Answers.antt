@@ -1,7 +1,7 @@
 use Rattle.std.proofs.Common.{arith, refl, None, Some}
-use Rattle.purse.proofs.Charging.{drop-item, drop_all, remains_next, remains_ends, then_err, then_just, no_memory}
+use Rattle.base_budget.proofs.Charging.{drop-item, drop_all, remains_next, remains_ends, then_err, then_just, no_memory}
 use Rattle.clause_set.specs.Names.{is_equation}
-use Rattle.solution_laws.proofs.Candidates.{position-got}
+use Rattle.solve_laws.proofs.Candidates.{position-got}
 use Rattle.parameter_solver.proofs.Parting.{below_above, name_item, range_append, alone, found_at, parts_of, candidates_root, candidates_fault, candidates_parts, candidates_bounds}
 use Rattle.parameter_solver.proofs.steps.+splitting.Goals as goal
 

@@ -2,9 +2,9 @@ use Rattle.std.proofs.Common.{[], ◌+◌, ◌*◌, drop}
 use Rattle.std.specs.Prelude.{All}
 use Rattle.linear_term.specs.Range.{InRange}
 use Rattle.clause_set.specs.Rules.{measure}
-use Rattle.purse.specs.Trace.{at, each}
-use Rattle.purse.specs.Work.{Remains}
-use Rattle.solution_laws.specs.Candidates.{candidates}
+use Rattle.base_budget.specs.Trace.{at, each}
+use Rattle.base_budget.specs.Work.{Remains}
+use Rattle.solve_laws.specs.Candidates.{candidates}
 use Rattle.parameter_solver.proofs.Parting.{above}
 use Rattle.parameter_solver.proofs.steps.+splitting.Given as goal
 

@@ -1,12 +1,12 @@
 use Rattle.std.proofs.Common.{arith, refl, rules, sym, ap, subst, ◌∙◌, to_z-of_z, ℤ, List, Result, Err}
-use Rattle.purse.specs.declared.fault.StepFault.{StepFault}
-use Rattle.purse.specs.declared.fault.StepFault.TheVariants.{Memory}
+use Rattle.base_budget.specs.declared.fault.StepFault.{StepFault}
+use Rattle.base_budget.specs.declared.fault.StepFault.TheVariants.{Memory}
 use mir.Syntax.{w128}
 use mir.Val.{SFits}
 use Rattle.linear_term.specs.Range.{InRange}
-use Rattle.purse.proofs.Charging.{drop-item, drop_all, remains_next, remains_ends, then_ok, then_err, then_just, then_fault, no_memory}
-use Rattle.solution_laws.specs.Nearest.{nearest}
-use Rattle.solution_laws.specs.Solutions.{chosen}
+use Rattle.base_budget.proofs.Charging.{drop-item, drop_all, remains_next, remains_ends, then_ok, then_err, then_just, then_fault, no_memory}
+use Rattle.solve_laws.specs.Nearest.{nearest}
+use Rattle.solve_laws.specs.Solutions.{chosen}
 use Rattle.parameter_solver.proofs.Parting.{name_item, range_append, nearest_range}
 use Rattle.parameter_solver.proofs.steps.chosen.Goals as goal
 

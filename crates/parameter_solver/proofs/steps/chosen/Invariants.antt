@@ -1,9 +1,9 @@
 use Rattle.std.proofs.Common.{[], drop}
 use Rattle.std.specs.Prelude.{All}
 use Rattle.linear_term.specs.Range.{InRange}
-use Rattle.purse.specs.Trace.{at, each}
-use Rattle.purse.specs.Work.{Remains}
-use Rattle.solution_laws.specs.Candidates.{charged_candidates}
+use Rattle.base_budget.specs.Trace.{at, each}
+use Rattle.base_budget.specs.Work.{Remains}
+use Rattle.solve_laws.specs.Candidates.{charged_candidates}
 use Rattle.parameter_solver.proofs.steps.chosen.Given as goal
 
 abbrev pub invariant-loop-c : goal.invariant-loop-c

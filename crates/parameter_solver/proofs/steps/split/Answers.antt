@@ -1,7 +1,7 @@
 use Rattle.std.proofs.Common.{◌+◌, drop, None, Some, ap, ◌∙◌}
 use Rattle.clause_set.specs.Names.{is_divisibility, is_indivisibility}
 use Rattle.clause_set.specs.Rules.{rule}
-use Rattle.purse.specs.declared.log.Entry.TheVariants.{Apart, Merge}
+use Rattle.base_budget.specs.declared.log.Entry.TheVariants.{Apart, Merge}
 use Rattle.parameter_solver.specs.Splits.{splitting}
 use Rattle.parameter_solver.proofs.Parting.{found_at, apart_place, merge_place, split_apart, split_merge, split_no, split_one, rule_ok, rule_err, rule_none}
 use Rattle.parameter_solver.proofs.steps.split.Goals as goal

@@ -1,8 +1,8 @@
 use Rattle.std.proofs.Common.{to_z-of_z}
 use mir.Syntax.{w128}
 use mir.Val.{SFits}
-use Rattle.purse.proofs.Charging.{then_ok, then_err, free}
-use Rattle.solution_laws.specs.Solutions.{with_value}
+use Rattle.base_budget.proofs.Charging.{then_ok, then_err, free}
+use Rattle.solve_laws.specs.Solutions.{with_value}
 use Rattle.parameter_solver.proofs.values.with_value.Goals as goal
 
 pub returns-in_err-step : goal.returns-in_err-step

@@ -1,7 +1,7 @@
 use Rattle.std.proofs.Common.{◌+◌, ap, map, refl, ◌∙◌}
-use Rattle.typed_formula.specs.Formula.{formula}
-use Rattle.encoding.specs.Problems.{constants}
-use Rattle.cut_sides.specs.Closing.{numbers_from, quantified, rebound, renamed}
+use Rattle.form_typed.specs.Formula.{formula}
+use Rattle.form_encoding.specs.Problems.{constants}
+use Rattle.itp_sides.specs.Closing.{numbers_from, quantified, rebound, renamed}
 use Rattle.pred_interpolant.proofs.Tables.{if_ok, table_sends}
 use Rattle.pred_interpolant.proofs.closing.closed.Goals as goal
 

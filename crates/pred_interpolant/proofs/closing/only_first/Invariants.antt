@@ -1,7 +1,7 @@
 use Rattle.std.proofs.Common.{◌≡◌, ◌++◌, ◌-◌, ◌&&◌, not, length}
 use Rattle.std.specs.List.{filter}
 use Rattle.function_encoding.specs.Marks.{is_marked}
-use Rattle.cut_sides.specs.Closing.{numbers_from}
+use Rattle.itp_sides.specs.Closing.{numbers_from}
 use Rattle.pred_interpolant.proofs.closing.only_first.Given as goal
 
 abbrev pub invariant-loop-x : goal.invariant-loop-x

@@ -1,6 +1,6 @@
 use Rattle.std.proofs.Common.{length, ap, sym, subst, ◌∙◌}
 use Rattle.pri_typing.specs.Problems.{assumed_by}
-use Rattle.encoding.specs.Problems.{constants}
+use Rattle.form_encoding.specs.Problems.{constants}
 use Rattle.function_encoding.specs.Marks.{AreMarks}
 use Rattle.interpolant.proofs.Answering.{few_marks}
 use Rattle.pred_interpolant.proofs.Tables.{few_own, if_ok, marked_own}

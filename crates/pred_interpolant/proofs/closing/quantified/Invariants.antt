@@ -1,6 +1,6 @@
 use Rattle.std.proofs.Common.{◌≡◌, length}
-use Rattle.typed_formula.specs.Formula.{formula}
-use Rattle.cut_sides.specs.Closing.{quantified}
+use Rattle.form_typed.specs.Formula.{formula}
+use Rattle.itp_sides.specs.Closing.{quantified}
 use Rattle.pred_interpolant.proofs.closing.quantified.Given as goal
 
 abbrev pub invariant-loop-last : goal.invariant-loop-last

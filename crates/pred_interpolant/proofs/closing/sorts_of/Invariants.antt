@@ -1,6 +1,6 @@
 use Rattle.std.proofs.Common.{◌≡◌, take, map}
-use Rattle.encoding.specs.Meaning.{type_at}
-use Rattle.encoding.specs.Problems.{types}
+use Rattle.form_encoding.specs.Meaning.{type_at}
+use Rattle.form_encoding.specs.Problems.{types}
 use Rattle.pred_interpolant.proofs.closing.sorts_of.Given as goal
 
 abbrev pub invariant-loop-x : goal.invariant-loop-x

@@ -1,5 +1,5 @@
 use Rattle.std.proofs.Common.{◌∷◌, ◌++◌, [], ap, ◌∙◌}
-use Rattle.cut_sides.specs.Closing.{rebound}
+use Rattle.itp_sides.specs.Closing.{rebound}
 use Rattle.pred_interpolant.proofs.Tables.{table_next}
 use Rattle.pred_interpolant.proofs.closing.table_of.Goals as goal
 

@@ -1,5 +1,5 @@
 use Rattle.std.proofs.Common.{◌≡◌, ◌++◌, ◌-◌, map}
-use Rattle.cut_sides.specs.Closing.{numbers_from, rebound}
+use Rattle.itp_sides.specs.Closing.{numbers_from, rebound}
 use Rattle.pred_interpolant.proofs.closing.table_of.Given as goal
 
 abbrev pub invariant-loop-x : goal.invariant-loop-x

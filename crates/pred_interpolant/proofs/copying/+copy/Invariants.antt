@@ -1,6 +1,6 @@
 use Rattle.std.proofs.Common.{◌≡◌, take, map}
-use Rattle.typed_formula.specs.Formula.{expression, formula}
-use Rattle.cut_sides.specs.Closing.{renamed, renamed_term}
+use Rattle.form_typed.specs.Formula.{expression, formula}
+use Rattle.itp_sides.specs.Closing.{renamed, renamed_term}
 use Rattle.pred_interpolant.specs.Copies.{sent}
 use Rattle.pred_interpolant.proofs.copying.+copy.Given as goal
 

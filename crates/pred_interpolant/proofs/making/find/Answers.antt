@@ -1,7 +1,7 @@
 use Rattle.std.proofs.Common.{ap, refl, ◌∙◌}
 use Rattle.pri_typing.specs.Problems.{assumed_by}
-use Rattle.cut_sides.specs.Closing.{strongest_formula, weakest_formula}
-use Rattle.cut_sides.specs.Sides.{cut_of, first_sets, other_sets}
+use Rattle.itp_sides.specs.Closing.{strongest_formula, weakest_formula}
+use Rattle.itp_sides.specs.Sides.{cut_of, first_sets, other_sets}
 use Rattle.pred_interpolant.specs.Made.{run, uninterpolated}
 use Rattle.pred_interpolant.specs.Marks.{case_chosen}
 use Rattle.pred_interpolant.proofs.Standing.{arithmetic_found, case_is, first_found, first_work, missed, plain_first, second_found, second_work, side_fit}

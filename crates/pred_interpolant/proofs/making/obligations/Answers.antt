@@ -1,6 +1,6 @@
 use Rattle.std.proofs.Common.{Ok, Err, sym, subst, ◌∙◌}
-use Rattle.typed_formula.specs.Formula.{formula}
-use Rattle.cut_sides.specs.Sides.{cut_of, first_sets, other_sets}
+use Rattle.form_typed.specs.Formula.{formula}
+use Rattle.itp_sides.specs.Sides.{cut_of, first_sets, other_sets}
 use Rattle.pred_interpolant.specs.Made.{AreSides}
 use Rattle.pred_interpolant.specs.Middle.{follows, said}
 use Rattle.pred_interpolant.proofs.Ends.{above_as, above_ends, all_made, below_as, below_ends, encodes_as, found_as, unfound_ends}

@@ -1,5 +1,5 @@
 use Rattle.std.proofs.Common.{◌≡◌, take, map}
-use Rattle.typed_formula.specs.Formula.{formula}
+use Rattle.form_typed.specs.Formula.{formula}
 use Rattle.pri_printer.specs.Formulas.{clause_formula}
 use Rattle.pred_interpolant.proofs.normal_form.clauses.Given as goal
 

@@ -1,5 +1,5 @@
 use Rattle.std.proofs.Common.{◌+◌, sym, subst}
-use Rattle.typed_formula.specs.Formula.{formula}
+use Rattle.form_typed.specs.Formula.{formula}
 use Rattle.pred_interpolant.specs.Fit.{IsFitFormula}
 use Rattle.pred_interpolant.proofs.NormalForms.{dnf_fit, dnf_is}
 use Rattle.pred_interpolant.proofs.Tables.{if_ok}

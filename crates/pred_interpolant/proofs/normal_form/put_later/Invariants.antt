@@ -1,5 +1,5 @@
 use Rattle.std.proofs.Common.{◌≡◌, ◌++◌, drop, map}
-use Rattle.typed_formula.specs.Formula.{expression}
+use Rattle.form_typed.specs.Formula.{expression}
 use Rattle.pri_printer.specs.Formulas.{later, later_part}
 use Rattle.pri_printer.specs.Summands.{monomial}
 use Rattle.pred_interpolant.proofs.normal_form.put_later.Given as goal

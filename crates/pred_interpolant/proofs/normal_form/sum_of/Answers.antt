@@ -1,6 +1,6 @@
 use Rattle.std.proofs.Common.{◌++◌, ◌∷◌, [], ap, sym, to_z-of_z, ◌∙◌}
 use Rattle.std.proofs.lemmas.Bool.{false≢true}
-use Rattle.typed_formula.proofs.Folds.{expression-Sum}
+use Rattle.form_typed.proofs.Folds.{expression-Sum}
 use Rattle.pred_interpolant.proofs.Sums.{rest_is, several_are}
 use Rattle.pred_interpolant.proofs.normal_form.sum_of.Goals as goal
 

@@ -1,7 +1,7 @@
 use Rattle.std.proofs.Common.{refl, sym, subst}
 use Rattle.pri_typing.specs.WellFormed.{IsWellFormed}
-use Rattle.problem_file.proofs.Encoded.{encoded_as}
-use Rattle.problem_file.specs.Encoded.{IsEncoded}
+use Rattle.pri_problem.proofs.Encoded.{encoded_as}
+use Rattle.pri_problem.specs.Encoded.{IsEncoded}
 use Rattle.pred_interpolant.proofs.Fitting.{fit_formed}
 use Rattle.pred_interpolant.proofs.Tables.{if_ok}
 use Rattle.pred_interpolant.proofs.replaced.encode_formula.Goals as goal

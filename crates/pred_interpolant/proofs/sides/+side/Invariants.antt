@@ -1,6 +1,6 @@
 use Rattle.std.proofs.Common.{◌≡◌, ◌++◌, drop, map}
 use Rattle.std.specs.List.{filter}
-use Rattle.typed_formula.specs.Formula.{formula, formulas_of}
+use Rattle.form_typed.specs.Formula.{formula, formulas_of}
 use Rattle.pri_typing.specs.Problems.{assumed}
 use Rattle.pri_typing.specs.WellFormed.{all_formula_components}
 use Rattle.function_encoding.specs.Encoded.{is_in}

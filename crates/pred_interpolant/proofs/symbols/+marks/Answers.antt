@@ -1,5 +1,5 @@
 use Rattle.std.proofs.Common.{◌+◌, ◌∙◌, drop, arith}
-use Rattle.purse.proofs.Charging.{drop-item}
+use Rattle.base_budget.proofs.Charging.{drop-item}
 use Rattle.pred_interpolant.proofs.Marking.{formulas_next, mark_If, mark_Iff, mark_Implies, mark_Max, mark_Min, mark_Product, mark_Rel, terms_next}
 use Rattle.pred_interpolant.proofs.symbols.+marks.Goals as goal
 

@@ -1,6 +1,6 @@
 use Rattle.std.proofs.Common.{◌≡◌, drop}
-use Rattle.typed_formula.specs.Formula.{expressions_of, formulas_of}
-use Rattle.cut_sides.specs.Symbols.{symbols_in_all, symbols_in_terms}
+use Rattle.form_typed.specs.Formula.{expressions_of, formulas_of}
+use Rattle.itp_sides.specs.Symbols.{symbols_in_all, symbols_in_terms}
 use Rattle.pred_interpolant.specs.Marks.{noted}
 use Rattle.pred_interpolant.proofs.symbols.+marks.Given as goal
 

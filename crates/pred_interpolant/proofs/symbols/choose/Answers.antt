@@ -1,5 +1,5 @@
 use Rattle.std.proofs.Common.{sym, ◌∙◌}
-use Rattle.typed_formula.specs.Formula.{formula}
+use Rattle.form_typed.specs.Formula.{formula}
 use Rattle.pred_interpolant.proofs.Choosing.{case_first, case_none, case_second, chosen_arithmetic, chosen_within, marks_many, not_within, some_symbol}
 use Rattle.pred_interpolant.proofs.symbols.choose.Goals as goal
 

@@ -1,6 +1,6 @@
 use Rattle.std.proofs.Common.{map, drop}
-use Rattle.purse.proofs.Charging.{Left}
-use Rattle.purse.specs.Trace.{each}
+use Rattle.base_budget.proofs.Charging.{Left}
+use Rattle.base_budget.specs.Trace.{each}
 use Rattle.formula.specs.Tree.{form}
 use Rattle.sequent.specs.Views.{members_of}
 use Rattle.pred_unify.specs.Pairs.{with_predicates}

@@ -1,5 +1,5 @@
 use Rattle.std.proofs.Common.{[], map, drop}
-use Rattle.purse.proofs.Charging.{Left}
+use Rattle.base_budget.proofs.Charging.{Left}
 use Rattle.pred_unify.specs.Pairs.{equations}
 use Rattle.formula.specs.Tree.{form}
 use Rattle.pred_unify.proofs.pairing.equations.Given as goal

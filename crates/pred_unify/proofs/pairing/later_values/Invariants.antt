@@ -1,5 +1,5 @@
 use Rattle.std.proofs.Common.{map, drop}
-use Rattle.purse.proofs.Charging.{Left}
+use Rattle.base_budget.proofs.Charging.{Left}
 use Rattle.pred_unify.specs.Pairs.{function_pairs}
 use Rattle.formula.specs.Tree.{form}
 use Rattle.sequent.specs.Views.{members_of}

@@ -2,7 +2,7 @@ use Rattle.std.proofs.Common.{◌≡◌, ap, sym, ◌∙◌, arith}
 use Rattle.std.specs.Prelude.{IfOk, Result, Ok, Err}
 use Rattle.pri_printer.specs.Quotient.{quotient_name, quotient_number}
 use Rattle.pri_typing.specs.WellFormed.{names_of_symbols}
-use Rattle.texts.specs.Texts.{is_among}
+use Rattle.base_texts.specs.Texts.{is_among}
 use Rattle.pri_printer.proofs.Searching.{free_begin, free_stop, free_more, free_end}
 use Rattle.pri_printer.proofs.quotient.free_text.Goals as goal
 

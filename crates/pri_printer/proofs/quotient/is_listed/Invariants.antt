@@ -1,5 +1,5 @@
 use Rattle.std.proofs.Common.{◌≡◌, drop}
-use Rattle.texts.specs.Texts.{is_among}
+use Rattle.base_texts.specs.Texts.{is_among}
 use Rattle.pri_printer.proofs.quotient.is_listed.Given as goal
 
 abbrev pub invariant-loop-other : goal.invariant-loop-other

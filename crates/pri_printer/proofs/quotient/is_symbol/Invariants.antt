@@ -1,6 +1,6 @@
 use Rattle.std.proofs.Common.{◌≡◌, drop, map}
 use Rattle.pri_typing.specs.declared.problem.Symbol.{Symbol}
-use Rattle.texts.specs.Texts.{is_among}
+use Rattle.base_texts.specs.Texts.{is_among}
 use Rattle.pri_printer.proofs.quotient.is_symbol.Given as goal
 
 abbrev pub invariant-loop-symbol : goal.invariant-loop-symbol

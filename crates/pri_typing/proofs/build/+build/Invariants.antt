@@ -1,5 +1,5 @@
 use Rattle.std.proofs.Common.{◌+◌, ◌*◌, max, ◌≡◌, take, map, ◌∷◌}
-use Rattle.typed_formula.specs.Formula.{formula, expression}
+use Rattle.form_typed.specs.Formula.{formula, expression}
 use Rattle.pri_reader.specs.declared.tree.Expr.{size-Expr}
 use Rattle.pri_typing.specs.Sites.{scope_at}
 use Rattle.pri_typing.specs.Phrase.{phrase}

@@ -1,5 +1,5 @@
 use Rattle.std.proofs.Common.{◌≡◌, length}
-use Rattle.typed_formula.specs.Formula.{formula}
+use Rattle.form_typed.specs.Formula.{formula}
 use Rattle.pri_typing.specs.Sorts.{sorts_of}
 use Rattle.pri_typing.specs.Typing.{quantifiers}
 use Rattle.pri_typing.proofs.build.quantify.Given as goal

@@ -1,6 +1,6 @@
 use Rattle.std.proofs.Common.{sym, ap, ◌∙◌, map, take, ◌++◌, ◌∷◌, []}
 use Rattle.std.proofs.lemmas.List.{map_more}
-use Rattle.texts.specs.Texts.{place}
+use Rattle.base_texts.specs.Texts.{place}
 use Rattle.pri_typing.proofs.cuts.cut.Goals as goal
 
 pub loop-set-preserved : goal.loop-set-preserved

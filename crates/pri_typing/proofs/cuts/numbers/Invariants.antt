@@ -1,5 +1,5 @@
 use Rattle.std.proofs.Common.{◌≡◌, take, map}
-use Rattle.texts.specs.Texts.{place}
+use Rattle.base_texts.specs.Texts.{place}
 use Rattle.pri_typing.proofs.cuts.numbers.Given as goal
 
 abbrev pub invariant-loop-name : goal.invariant-loop-name

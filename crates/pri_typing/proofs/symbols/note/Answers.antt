@@ -3,7 +3,7 @@ use Rattle.indexmap.specs.IndexMap.{get}
 use Rattle.indexmap.proofs.CallerLemmas.{insert_entry-new}
 use Rattle.std.specs.Cmp.Lexicographic.{pointwise}
 use Rattle.std.specs.Global.{Vec}
-use Rattle.texts.specs.Texts.{is_text}
+use Rattle.base_texts.specs.Texts.{is_text}
 use Rattle.pri_typing.specs.Symbols.{entry_at, first_entry}
 use Rattle.pri_typing.proofs.Tables.{entry_at-append}
 use Rattle.pri_typing.proofs.symbols.note.Goals as goal

@@ -1,5 +1,5 @@
 use Rattle.std.proofs.Common.{subst}
-use Rattle.proof_line.specs.Faults.{RefusesLine}
+use Rattle.proof_grammar.specs.Faults.{RefusesLine}
 use Rattle.proof_file.proofs.Streaming.{deep_none, syntax_none}
 use Rattle.proof_file.proofs.stream.owed_line.Goals as goal
 

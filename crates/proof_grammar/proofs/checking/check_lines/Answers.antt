@@ -1,6 +1,6 @@
 use Rattle.std.proofs.Common.{◌∙◌, ap}
-use Rattle.proof_line.specs.Owed.{tree_owed}
-use Rattle.proof_line.proofs.Failing.{fails}
+use Rattle.proof_grammar.specs.Owed.{tree_owed}
+use Rattle.proof_grammar.proofs.Failing.{fails}
 use Rattle.proof_grammar.specs.Refusals.{RefusesText}
 use Rattle.proof_grammar.specs.Walks.{owed_of}
 use Rattle.proof_grammar.proofs.Standing.{inside, inside_more, line_fails, ended_held, ended_refused}

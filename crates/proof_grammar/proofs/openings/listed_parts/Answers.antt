@@ -1,6 +1,6 @@
 use Rattle.std.proofs.Common.{◌≤◌, ◌+◌, arith, subst, sym}
-use Rattle.proof_line.specs.Faults.{fault_of}
-use Rattle.proof_line.proofs.Failing.{fails}
+use Rattle.proof_grammar.specs.Faults.{fault_of}
+use Rattle.proof_grammar.proofs.Failing.{fails}
 use Rattle.proof_grammar.specs.Refusals.{RefusesText}
 use Rattle.proof_grammar.proofs.Standing.{Parting, no_part, no_parts, parting, parting_end, parting_more}
 use Rattle.proof_grammar.proofs.openings.listed_parts.Goals as goal

@@ -1,6 +1,6 @@
 use Rattle.std.proofs.Common.{◌∷◌, [], length, subst, sym}
-use Rattle.proof_line.specs.declared.lines.Owed.TheVariants as o
-use Rattle.proof_line.specs.declared.lines.TextLine.TheVariants as w
+use Rattle.proof_grammar.specs.declared.lines.Owed.TheVariants as o
+use Rattle.proof_grammar.specs.declared.lines.TextLine.TheVariants as w
 use Rattle.proof_grammar.specs.Stands.{StandsBefore}
 use Rattle.proof_grammar.proofs.Standing.{headed_one, headed_two, stands_headed}
 use Rattle.proof_grammar.proofs.openings.parts_of.Goals as goal

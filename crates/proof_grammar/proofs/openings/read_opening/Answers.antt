@@ -1,5 +1,5 @@
-use Rattle.proof_line.specs.Faults.{fault_of}
-use Rattle.proof_line.proofs.Failing.{fails}
+use Rattle.proof_grammar.specs.Faults.{fault_of}
+use Rattle.proof_grammar.proofs.Failing.{fails}
 use Rattle.std.proofs.Common.{length}
 use Rattle.proof_grammar.specs.Refusals.{RefusesText}
 use Rattle.proof_grammar.proofs.Standing.{no_head, no_charges, opened}

@@ -1,5 +1,5 @@
 use Rattle.std.proofs.Common.{◌≡◌, ◌++◌, drop}
-use Rattle.given_line.specs.Text.{behind, clause_text}
+use Rattle.proof_constraint.specs.Text.{behind, clause_text}
 use Rattle.proof_tokens.specs.declared.tokens.Token.TheVariants as t
 use Rattle.proof_tokens.specs.Spellings.{spelled}
 use Rattle.proof_printer.proofs.given.put_later_clauses.Given as goal

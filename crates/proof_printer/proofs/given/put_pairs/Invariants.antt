@@ -1,5 +1,5 @@
 use Rattle.std.proofs.Common.{◌≡◌, ◌++◌, drop, true}
-use Rattle.given_line.specs.Text.{pairs_text}
+use Rattle.proof_constraint.specs.Text.{pairs_text}
 use Rattle.proof_tokens.specs.Spellings.{spelled}
 use Rattle.proof_printer.proofs.given.put_pairs.Given as goal
 

@@ -3,7 +3,7 @@ use Rattle.proof_tokens.specs.Spellings.{spelled}
 use Rattle.proof_tree.specs.declared.node.Node.{out-Node}
 use Rattle.proof_tree.specs.Proof.{proofs}
 use Rattle.proof_tree.specs.Views.{proof_of}
-use Rattle.proof_line.specs.Lines.{last_lines, lines, lines_all, row_text}
+use Rattle.proof_grammar.specs.Lines.{last_lines, lines, lines_all, row_text}
 use Rattle.proof_printer.proofs.Nodes.{node_more, node_written, on_ok, short_bytes}
 use Rattle.proof_printer.proofs.text.+writing.Goals as goal
 

@@ -2,7 +2,7 @@ use Rattle.std.proofs.Common.{◌≡◌, ◌++◌, drop}
 use Rattle.std.specs.Prelude.{map}
 use Rattle.proof_tree.specs.Proof.{proofs}
 use Rattle.proof_tree.specs.Views.{proof_of}
-use Rattle.proof_line.specs.Lines.{lines_all}
+use Rattle.proof_grammar.specs.Lines.{lines_all}
 use Rattle.proof_printer.proofs.Nodes.{short_bytes}
 use Rattle.proof_printer.proofs.text.+writing.Given as goal
 

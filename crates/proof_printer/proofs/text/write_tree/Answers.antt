@@ -2,7 +2,7 @@ use Rattle.std.proofs.Common.{ℕ, ◌++◌, ◌∙◌, ap}
 use Rattle.proof_tokens.specs.Lines.{charges_text}
 use Rattle.proof_tokens.specs.Spellings.{spelled}
 use Rattle.proof_tree.specs.Views.{proof_of}
-use Rattle.proof_line.specs.Lines.{lines}
+use Rattle.proof_grammar.specs.Lines.{lines}
 use Rattle.proof_printer.proofs.Nodes.{short_bytes, tree_ends}
 use Rattle.proof_printer.proofs.Reread.{written_holds}
 use Rattle.proof_printer.proofs.text.write_tree.Goals as goal

@@ -1,5 +1,5 @@
 use Rattle.std.proofs.Common.{rules, refl, sym}
-use Rattle.purse.specs.declared.log.Entry.TheVariants as e
+use Rattle.base_budget.specs.declared.log.Entry.TheVariants as e
 use Rattle.proof_tokens.specs.declared.tokens.Token.TheVariants as t
 use Rattle.proof_tokens.proofs.Fronts.{word_front, lettered_front, merge_front}
 use Rattle.proof_tokens.proofs.ahead.entry_ahead.Goals as goal

@@ -1,5 +1,5 @@
 use Rattle.std.proofs.Common.{[], ◌∷◌, length}
-use Rattle.purse.specs.declared.log.Entry.TheVariants as step
+use Rattle.base_budget.specs.declared.log.Entry.TheVariants as step
 use Rattle.proof_tokens.specs.declared.tokens.Token.TheVariants as t
 use Rattle.proof_tokens.specs.declared.reading.Refusal.TheVariants as e
 use Rattle.proof_tokens.specs.Lines.{entries_text, IsPart, part_text}

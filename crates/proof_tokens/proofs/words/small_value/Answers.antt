@@ -1,5 +1,5 @@
 use Rattle.std.proofs.Common.{◌^◌}
-use Rattle.numerals.proofs.Digits.{too_great}
+use Rattle.base_numerals.proofs.Digits.{too_great}
 use Rattle.proof_tokens.proofs.words.small_value.Goals as goal
 
 pub returns-in_err-value : goal.returns-in_err-value

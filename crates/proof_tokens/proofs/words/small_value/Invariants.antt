@@ -1,5 +1,5 @@
 use Rattle.std.proofs.Common.{◌≡◌, drop}
-use Rattle.numerals.specs.Numerals.{with_digits, decimal_value}
+use Rattle.base_numerals.specs.Numerals.{with_digits, decimal_value}
 use Rattle.proof_tokens.proofs.words.small_value.Given as goal
 
 abbrev pub invariant-loop-digit : goal.invariant-loop-digit

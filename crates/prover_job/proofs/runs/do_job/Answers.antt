@@ -1,6 +1,6 @@
 -- An answer that is put ends with its status, which is that of no fault of the source or of memory, or with 7.
 use Rattle.std.proofs.Common.{inl}
-use Rattle.answers.specs.Answer.{answer_of}
+use Rattle.base_answers.specs.Answer.{answer_of}
 use Rattle.job_words.specs.Jobs.{task_of}
 use Rattle.prover_job.proofs.Telling.{task_status, no_fault}
 use Rattle.prover_job.proofs.runs.do_job.Goals as goal

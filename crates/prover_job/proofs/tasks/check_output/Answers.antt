@@ -1,6 +1,6 @@
 -- The problem's file that is held is answered with the proof's file, and one that is too long by that.
 use Rattle.std.proofs.Common.{[], ◌∷◌, ap, Err, length, refl, arith}
-use Rattle.answers.specs.Files.{most_of_file}
+use Rattle.base_answers.specs.Files.{most_of_file}
 use Rattle.prover_job.specs.Runs.{AnswersWithProof}
 use Rattle.prover_job.proofs.Opening.{begins_first, begins_second}
 use Rattle.prover_job.proofs.Telling.{held_so, long_so, told_same}

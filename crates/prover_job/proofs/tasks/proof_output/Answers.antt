@@ -1,8 +1,8 @@
 -- A proof's file that is held is answered by the job, and one that is too long by that.
 use Rattle.std.proofs.Common.{ap, Err, length, arith}
-use Rattle.answers.specs.Files.{most_of_proof}
-use Rattle.answers.proofs.Meeting.{whole_answered}
-use Rattle.check_job.specs.Checked.{IsChecked}
+use Rattle.base_answers.specs.Files.{most_of_proof}
+use Rattle.base_answers.proofs.Meeting.{whole_answered}
+use Rattle.job_check.specs.Checked.{IsChecked}
 use Rattle.prover_job.proofs.Telling.{long_so}
 use Rattle.prover_job.proofs.tasks.proof_output.Goals as goal
 

@@ -1,9 +1,9 @@
 -- A file that is held is answered by the job, and one that is too long by that.
 use Rattle.std.proofs.Common.{ap, Err, length, arith}
-use Rattle.answers.specs.Files.{most_of_file}
-use Rattle.answers.proofs.Meeting.{whole_answered}
+use Rattle.base_answers.specs.Files.{most_of_file}
+use Rattle.base_answers.proofs.Meeting.{whole_answered}
 use Rattle.prover_job.proofs.Telling.{long_so}
-use Rattle.smt_job.specs.Answered.{IsSmtAnswer}
+use Rattle.job_smt.specs.Answered.{IsSmtAnswer}
 use Rattle.prover_job.proofs.tasks.smt_output.Goals as goal
 
 pub returns-in_ok-answer-in-Ok-clause-answered : goal.returns-in_ok-answer-in-Ok-clause-answered

@@ -1,9 +1,9 @@
 -- A file that is held is answered by the job, and one that is too long by that.
 use Rattle.std.proofs.Common.{ap, Err, length, arith}
-use Rattle.answers.specs.Files.{most_of_file}
-use Rattle.answers.proofs.Meeting.{whole_answered}
+use Rattle.base_answers.specs.Files.{most_of_file}
+use Rattle.base_answers.proofs.Meeting.{whole_answered}
 use Rattle.prover_job.proofs.Telling.{long_so}
-use Rattle.solve_job.specs.Proved.{IsSolvedAs}
+use Rattle.job_solve.specs.Proved.{IsSolvedAs}
 use Rattle.prover_job.proofs.tasks.solve_output.Goals as goal
 
 pub returns-in_ok-answer-in-Ok-clause-answered : goal.returns-in_ok-answer-in-Ok-clause-answered

@@ -1,8 +1,8 @@
 use Rattle.std.proofs.Common.{◌^◌, None, Some, Err, refl, sym, ◌∙◌, ap, arith}
 use Rattle.std.specs.Option.{option_map}
-use Rattle.purse.specs.Work.{marks_of}
+use Rattle.base_budget.specs.Work.{marks_of}
 use Rattle.elim_laws.specs.Elimination.{taken_out}
-use Rattle.purse.proofs.Charging.{after_note, remains_all, remains_next, remains_ends, then_err, no_memory}
+use Rattle.base_budget.proofs.Charging.{after_note, remains_all, remains_next, remains_ends, then_err, no_memory}
 use Rattle.quant_elim.specs.First.{entry_of}
 use Rattle.quant_elim.proofs.ByRule.{row_ok, row_err, row_without, row_fault, row_none, row_some, row_nearer, row_memory, noted}
 use Rattle.quant_elim.proofs.Budgets.{below_budget}

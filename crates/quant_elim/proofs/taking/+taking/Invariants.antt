@@ -2,8 +2,8 @@ use Rattle.std.proofs.Common.{[], ◌+◌, ◌*◌, ◌^◌, ◌<◌, ◌≤◌,
 use Rattle.std.specs.Prelude.{reverse}
 use Rattle.elim_laws.specs.Elimination.{taken_out}
 use Rattle.clause_set.specs.Rules.{measure}
-use Rattle.purse.specs.Trace.{at, each}
-use Rattle.purse.specs.Work.{Remains, marks_of}
+use Rattle.base_budget.specs.Trace.{at, each}
+use Rattle.base_budget.specs.Work.{Remains, marks_of}
 use Rattle.quant_elim.specs.First.{farthest}
 use Rattle.quant_elim.proofs.taking.+taking.Given as goal
 

@@ -1,5 +1,5 @@
 use Rattle.clause_set.specs.Dnfs.{negation}
-use Rattle.purse.proofs.Charging.{then_ok, then_err, unnoted}
+use Rattle.base_budget.proofs.Charging.{then_ok, then_err, unnoted}
 use Rattle.std.proofs.Common.{◌^◌}
 use Rattle.quant_elim.proofs.Budgets.{below_budget}
 use Rattle.quant_elim.proofs.taking.all_values.Goals as goal

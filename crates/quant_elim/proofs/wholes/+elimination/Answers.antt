@@ -4,7 +4,7 @@ use Rattle.elim_laws.specs.Elimination.{exists_name}
 use Rattle.elim_laws.specs.Whole.{eliminating}
 use Rattle.formula.specs.Sizes.{size}
 use Rattle.formula.specs.Tree.{form}
-use Rattle.purse.proofs.Charging.{then_ok, then_err, unnoted, drop-item, remains_next}
+use Rattle.base_budget.proofs.Charging.{then_ok, then_err, unnoted, drop-item, remains_next}
 use Rattle.quant_elim.proofs.Arms.{arm_Pred, arm_NotPred, arm_NotFun, some_ok, some_err, every_refused, every_ok, every_err, dual_deep}
 use Rattle.quant_elim.proofs.Atomic.{atom_Eq, atom_Neq, atom_Geq, work_atom}
 use Rattle.quant_elim.proofs.Budgets.{below_budget}

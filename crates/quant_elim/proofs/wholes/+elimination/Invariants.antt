@@ -3,8 +3,8 @@ use Rattle.clause_set.specs.Dnfs.{top}
 use Rattle.elim_laws.specs.Whole.{all_of, any_of, eliminating}
 use Rattle.formula.specs.Sizes.{depth, depths}
 use Rattle.formula.specs.Tree.{form, forms_of}
-use Rattle.purse.specs.Trace.{at}
-use Rattle.purse.specs.Work.{Remains, marks_of}
+use Rattle.base_budget.specs.Trace.{at}
+use Rattle.base_budget.specs.Work.{Remains, marks_of}
 use Rattle.quant_elim.proofs.wholes.+elimination.Given as goal
 
 abbrev pub decreases-eliminate_form : goal.decreases-eliminate_form

@@ -1,7 +1,7 @@
 use Rattle.std.proofs.Common.{◌∙◌, List, [], ap, arith, subst, sym}
-use Rattle.purse.specs.Trace.{at}
-use Rattle.purse.specs.Work.{Remains}
-use Rattle.purse.proofs.Charging.{remains_all}
+use Rattle.base_budget.specs.Trace.{at}
+use Rattle.base_budget.specs.Work.{Remains}
+use Rattle.base_budget.proofs.Charging.{remains_all}
 use Rattle.clause_set.specs.declared.literal.Literal.{Literal}
 use Rattle.clause_set.specs.Dnfs.{top}
 use Rattle.proof_tree.specs.Rules.{conjoined}

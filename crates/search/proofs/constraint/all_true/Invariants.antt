@@ -1,6 +1,6 @@
 use Rattle.std.proofs.Common.{◌≡◌, [], drop, true}
-use Rattle.purse.specs.Trace.{at}
-use Rattle.purse.specs.Work.{Remains}
+use Rattle.base_budget.specs.Trace.{at}
+use Rattle.base_budget.specs.Work.{Remains}
 use Rattle.clause_set.specs.Dnfs.{top}
 use Rattle.proof_tree.specs.Rules.{conjoined}
 use Rattle.search.specs.Trues.{are_top}

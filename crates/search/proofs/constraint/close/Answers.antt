@@ -2,7 +2,7 @@ use Rattle.std.proofs.Common.{◌+◌, ◌≤◌, ◌^◌, sym, subst}
 use Rattle.formula.specs.Form.{Form}
 use Rattle.formula.specs.Sizes.{depth}
 use Rattle.formula.specs.Tree.{form}
-use Rattle.purse.proofs.Charging.{worked_value}
+use Rattle.base_budget.proofs.Charging.{worked_value}
 use Rattle.elim_laws.specs.Whole.{eliminating}
 use Rattle.sequent.specs.Views.{sequent_of}
 use Rattle.pred_unify.specs.Reading.{sequent_at}

@@ -1,4 +1,4 @@
-use Rattle.purse.specs.Trace.{just}
+use Rattle.base_budget.specs.Trace.{just}
 use Rattle.search.proofs.Closing.{just_made, no_leaf}
 use Rattle.search.proofs.constraint.free.Goals as goal
 

@@ -1,4 +1,4 @@
-use Rattle.open_branch.specs.Standing.{rule_at, standing}
+use Rattle.tree_branch.specs.Standing.{rule_at, standing}
 use Rattle.search.proofs.Solving.{made_err, made_ok}
 use Rattle.search.proofs.constraint.made.Goals as goal
 

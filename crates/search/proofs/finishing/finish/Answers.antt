@@ -1,5 +1,5 @@
 use Rattle.std.proofs.Common.{refl}
-use Rattle.open_branch.specs.Standing.{rule_at, standing}
+use Rattle.tree_branch.specs.Standing.{rule_at, standing}
 use Rattle.search.proofs.Growing.{finish_built, finish_cut, finish_memory}
 use Rattle.search.proofs.finishing.finish.Goals as goal
 

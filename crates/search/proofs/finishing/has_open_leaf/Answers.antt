@@ -1,4 +1,4 @@
-use Rattle.open_branch.specs.Standing.{rule_at, standing}
+use Rattle.tree_branch.specs.Standing.{rule_at, standing}
 use Rattle.search.proofs.Growing.{inner_open, leaf_open}
 use Rattle.search.proofs.finishing.has_open_leaf.Goals as goal
 

@@ -1,13 +1,13 @@
 use Rattle.std.proofs.Common.{◌-◌, ◌^◌, ◌∙◌, ap, Err, None, Ok, Some, arith, refl, subst, sym}
 use Rattle.formula.specs.Tree.{form}
-use Rattle.purse.proofs.Advancing.{followed_later}
+use Rattle.base_budget.proofs.Advancing.{followed_later}
 use Rattle.quant_elim.proofs.Budgets.{below_budget}
 use Rattle.sequent.specs.Sequent.{Sequent}
 use Rattle.sequent.specs.Views.{sequent_of}
 use Rattle.proof_tree.specs.Reduced.{IsReducedSequent}
-use Rattle.open_branch.specs.Passed.{IsPassed}
-use Rattle.open_branch.specs.Standing.{standing}
-use Rattle.open_branch.proofs.Idle.{passed_nothing}
+use Rattle.tree_branch.specs.Passed.{IsPassed}
+use Rattle.tree_branch.specs.Standing.{standing}
+use Rattle.tree_branch.proofs.Idle.{passed_nothing}
 use Rattle.search.specs.declared.judge.Found.TheVariants.{Branch}
 use Rattle.search.specs.Run.{too_long}
 use Rattle.search.specs.Walking.{IsGrown}

@@ -1,19 +1,19 @@
 use Rattle.std.proofs.Common.{◌≡◌, ◌+◌, ◌-◌, ◌^◌, ◌++◌, ◌∷◌, [], ◌∙◌, Ok, Some, ap, arith, refl, subst, sym}
 use Rattle.std.specs.List.{slice_get}
-use Rattle.purse.proofs.Advancing.{followed_later}
-use Rattle.purse.proofs.Charging.{drop_all}
+use Rattle.base_budget.proofs.Advancing.{followed_later}
+use Rattle.base_budget.proofs.Charging.{drop_all}
 use Rattle.quant_elim.proofs.Budgets.{below_budget}
-use Rattle.open_branch.specs.Passed.{IsPassed}
-use Rattle.open_branch.specs.Standing.{LeadsBack, held, premises_from, rule_at, standing}
-use Rattle.open_branch.specs.declared.branch.Branch.{Branch}
+use Rattle.tree_branch.specs.Passed.{IsPassed}
+use Rattle.tree_branch.specs.Standing.{LeadsBack, held, premises_from, rule_at, standing}
+use Rattle.tree_branch.specs.declared.branch.Branch.{Branch}
 use Rattle.sequent.specs.Views.{HasRoom}
 use Rattle.sequent.specs.declared.member.Pick.TheVariants.{Close}
 use Rattle.sequent.proofs.Members.{all_at}
 use Rattle.proof_tree.specs.Walk.{fee}
 use Rattle.search.specs.Building.{built}
-use Rattle.node_steps.specs.Within.{IsWithin}
+use Rattle.tree_branch.specs.Within.{IsWithin}
 use Rattle.search.proofs.Growing.{all_grown, all_numbered, built_then, item_at, made_none, made_some, no_level, node_cut, node_made, node_none, node_paid, node_unpaid, premise_built, premise_cut, premise_memory, premise_none, stepping_memory, stepping_starts}
-use Rattle.node_steps.proofs.Keeping.{premises_few, premises_within, within_room}
+use Rattle.tree_branch.proofs.Keeping.{premises_few, premises_within, within_room}
 use Rattle.search.proofs.walk.+build.Goals as goal
 
 -- ---- which rule comes first

@@ -1,5 +1,5 @@
 use Rattle.std.proofs.Common.{◌≡◌, ◌+◌, ◌*◌, List}
-use Rattle.open_branch.specs.Standing.{premises_from}
+use Rattle.tree_branch.specs.Standing.{premises_from}
 use Rattle.proof_tree.specs.Proof.{Proof}
 use Rattle.search.specs.Building.{built}
 use Rattle.search.proofs.Growing.{Stepping}

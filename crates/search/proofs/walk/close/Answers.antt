@@ -5,7 +5,7 @@ use Rattle.pred_unify.specs.Pairs.{closing_of}
 use Rattle.pred_unify.specs.Reading.{behind, sequent_at}
 use Rattle.pred_unify.specs.declared.leaf.Leaf.{Leaf}
 use Rattle.proof_tree.specs.Walk.{fee}
-use Rattle.purse.specs.Trace.{capped}
+use Rattle.base_budget.specs.Trace.{capped}
 use Rattle.quant_elim.proofs.Budgets.{below_budget}
 use Rattle.sequent.specs.Views.{HasRoom, sequent_of}
 use Rattle.sequent.specs.declared.member.Member.{Member}
@@ -13,10 +13,10 @@ use Rattle.sequent.specs.declared.member.Pick.TheVariants.{Close}
 use Rattle.sequent.specs.declared.member.Sequent as code
 use Rattle.std.specs.List.{list_any}
 use Rattle.sequent.specs.Leaf.{is_open}
-use Rattle.open_branch.specs.Standing.{held, standing}
-use Rattle.open_branch.specs.declared.branch.Branch.{Branch}
+use Rattle.tree_branch.specs.Standing.{held, standing}
+use Rattle.tree_branch.specs.declared.branch.Branch.{Branch}
 use Rattle.search.proofs.Growing.{leaf_made, node_memory, node_unpaid}
-use Rattle.node_steps.proofs.Keeping.{within_depth, within_room}
+use Rattle.tree_branch.proofs.Keeping.{within_depth, within_room}
 use Rattle.search.proofs.walk.close.Goals as goal
 
 -- the leaf is where the branch stands

@@ -1,6 +1,6 @@
 use Rattle.std.proofs.Common.{◌∙◌}
-use Rattle.script_terms.specs.Evaluation as evaluation
-use Rattle.script_terms.specs.Term.{phrase}
+use Rattle.smt_terms.specs.Evaluation as evaluation
+use Rattle.smt_terms.specs.Term.{phrase}
 use Rattle.smt_reader.proofs.Behind.{define_on, described_at}
 use Rattle.smt_reader.proofs.following.define.Goals as goal
 

@@ -1,5 +1,5 @@
 use Rattle.std.proofs.Common.{◌≡◌, take}
-use Rattle.script_terms.specs.Evaluation.{texts_of}
+use Rattle.smt_terms.specs.Evaluation.{texts_of}
 use Rattle.smt_reader.proofs.following.names.Given as goal
 
 abbrev pub invariant-loop-variable : goal.invariant-loop-variable

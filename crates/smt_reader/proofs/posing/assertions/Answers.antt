@@ -1,5 +1,5 @@
 use Rattle.std.proofs.Common.{ap, ◌∙◌, map, arith}
-use Rattle.script_terms.specs.Translation.{asserted}
+use Rattle.smt_terms.specs.Translation.{asserted}
 use Rattle.smt_reader.proofs.Asserted.{all_claims, asserted_more}
 use Rattle.smt_reader.proofs.posing.assertions.Goals as goal
 

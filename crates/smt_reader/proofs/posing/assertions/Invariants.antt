@@ -1,7 +1,7 @@
 use Rattle.std.proofs.Common.{◌≡◌, List, map, take}
-use Rattle.typed_formula.specs.Formula.{formula}
-use Rattle.script_terms.specs.Scripts as scripts
-use Rattle.script_terms.specs.Translation.{asserted}
+use Rattle.form_typed.specs.Formula.{formula}
+use Rattle.smt_terms.specs.Scripts as scripts
+use Rattle.smt_terms.specs.Translation.{asserted}
 use Rattle.smt_reader.specs.Following.{AreClaims}
 use Rattle.smt_reader.proofs.posing.assertions.Given as goal
 

@@ -1,8 +1,8 @@
 use Rattle.std.proofs.Common.{◌≡◌, [], List, map, ap, ◌∙◌, sym, subst}
-use Rattle.sexpr.specs.Expressions.{expr}
-use Rattle.script_terms.specs.Scripts.{Command, checks}
-use Rattle.script_checks.specs.Commands.{commands_of}
-use Rattle.script_checks.specs.Effects.{command_is}
+use Rattle.smt_lists.specs.Expressions.{expr}
+use Rattle.smt_terms.specs.Scripts.{Command, checks}
+use Rattle.smt_reader.specs.Commands.{commands_of}
+use Rattle.smt_reader.specs.Effects.{command_is}
 use Rattle.smt_reader.specs.Following.{AreNew}
 use Rattle.smt_reader.specs.Poses.{ArePosed}
 use Rattle.smt_reader.proofs.New.{commands_new}

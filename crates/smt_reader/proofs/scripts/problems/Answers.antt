@@ -1,6 +1,6 @@
 use Rattle.std.proofs.Common.{◌≡◌, ◌∷◌, ◌++◌, [], List, length, map, refl, sym, subst, arith, rules}
-use Rattle.script_checks.specs.declared.effects.Effect.{Effect}
-use Rattle.script_checks.specs.Effects.{command_is}
+use Rattle.smt_reader.specs.declared.effects.Effect.{Effect}
+use Rattle.smt_reader.specs.Effects.{command_is}
 use Rattle.smt_reader.specs.Taking.{AreTaken, IsGathered, at_check}
 use Rattle.smt_reader.proofs.Taking.{taken_all, taken_large, taken_on}
 use Rattle.smt_reader.proofs.scripts.problems.Goals as goal

@@ -1,5 +1,5 @@
 use Rattle.std.proofs.Common.{length, map}
-use Rattle.script_checks.specs.Effects.{command_is}
+use Rattle.smt_reader.specs.Effects.{command_is}
 use Rattle.smt_reader.specs.Taking.{AreTaken}
 use Rattle.smt_reader.proofs.scripts.problems.Given as goal
 

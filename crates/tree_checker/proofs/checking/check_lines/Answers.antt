@@ -1,6 +1,6 @@
 use Rattle.std.proofs.Common.{◌∷◌, ◌++◌, [], ap, sym, subst, arith}
 use Rattle.formula.specs.Tree.{form}
-use Rattle.proof_line.specs.declared.lines.TextLine.TheVariants as w
+use Rattle.proof_grammar.specs.declared.lines.TextLine.TheVariants as w
 use Rattle.tree_checker.specs.declared.course.Course.{Course}
 use Rattle.tree_checker.proofs.Ended.{checks_as}
 use Rattle.tree_checker.proofs.Fitted.{shaped_levels, told_same}

@@ -1,6 +1,6 @@
 use Rattle.std.proofs.Common.{◌∷◌, [], arith}
 use Rattle.formula.specs.Tree.{form}
-use Rattle.proof_line.specs.declared.lines.TextLine.TheVariants as w
+use Rattle.proof_grammar.specs.declared.lines.TextLine.TheVariants as w
 use Rattle.tree_checker.proofs.Ended.{proof_cut, proof_ended, proof_memory, proof_none}
 use Rattle.tree_checker.proofs.Entered.{after_row}
 use Rattle.tree_checker.proofs.checking.walk_proof.Goals as goal

@@ -1,6 +1,6 @@
 use Rattle.std.proofs.Common.{◌∙◌, sym, refl, None}
 use Rattle.formula.specs.Tree.{form}
-use Rattle.purse.proofs.Following.{follow_just}
+use Rattle.base_budget.proofs.Following.{follow_just}
 use Rattle.tree_checker.proofs.conclusion.conclude.Goals as goal
 
 pub returns-in-Solution : goal.returns-in-Solution

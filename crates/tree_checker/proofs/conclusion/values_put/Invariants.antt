@@ -1,7 +1,7 @@
 use Rattle.std.proofs.Common.{◌≡◌, ◌+◌, true, length}
 use Rattle.std.specs.List.{list_all}
 use Rattle.linear_term.specs.Range.{is_in_range}
-use Rattle.purse.proofs.Charging.{Left}
+use Rattle.base_budget.proofs.Charging.{Left}
 use Rattle.proof_tree.specs.Proves.{values_put}
 use Rattle.tree_checker.proofs.conclusion.values_put.Given as goal
 

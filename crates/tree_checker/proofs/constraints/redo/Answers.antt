@@ -1,6 +1,6 @@
 -- Each rule's work is done in a log of its own.
 use Rattle.std.proofs.Common.{◌≡◌, []}
-use Rattle.purse.proofs.Advancing.{followed_later}
+use Rattle.base_budget.proofs.Advancing.{followed_later}
 use Rattle.tree_checker.proofs.Redoing.{in_its_log}
 use Rattle.tree_checker.proofs.constraints.redo.Goals as goal
 

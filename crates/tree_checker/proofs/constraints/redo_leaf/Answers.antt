@@ -2,8 +2,8 @@ use Rattle.std.proofs.Common.{◌+◌, ◌≤◌, ◌^◌, sym, subst}
 use Rattle.formula.specs.Form.{Form}
 use Rattle.formula.specs.Sizes.{depth}
 use Rattle.formula.specs.Tree.{form}
-use Rattle.purse.proofs.Advancing.{followed_later}
-use Rattle.purse.proofs.Charging.{worked_value}
+use Rattle.base_budget.proofs.Advancing.{followed_later}
+use Rattle.base_budget.proofs.Charging.{worked_value}
 use Rattle.sequent.specs.Views.{sequent_of}
 use Rattle.pred_unify.specs.Reading.{sequent_at}
 use Rattle.pred_unify.specs.Pairs.{closing_of}

@@ -1,19 +1,19 @@
 use Rattle.std.proofs.Common.{◌≡◌, ℕ, ◌∙◌, List, [], ◌++◌, ap, nat_eq, is_none, subst, sym}
 use Rattle.std.specs.Borrow.{Bor}
-use Rattle.node_steps.specs.Within.{IsWithin}
-use Rattle.open_branch.specs.Standing.{held, standing}
-use Rattle.open_branch.specs.declared.branch.Branch.{Branch}
+use Rattle.tree_branch.specs.Within.{IsWithin}
+use Rattle.tree_branch.specs.Standing.{held, standing}
+use Rattle.tree_branch.specs.declared.branch.Branch.{Branch}
 use Rattle.pred_unify.specs.Reading.{behind, sequent_at}
 use Rattle.pred_unify.specs.declared.leaf.Leaf.{Leaf}
 use Rattle.proof_tree.specs.Proof.{node}
 use Rattle.proof_tree.specs.Walk.{fee, width}
-use Rattle.purse.specs.Trace.{capped}
+use Rattle.base_budget.specs.Trace.{capped}
 use Rattle.sequent.specs.Rules.{place}
 use Rattle.sequent.specs.Views.{sequent_of}
 use Rattle.sequent.specs.declared.member.Member.{Member}
 use Rattle.sequent.specs.declared.member.Sequent as code
 use Rattle.sequent.specs.declared.member.Pick.TheVariants.{Close}
-use Rattle.proof_line.specs.Lines.{last_lines}
+use Rattle.proof_grammar.specs.Lines.{last_lines}
 use Rattle.tree_checker.proofs.Entered.{first_true, node_left, node_unpaid, node_wrong, none_walked, second_true, walked_memory}
 use Rattle.tree_checker.proofs.Left.{left_same}
 use Rattle.tree_checker.proofs.Fitted.{close_is, leaf_fits, leaf_none, lone_unfit}

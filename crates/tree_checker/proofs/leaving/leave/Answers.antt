@@ -1,8 +1,8 @@
 use Rattle.std.proofs.Common.{◌≡◌, ◌∙◌, Some, refl, sym, ap}
-use Rattle.open_branch.specs.Standing.{held, rule_at, standing}
-use Rattle.node_steps.proofs.Keeping.{within_room}
+use Rattle.tree_branch.specs.Standing.{held, rule_at, standing}
+use Rattle.tree_branch.proofs.Keeping.{within_room}
 use Rattle.proof_tree.specs.Walk.{eliminates}
-use Rattle.purse.specs.declared.log.ElimLog.{ElimLog}
+use Rattle.base_budget.specs.declared.log.ElimLog.{ElimLog}
 use Rattle.tree_checker.proofs.Left.{left_cut, left_memory, left_with, log_is}
 use Rattle.tree_checker.proofs.leaving.leave.Goals as goal
 

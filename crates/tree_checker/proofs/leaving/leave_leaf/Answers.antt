@@ -1,6 +1,6 @@
 use Rattle.std.proofs.Common.{◌≡◌, ◌∙◌, [], Some, refl, sym, ap}
-use Rattle.node_steps.proofs.Keeping.{within_depth, within_room}
-use Rattle.purse.specs.declared.log.ElimLog.{ElimLog}
+use Rattle.tree_branch.proofs.Keeping.{within_depth, within_room}
+use Rattle.base_budget.specs.declared.log.ElimLog.{ElimLog}
 use Rattle.sequent.specs.Views.{sequent_of}
 use Rattle.pred_unify.specs.Reading.{sequent_at}
 use Rattle.sequent.specs.declared.member.Pick.TheVariants.{Close}

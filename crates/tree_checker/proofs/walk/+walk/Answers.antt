@@ -1,14 +1,14 @@
 use Rattle.std.proofs.Common.{◌≡◌, ◌∙◌, ◌+◌, ◌-◌, ◌++◌, Some, refl, sym, subst, arith}
 use Rattle.std.specs.List.{slice_get}
-use Rattle.purse.proofs.Charging.{drop_all}
-use Rattle.open_branch.specs.Standing.{LeadsBack, held, premises_from, rule_at, standing}
-use Rattle.open_branch.specs.declared.branch.Branch.{Branch}
+use Rattle.base_budget.proofs.Charging.{drop_all}
+use Rattle.tree_branch.specs.Standing.{LeadsBack, held, premises_from, rule_at, standing}
+use Rattle.tree_branch.specs.declared.branch.Branch.{Branch}
 use Rattle.sequent.proofs.Members.{all_at}
 use Rattle.sequent.specs.Views.{HasRoom}
 use Rattle.proof_tree.specs.Walk.{fee}
-use Rattle.node_steps.specs.Within.{IsWithin}
-use Rattle.node_steps.proofs.Keeping.{premises_few, premises_most, premises_within, within_room}
-use Rattle.proof_line.specs.Lines.{last_lines}
+use Rattle.tree_branch.specs.Within.{IsWithin}
+use Rattle.tree_branch.proofs.Keeping.{premises_few, premises_most, premises_within, within_room}
+use Rattle.proof_grammar.specs.Lines.{last_lines}
 use Rattle.tree_checker.specs.Told.{told_all}
 use Rattle.tree_checker.proofs.Entered.{after_row, no_level, node_cut, node_left, node_none, node_unpaid, node_wrong, walked_memory, wide_of}
 use Rattle.tree_checker.proofs.Fitted.{fits_log, told_fits, told_unfit}

@@ -1,8 +1,8 @@
 use Rattle.std.proofs.Common.{◌≡◌, ◌+◌, ◌*◌, ◌++◌, List, length}
-use Rattle.open_branch.specs.Standing.{premises_from}
+use Rattle.tree_branch.specs.Standing.{premises_from}
 use Rattle.proof_tree.specs.Proof.{Proofs}
 use Rattle.proof_tree.specs.Walk.{width}
-use Rattle.proof_line.specs.declared.lines.TextLine.{TextLine}
+use Rattle.proof_grammar.specs.declared.lines.TextLine.{TextLine}
 use Rattle.tree_checker.specs.Told.{HaveLevels, told_all}
 use Rattle.tree_checker.specs.Walking.{IsPaid}
 use Rattle.tree_checker.proofs.Stepped.{Stepping}

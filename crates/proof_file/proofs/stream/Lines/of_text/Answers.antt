@@ -1,5 +1,5 @@
 use Rattle.std.proofs.Common.{◌∙◌, ap}
-use Rattle.proof_line.specs.Owed.{tree_owed}
+use Rattle.proof_grammar.specs.Owed.{tree_owed}
 use Rattle.proof_file.proofs.Streaming.{coming_all}
 use Rattle.proof_file.proofs.stream.Lines.of_text.Goals as goal
 

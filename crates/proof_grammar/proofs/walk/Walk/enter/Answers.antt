@@ -1,6 +1,6 @@
 use Rattle.std.proofs.Common.{◌≡◌, ◌∷◌, ◌+◌, ◌-◌, ◌++◌, refl, ap, ◌∙◌, sym, arith}
-use Rattle.proof_line.specs.declared.lines.Owed.TheVariants as o
-use Rattle.proof_line.specs.Owed.{last_owed, nodes_owed}
+use Rattle.proof_grammar.specs.declared.lines.Owed.TheVariants as o
+use Rattle.proof_grammar.specs.Owed.{last_owed, nodes_owed}
 use Rattle.proof_grammar.specs.declared.walk.Open.{Open}
 use Rattle.proof_grammar.specs.declared.walk.Place.TheVariants as at
 use Rattle.proof_grammar.specs.Walks.{owed_at}

@@ -2,7 +2,7 @@ use Rattle.std.proofs.Common.{◌≡◌, ◌∙◌, ap, map, arith}
 use Rattle.proof_tree.specs.declared.node.Node.{out-Node}
 use Rattle.proof_tree.specs.Proof.{proofs}
 use Rattle.proof_tree.specs.Views.{proof_of}
-use Rattle.proof_line.specs.Lines.{lines, lines_all}
+use Rattle.proof_grammar.specs.Lines.{lines, lines_all}
 use Rattle.proof_printer.specs.Short.{again_in, keys, seen_in}
 use Rattle.proof_printer.proofs.Tallying.{both_ok, node_tallied, noting_more}
 use Rattle.proof_printer.proofs.sharing.Tally.+noting.Goals as goal

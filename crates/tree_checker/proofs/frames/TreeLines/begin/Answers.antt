@@ -1,6 +1,6 @@
 use Rattle.std.proofs.Common.{◌∷◌, ◌++◌, []}
 use Rattle.proof_tree.specs.Views.{proof_of}
-use Rattle.proof_line.specs.declared.lines.TextLine.TheVariants as w
+use Rattle.proof_grammar.specs.declared.lines.TextLine.TheVariants as w
 use Rattle.tree_checker.specs.Frames.{all_due}
 use Rattle.tree_checker.proofs.Dues.{begun_told}
 use Rattle.tree_checker.proofs.frames.TreeLines.begin.Goals as goal

@@ -1,5 +1,5 @@
 use Rattle.std.proofs.Common.{refl}
-use Rattle.proof_line.specs.declared.lines.TextLine.TheVariants as w
+use Rattle.proof_grammar.specs.declared.lines.TextLine.TheVariants as w
 use Rattle.tree_checker.proofs.frames.TreeLines.end.Goals as goal
 
 pub returns-in-Some-clause-told : goal.returns-in-Some-clause-told

@@ -3,7 +3,7 @@ use Rattle.std.specs.Option.{option_copied}
 use Rattle.std.specs.Prelude.{map}
 use Rattle.proof_tree.specs.Proof.{proofs}
 use Rattle.proof_tree.specs.Views.{proof_of}
-use Rattle.proof_line.specs.declared.lines.TextLine.TheVariants as w
+use Rattle.proof_grammar.specs.declared.lines.TextLine.TheVariants as w
 use Rattle.tree_checker.specs.Frames.{ends}
 use Rattle.tree_checker.specs.Told.{told_all}
 use Rattle.tree_checker.proofs.Dues.{none_left, premise_told}

@@ -1,5 +1,5 @@
 use Rattle.std.proofs.Common.{◌∷◌, ◌++◌, ◌∙◌, [], ap, sym, append_assoc}
-use Rattle.proof_line.specs.declared.lines.TextLine.TheVariants as w
+use Rattle.proof_grammar.specs.declared.lines.TextLine.TheVariants as w
 use Rattle.tree_checker.specs.Frames.{all_due, due}
 use Rattle.tree_checker.proofs.Dues.{all_due_last}
 use Rattle.tree_checker.proofs.frames.TreeLines.leave.Goals as goal

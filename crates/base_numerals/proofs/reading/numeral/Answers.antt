@@ -1,0 +1,9 @@
+use Rattle.std.proofs.Common.{◌^◌}
+use Rattle.base_numerals.proofs.Digits.{too_great}
+use Rattle.base_numerals.proofs.reading.numeral.Goals as goal
+
+pub returns-in_err-value : goal.returns-in_err-value
+returns-in_err-value c = record {
+  exact = rw c.from_residual.ensures
+      (too_great (2 ^ 127) c.loop-digit.value c.loop-digit.digit-index c.args.digits.now c.loop-digit-test.true c.loop-digit.invariant.value c.in_err-value.ensures.exact);
+}

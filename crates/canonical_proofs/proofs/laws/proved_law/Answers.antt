@@ -1,8 +1,0 @@
-use Rattle.canonical_proofs.proofs.Proving.{proved_valid, proved_invalid}
-use Rattle.canonical_proofs.proofs.laws.proved_law.Goals as goal
-
-pub returns-clause-valid : goal.returns-clause-valid
-returns-clause-valid c = λ f n g vs x b over red e. proved_valid f n g vs x b over red e
-
-pub returns-clause-invalid : goal.returns-clause-invalid
-returns-clause-invalid c = λ f n g log x b over red e. proved_invalid f n g log x b over red e

@@ -1,5 +1,0 @@
-use Rattle.check_job.proofs.Meaning.{means}
-use Rattle.check_job.proofs.laws.meaning_law.Goals as goal
-
-pub returns : goal.returns
-returns c = means

@@ -1,6 +1,0 @@
-use Rattle.std.proofs.Common.{◌≢◌, [], IsTrue, refl, subst}
-use Rattle.check_job.specs.Told.{lines}
-use Rattle.check_job.proofs.telling.valid.Goals as goal
-
-pub returns : goal.returns
-returns c = let some : c.args.problem.now.existentials ≢ [] = λ none. (let bad = subst IsTrue c.if-is_empty.false (c.is_empty.ensures.1 none) in cc) in lines c.in_ok-text.text.items some c.in_ok-text.ensures refl

@@ -1,5 +1,0 @@
-use Rattle.constraint_text.proofs.Printed.{all_below}
-use Rattle.constraint_text.proofs.printing.interpolant_line.Goals as goal
-
-pub labelled-requires-clause-over : goal.labelled-requires-clause-over
-labelled-requires-clause-over c = all_below c.args.p.now c.args.d.now c.requires.over

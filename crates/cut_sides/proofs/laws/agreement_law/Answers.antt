@@ -1,5 +1,0 @@
-use Rattle.cut_sides.proofs.Agreeing.{agree_true}
-use Rattle.cut_sides.proofs.laws.agreement_law.Goals as goal
-
-pub returns : goal.returns
-returns c = agree_true

@@ -1,9 +1,0 @@
-use Rattle.problem_file.proofs.Encoded.{encoded_so, unencoded_so}
-use Rattle.elim_job.specs.Eliminated.{AnswersElimination}
-use Rattle.elim_job.proofs.eliminating.pure_answer.Goals as goal
-
-pub returns-in-Ok : goal.returns-in-Ok
-returns-in-Ok c = encoded_so (AnswersElimination c.args.budget) c.args.problem.now _ c.in-Ok.ensures.encoded _ c.elimination_answer.ensures
-
-pub returns-in-Err : goal.returns-in-Err
-returns-in-Err c = unencoded_so (AnswersElimination c.args.budget) c.args.problem.now _ c.in-Err.ensures.refused _ c.refuse_encoding.ensures

@@ -1,0 +1,4 @@
+pub mod Divisions
+pub mod EquationResults
+pub mod Bounds
+pub mod ShadowResults

@@ -1,6 +1,0 @@
-use Rattle.encoding.proofs.Problems.{over_constants_is}
-use Rattle.typed_formula.specs.Formula.{formula}
-use Rattle.encoding.proofs.laws.body_law.Goals as goal
-
-pub returns : goal.returns
-returns c = λ w p e formed l. over_constants_is w p (formula p.formula) e formed.products l

@@ -1,5 +1,0 @@
-use Rattle.encoding.proofs.Problems.{holds_is}
-use Rattle.encoding.proofs.laws.problem_law.Goals as goal
-
-pub returns : goal.returns
-returns c = holds_is

@@ -1,5 +1,0 @@
-use Rattle.equation_laws.proofs.Bezouts.{bezout-is, bezout-only}
-use Rattle.equation_laws.proofs.divisions.bezout_law.Goals as goal
-
-pub returns : goal.returns
-returns k = record { is = bezout-is; only = bezout-only }

@@ -1,5 +1,0 @@
-use Rattle.equation_laws.proofs.Merge.{merged-divisibilities}
-use Rattle.equation_laws.proofs.divisions.merged_law.Goals as goal
-
-pub returns : goal.returns
-returns k = merged-divisibilities

@@ -1,9 +1,0 @@
-use Rattle.integers.proofs.Entries.{put-length, put-append_left, put-append_right}
-use Rattle.integers.proofs.lists.append_law.Goals as goal
-
-pub returns : goal.returns
-returns c = record {
-  end = put-length;
-  front = put-append_left;
-  back = put-append_right;
-}

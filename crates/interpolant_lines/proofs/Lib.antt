@@ -1,7 +1,0 @@
-mod Apart
-mod Texts
-mod Running
-mod Answering
-pub mod Budgets
-pub mod Listing
-pub mod Meaning

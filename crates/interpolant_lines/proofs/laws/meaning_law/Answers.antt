@@ -1,5 +1,0 @@
-use Rattle.interpolant_lines.proofs.Meaning.{blocks_mean}
-use Rattle.interpolant_lines.proofs.laws.meaning_law.Goals as goal
-
-pub returns : goal.returns
-returns c = blocks_mean

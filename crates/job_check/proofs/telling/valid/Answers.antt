@@ -1,0 +1,6 @@
+use Rattle.std.proofs.Common.{◌≢◌, [], IsTrue, refl, subst}
+use Rattle.job_check.specs.Told.{lines}
+use Rattle.job_check.proofs.telling.valid.Goals as goal
+
+pub returns : goal.returns
+returns c = let some : c.args.problem.now.existentials ≢ [] = λ none. (let bad = subst IsTrue c.if-is_empty.false (c.is_empty.ensures.1 none) in cc) in lines c.in_ok-text.text.items some c.in_ok-text.ensures refl

@@ -1,0 +1,59 @@
+// The answer to a problem's file and a proof's file.
+
+ghost use Rattle.base_answers.specs.Answer.{answer_of};
+ghost use Rattle.job_check.specs.Checked.{AnswersProof, IsChecked};
+ghost use Rattle.pri_typing.specs.WellFormed.{HasDistinctNames, HasIdentifiers, IsWellFormed};
+ghost use Rattle.pri_problem.specs.Encoded.{AnswersEncoded, IsEncoded};
+ghost use Rattle.std.specs.Prelude.{◌<◌, ◌^◌, length, IfOk};
+
+use crate::telling::{tell_accepted, tell_refused};
+use base_answers::Output;
+use function_encoding::Encoded;
+use linear_term::Memory;
+use pri_problem::{encode_problem, read_problem, refuse, refuse_encoding};
+use pri_typing::Problem;
+use std::alloc::Global;
+use tree_checker::check_text;
+
+/// The answer of `check` to a problem's file and a proof's file of these bytes.
+pub fn answer(alloc: Global, bytes: &[u8], proof: &[u8]) -> Result<Output, Memory>
+    requires { length bytes.now < 2 ^ 32 }
+    ensures { IfOk result (λ output. IsChecked proof.now bytes.now (answer_of output)) }
+{
+    match read_problem(alloc, bytes) {
+        Ok(problem) => problem_answer(alloc, &problem, proof),
+        Err(fault) => refuse(alloc, fault),
+    }
+}
+
+// The answer to a problem and a proof.
+fn problem_answer(alloc: Global, problem: &Problem, proof: &[u8]) -> Result<Output, Memory>
+    requires well_formed { IsWellFormed problem.now }
+    requires distinct { HasDistinctNames problem.now }
+    requires identifiers { HasIdentifiers problem.now }
+    ensures { IfOk result (λ output. AnswersEncoded (AnswersProof proof.now) problem.now (answer_of output)) }
+{
+    match encode_problem(alloc, problem) {
+        Ok(encoded) => proof_answer(alloc, problem, &encoded, proof),
+        Err(refusal) => refuse_encoding(alloc, refusal),
+    }
+}
+
+// The answer to an encoded problem and a proof: it tells what a check of the proof finds.
+fn proof_answer(
+    alloc: Global,
+    problem: &Problem,
+    encoded: &Encoded,
+    proof: &[u8],
+) -> Result<Output, Memory>
+    requires well_formed { IsWellFormed problem.now }
+    requires distinct { HasDistinctNames problem.now }
+    requires identifiers { HasIdentifiers problem.now }
+    requires encoded { IsEncoded problem.now encoded.now }
+    ensures { IfOk result (λ output. AnswersProof proof.now problem.now (answer_of output)) }
+{
+    match check_text(alloc, &encoded.root, encoded.constants, proof) {
+        Ok(checked) => tell_accepted(alloc, problem, &checked),
+        Err(fault) => tell_refused(alloc, fault),
+    }
+}

@@ -1,0 +1,68 @@
+// The answer to a check.
+
+ghost use Rattle.base_limits.specs.Limits.{most_budget};
+ghost use Rattle.pri_typing.specs.WellFormed.{IsWellFormed};
+ghost use Rattle.pri_problem.specs.Encoded.{IsEncoded};
+ghost use Rattle.job_smt.specs.Answers.{IsCheckOutcome, told, told_of};
+ghost use Rattle.model_runs.specs.Ends.{run_end};
+ghost use Rattle.std.specs.Prelude.{◌≡◌, ◌≤◌, IfOk};
+
+use base_budget::Purse;
+use function_encoding::{EncodeRefusal, Encoded};
+use linear_term::Memory;
+use pri_problem::encode_problem;
+use pri_typing::Problem;
+use search::{Decided, decide};
+use std::alloc::Global;
+
+/// What is answered to a check (SMT-LIB 2.6, section 4.2.6).
+#[derive(Debug, Clone, Copy)]
+pub enum CheckAnswer {
+    /// Nothing satisfies the assertions.
+    Unsat,
+    /// Something satisfies them.
+    Sat,
+    /// The run was cut, or a number of the encoding leaves the range.
+    Unknown,
+}
+
+/// The answer to the check whose problem this is: that of a run with this budget, on a purse of its own. None comes exactly where
+/// the encoding of the problem has more than 1,000,000 nodes or more than 2,000 levels. The one error is want of memory.
+pub fn check(alloc: Global, p: &Problem, budget: u64) -> Result<Option<CheckAnswer>, Memory>
+    requires formed { IsWellFormed p.now }
+    requires budget { budget ≤ most_budget }
+    ensures { IfOk result (IsCheckOutcome budget p.now) }
+{
+    match encode_problem(alloc, p) {
+        Ok(encoded) => {
+            let answer = run(alloc, p, &encoded, budget)?;
+            Ok(Some(answer))
+        }
+        Err(EncodeRefusal::Large) => Ok(None),
+        Err(EncodeRefusal::Overflow(_)) => Ok(Some(CheckAnswer::Unknown)),
+        Err(EncodeRefusal::Memory) => Err(Memory),
+    }
+}
+
+// The answer to the check whose encoded problem this is.
+fn run(alloc: Global, p: &Problem, encoded: &Encoded, budget: u64) -> Result<CheckAnswer, Memory>
+    requires formed { IsWellFormed p.now }
+    requires encoded { IsEncoded p.now encoded.now }
+    requires budget { budget ≤ most_budget }
+    ensures { IfOk result (λ a. a ≡ told (run_end budget p.now)) }
+{
+    let mut purse = Purse::new(budget);
+    let decided = decide(alloc, &encoded.root, encoded.constants, &mut purse)?;
+    Ok(answer_of(&decided))
+}
+
+// What a decision says of a check.
+fn answer_of(decided: &Decided) -> CheckAnswer
+    ensures { result ≡ told_of decided.now }
+{
+    match decided {
+        Decided::Valid { .. } => CheckAnswer::Unsat,
+        Decided::Invalid { .. } | Decided::Saturated { .. } => CheckAnswer::Sat,
+        Decided::Unknown { .. } => CheckAnswer::Unknown,
+    }
+}

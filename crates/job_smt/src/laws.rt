@@ -1,0 +1,18 @@
+// What the answer to a script means, as the contract of a function with nothing to do.
+
+ghost use Rattle.base_answers.specs.Answer.{Answer};
+ghost use Rattle.job_smt.specs.Answered.{IsSmtAnswer};
+ghost use Rattle.job_smt.specs.Meaning.{Scripted};
+ghost use Rattle.std.specs.Prelude.{◌≡◌, ◌⊎◌, ℕ, List};
+ghost use Rattle.form_typed.specs.Truth.{Meaning};
+
+/// An answer with status 0 or 2 has a line for each `check-sat`. Where it says `unsat`, nothing satisfies the assertions before it,
+/// in any interpretation; where it says `sat`, a finite interpretation and some integers do.
+pub fn meaning_law()
+    ensures { (w : Meaning) (budget : ℕ) (bytes : List ℕ) (a : Answer) → IsSmtAnswer budget bytes a → (a.status ≡ 0) ⊎ (a.status ≡ 2) → Scripted w bytes a.text }
+{}
+
+/// A script has one answer at most: so each answer comes exactly where its row says.
+pub fn one_answer_law()
+    ensures { (budget : ℕ) (bytes : List ℕ) (a b : Answer) → IsSmtAnswer budget bytes a → IsSmtAnswer budget bytes b → a ≡ b }
+{}

@@ -1,0 +1,15 @@
+// The job `smt`: the answers to the checks of a script, each by the canonical run on its problem, and their lines.
+#![tactic(auto)]
+
+mod answering;
+mod check_laws;
+mod checking;
+mod laws;
+mod lines;
+mod refusals;
+
+pub use answering::answer;
+pub use check_laws::answer_law;
+pub use checking::{CheckAnswer, check};
+pub use laws::{meaning_law, one_answer_law};
+pub use lines::answer_checks;

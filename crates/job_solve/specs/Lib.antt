@@ -1,0 +1,12 @@
+pub mod Causes
+pub mod Ground
+pub mod Headline
+pub mod Solved
+pub mod Told
+pub mod Proved
+pub mod Shaping
+pub mod Explained
+pub mod Drilled
+pub use Rattle.itp_lines.specs.Blocks
+pub use Rattle.itp_lines.specs.Ends
+pub use Rattle.itp_lines.specs.Seams

@@ -1,6 +1,0 @@
-use Rattle.std.specs.Prelude.{All}
-use Rattle.clause_set.specs.Literals.{HasDivisor}
-use Rattle.kernel_bench.proofs.kernels.joints.Given as goal
-
-abbrev pub invariant-loop-i : goal.invariant-loop-i
-invariant-loop-i l = All HasDivisor l.out

@@ -1,6 +1,0 @@
-pub mod Causes
-pub mod Decides
-pub mod Leasts
-pub mod Meaning
-pub mod Objective
-pub mod Outcomes

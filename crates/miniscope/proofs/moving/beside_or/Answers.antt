@@ -1,8 +1,0 @@
-use Rattle.std.proofs.Common.{sym, ◌∙◌}
-use Rattle.std.proofs.lemmas.Bool.{false≢true}
-use Rattle.miniscope.proofs.Members.{beside_or_is}
-use Rattle.miniscope.proofs.moving.beside_or.Goals as goal
-
-pub returns : goal.returns
-returns c =
-    beside_or_is c.args.first c.args.others c.new-members.result c.push.new.self c.append.new.self (λ e. false≢true (sym c.if-is_empty.false ∙ c.is_empty.ensures.1 e)) c.new-members.ensures c.in_ok-push.ensures.ok c.in_ok-append.ensures

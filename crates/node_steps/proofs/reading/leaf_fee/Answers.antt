@@ -1,7 +1,0 @@
-use Rattle.sequent.specs.Views.{sequent_of}
-use Rattle.pred_unify.specs.Reading.{sequent_at}
-use Rattle.node_steps.proofs.Pairings.{close_charge}
-use Rattle.node_steps.proofs.reading.leaf_fee.Goals as goal
-
-pub returns : goal.returns
-returns c = close_charge (sequent_of (sequent_at c.args.leaf.now)) _ _ c.closing_size.ensures c.saturating_add.ensures

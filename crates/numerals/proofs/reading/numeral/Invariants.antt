@@ -1,9 +1,0 @@
-use Rattle.std.proofs.Common.{◌≡◌, ◌<◌, ◌^◌, drop}
-use Rattle.numerals.specs.Numerals.{with_digits, decimal_value}
-use Rattle.numerals.proofs.reading.numeral.Given as goal
-
-abbrev pub invariant-loop-digit : goal.invariant-loop-digit
-invariant-loop-digit l = record {
-  small : l.value < 2 ^ 127;
-  value : with_digits l.value (drop l.digit-index l.digits) ≡ decimal_value l.digits;
-}

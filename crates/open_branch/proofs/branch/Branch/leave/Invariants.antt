@@ -1,6 +1,0 @@
-use Rattle.std.proofs.Common.{◌≡◌}
-use Rattle.open_branch.specs.Standing.{undone}
-use Rattle.open_branch.proofs.branch.Branch.leave.Given as goal
-
-abbrev pub invariant-loop-i : goal.invariant-loop-i
-invariant-loop-i l = l.self.list ≡ undone l.i l.fn.self.list

@@ -1,0 +1,3 @@
+pub mod Constraint
+pub mod Lines
+pub mod Meaning

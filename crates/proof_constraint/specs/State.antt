@@ -1,0 +1,11 @@
+-- A state of the machine that reads a line `gives`.
+use Rattle.std.specs.Prelude.{ℕ, Bool}
+use Rattle.proof_constraint.specs.declared.draft.Draft.{Draft}
+use Rattle.proof_constraint.specs.Behind as b
+
+-- behind a word; behind a word and a blank; behind the `-` that begins a term; behind a coefficient and its `*`
+pub data GivenState : Type 0 where
+  Behind : b.Behind → GivenState
+  Blank : b.Behind → GivenState
+  Minus : Draft → GivenState
+  Times : Draft → Bool → ℕ → GivenState

@@ -1,0 +1,11 @@
+use Rattle.proof_tokens.specs.Reading.{RefusesProof}
+use Rattle.proof_tokens.proofs.Refusals.{fails}
+use Rattle.proof_grammar.specs.declared.lines.Owed.TheVariants as o
+use Rattle.proof_grammar.specs.Lines.{line_text}
+use Rattle.proof_grammar.specs.Owed.{Any, Pays}
+use Rattle.proof_grammar.proofs.LineKinds.{parts_owed}
+use Rattle.proof_grammar.proofs.single_lines.parts_line.Goals as goal
+
+pub returns-in_err-count-clause-first : goal.returns-in_err-count-clause-first
+returns-in_err-count-clause-first c =
+    fails c.in_err-count.field-0.0 c.from_residual.result (RefusesProof (Pays Any o.Parts) line_text c.args.text.now) c.from_residual.ensures.1 (parts_owed c.args.text.now c.in_err-count.field-0.0 c.in_err-count.ensures.first)

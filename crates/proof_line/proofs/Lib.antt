@@ -1,4 +1,0 @@
-pub mod RowLines
-pub mod LineKinds
-pub mod LinesApart
-pub mod Failing

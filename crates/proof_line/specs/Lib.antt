@@ -1,5 +1,0 @@
-pub mod Lines
-pub mod Owed
-pub mod Rows
-pub mod Conclusions
-pub mod Faults

@@ -1,9 +1,0 @@
-// Rows of what is read and what is refused: tokens, files of the grammar, and the problems that they pose.
-#![tactic(auto)]
-
-#[cfg(test)]
-mod files;
-#[cfg(test)]
-mod problems;
-#[cfg(test)]
-mod tokens;

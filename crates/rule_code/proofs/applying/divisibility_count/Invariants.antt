@@ -1,6 +1,0 @@
-use Rattle.clause_set.specs.Names.{is_divisibility}
-use Rattle.rule_code.proofs.Placing.{Counts}
-use Rattle.rule_code.proofs.applying.divisibility_count.Given as goal
-
-abbrev pub invariant-loop-l : goal.invariant-loop-l
-invariant-loop-l l = Counts (is_divisibility l.x) l.ls l.l-index l.count

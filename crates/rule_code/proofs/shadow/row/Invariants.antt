@@ -1,8 +1,0 @@
-use Rattle.std.proofs.Common.{drop}
-use Rattle.purse.specs.Trace.{each}
-use Rattle.rule_code.specs.Shadows.{pair_of, row_of}
-use Rattle.purse.proofs.Charging.{Left}
-use Rattle.rule_code.proofs.shadow.row.Given as goal
-
-abbrev pub invariant-loop-up : goal.invariant-loop-up
-invariant-loop-up l = Left (each (pair_of l.kind l.x l.low) (drop l.up-index l.ups) l.out) (row_of l.kind l.x l.ups l.low)

@@ -1,5 +1,0 @@
-use Rattle.rule_code.proofs.Filters.{Greatest}
-use Rattle.rule_code.proofs.sides.greatest_factor.Given as goal
-
-abbrev pub invariant-loop-l : goal.invariant-loop-l
-invariant-loop-l l = Greatest l.x l.ls l.l-index l.most

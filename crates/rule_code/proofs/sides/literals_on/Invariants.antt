@@ -1,6 +1,0 @@
-use Rattle.rule_code.specs.Sides.{stands}
-use Rattle.clause_set.proofs.Walks.{Filters}
-use Rattle.rule_code.proofs.sides.literals_on.Given as goal
-
-abbrev pub invariant-loop-l : goal.invariant-loop-l
-invariant-loop-l l = Filters (stands l.side l.x) l.ls l.l-index l.out

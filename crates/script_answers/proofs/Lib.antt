@@ -1,4 +1,0 @@
-pub mod Answered
-mod Ending
-mod Listing
-pub mod Single

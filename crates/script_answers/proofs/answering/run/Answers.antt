@@ -1,5 +1,0 @@
-use Rattle.problem_file.proofs.Sizes.{searchable}
-use Rattle.script_answers.proofs.answering.run.Goals as goal
-
-pub decide-requires-clause-searchable : goal.decide-requires-clause-searchable
-decide-requires-clause-searchable c = searchable c.args.p.now c.args.encoded.now c.requires.formed c.requires.encoded

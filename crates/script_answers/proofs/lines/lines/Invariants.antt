@@ -1,7 +1,0 @@
--- With the lines for the checks that are left the text and the status are those of all.
-use Rattle.std.proofs.Common.{drop}
-use Rattle.script_answers.proofs.Listing.{Goes}
-use Rattle.script_answers.proofs.lines.lines.Given as goal
-
-abbrev pub invariant-loop-p : goal.invariant-loop-p
-invariant-loop-p l = Goes l.budget l.problems (drop l.p-index l.problems) l.text.items l.status

@@ -1,5 +1,0 @@
-pub mod Commands
-pub mod Formed
-pub mod Posed
-pub mod Effects
-pub mod Order

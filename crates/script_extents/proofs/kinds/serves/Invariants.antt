@@ -1,6 +1,0 @@
-use Rattle.std.proofs.Common.{◌≡◌, drop}
-use Rattle.script_extents.specs.Shapes.{no_formula}
-use Rattle.script_extents.proofs.kinds.serves.Given as goal
-
-abbrev pub invariant-loop-kind : goal.invariant-loop-kind
-invariant-loop-kind l = no_formula l.kinds ≡ no_formula (drop l.kind-index l.kinds)

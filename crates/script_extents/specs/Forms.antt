@@ -1,9 +1,0 @@
--- Forms of defined functions.
-use Rattle.std.specs.Prelude.{◌≡◌, List, length}
-use Rattle.script_names.specs.declared.body.Body.{Body}
-use Rattle.script_extents.specs.declared.forms.Forms.{Forms}
-use Rattle.script_extents.specs.Shapes.{AreForms}
-
--- There is a form for each of these defined functions, and it is theirs.
-abbrev pub Describes : Forms → List Body → Type 0
-Describes f ds = (length f.forms.items ≡ length ds) × AreForms f.forms.items ds

@@ -1,6 +1,0 @@
-use Rattle.std.proofs.Common.{◌≡◌, take}
-use Rattle.script_names.specs.Scopes.{last_named}
-use Rattle.script_names.proofs.scope.find_last.Given as goal
-
-abbrev pub invariant-loop-name : goal.invariant-loop-name
-invariant-loop-name l = l.found ≡ last_named l.text (take l.name-index l.names)

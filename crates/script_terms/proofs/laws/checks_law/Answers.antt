@@ -1,5 +1,0 @@
-use Rattle.script_terms.proofs.Scripts.{checks_law}
-use Rattle.script_terms.proofs.laws.checks_law.Goals as goal
-
-pub returns : goal.returns
-returns c = checks_law

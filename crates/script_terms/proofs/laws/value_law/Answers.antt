@@ -1,5 +1,0 @@
-use Rattle.script_terms.proofs.Symbols.{one_value, some_value}
-use Rattle.script_terms.proofs.laws.value_law.Goals as goal
-
-pub returns : goal.returns
-returns c = record { one_value = one_value; some_value = some_value }

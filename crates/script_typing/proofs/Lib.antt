@@ -1,5 +1,0 @@
-pub mod Collecting
-pub mod Shapes
-pub mod Walking
-pub mod Products
-pub mod Verdicts

@@ -1,8 +1,0 @@
-use Rattle.std.proofs.Common.{◌≡◌, drop}
-use Rattle.script_terms.specs.Evaluation.{names_of}
-use Rattle.script_terms.specs.Term.{bindings_of}
-use Rattle.script_typing.specs.Bounds.{last_of}
-use Rattle.script_typing.proofs.bound.last_sort.Given as goal
-
-abbrev pub invariant-loop-i : goal.invariant-loop-i
-invariant-loop-i l = last_of l.text l.hit (names_of (bindings_of (drop l.i l.bindings))) (drop l.i l.sorts) ≡ last_of l.text l.fn.outside (names_of (bindings_of l.bindings)) l.sorts

@@ -1,5 +1,0 @@
-pub mod Reading
-pub mod Sorts
-pub mod Faults
-pub mod Bounds
-pub mod Judging

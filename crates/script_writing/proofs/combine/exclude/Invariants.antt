@@ -1,8 +1,0 @@
-use Rattle.std.proofs.Common.{◌≡◌, map}
-use Rattle.typed_formula.specs.Formula.{formula}
-use Rattle.script_terms.specs.Translation.{either_said, formula_in}
-use Rattle.script_writing.specs.Written.{written}
-use Rattle.script_writing.proofs.combine.exclude.Given as goal
-
-abbrev pub invariant-loop-argument : goal.invariant-loop-argument
-invariant-loop-argument l = formula l.all ≡ either_said (formula l.fn.first) (map formula_in (map written l.yielded))

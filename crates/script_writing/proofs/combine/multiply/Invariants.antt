@@ -1,8 +1,0 @@
-use Rattle.std.proofs.Common.{◌≡◌, map}
-use Rattle.typed_formula.specs.Formula.{expression}
-use Rattle.script_terms.specs.Translation.{multiplied, term_in}
-use Rattle.script_writing.specs.Written.{written}
-use Rattle.script_writing.proofs.combine.multiply.Given as goal
-
-abbrev pub invariant-loop-argument : goal.invariant-loop-argument
-invariant-loop-argument l = expression l.all ≡ multiplied (expression l.fn.first) (map term_in (map written l.yielded))

@@ -1,9 +1,0 @@
-use Rattle.std.proofs.Common.{◌≡◌, map, take}
-use Rattle.typed_formula.specs.Formula.{formula}
-use Rattle.script_terms.specs.Operators.{neighbours}
-use Rattle.script_writing.specs.Pairing.{pair_said}
-use Rattle.script_writing.specs.Written.{written}
-use Rattle.script_writing.proofs.pairing.chain.Given as goal
-
-abbrev pub invariant-loop-i : goal.invariant-loop-i
-invariant-loop-i l = map formula l.out ≡ neighbours (pair_said l.pairing) (map written (take l.i l.arguments))

@@ -1,7 +1,0 @@
-use Rattle.std.proofs.Common.{◌≡◌}
-use Rattle.typed_formula.specs.Formula.{formula}
-use Rattle.script_names.specs.Saying.{quantified_over}
-use Rattle.script_writing.proofs.writing.quantify.Given as goal
-
-abbrev pub invariant-loop : goal.invariant-loop
-invariant-loop l = formula l.whole ≡ quantified_over l.all l.counter (formula l.fn.body)

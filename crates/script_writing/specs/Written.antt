@@ -1,9 +1,0 @@
--- What the code writes a term out to, as the formula or the term that it becomes.
-use Rattle.typed_formula.specs.Formula.{formula, expression}
-use Rattle.script_terms.specs.Translation.{Said, a_formula, a_term}
-use Rattle.script_writing.specs.declared.written.Written.{Written}
-use Rattle.script_writing.specs.declared.written.Written.TheVariants as w
-
-abbrev pub written : Written → Said
-written (w.Formula f) = a_formula (formula f)
-written (w.Term t) = a_term (expression t)

@@ -1,5 +1,0 @@
-use Rattle.shadow_laws.proofs.Between.{dark_shadow}
-use Rattle.shadow_laws.proofs.bounds.dark_shadow_law.Goals as goal
-
-pub returns : goal.returns
-returns c = dark_shadow

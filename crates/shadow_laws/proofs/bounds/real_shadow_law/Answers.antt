@@ -1,5 +1,0 @@
-use Rattle.shadow_laws.proofs.Between.{real_shadow}
-use Rattle.shadow_laws.proofs.bounds.real_shadow_law.Goals as goal
-
-pub returns : goal.returns
-returns c = real_shadow

@@ -1,0 +1,69 @@
+-- What an S-expression is, by its form.
+use Rattle.std.proofs.Common.{◌≡◌, ℕ, List, [], ◌∷◌, map, refl, ap, ◌∙◌, sym, Some, None, Bool, ◌&&◌, true, false}
+use Rattle.std.specs.List.{list_all}
+use Rattle.smt_lists.specs.declared.tree.Atom.{Atom}
+use Rattle.smt_lists.specs.declared.tree.Sexp.{Sexp}
+use Rattle.smt_lists.specs.declared.tree.Sexp.TheVariants as s
+use Rattle.smt_lists.specs.Expressions.{Expr, exprs, expr, place_of}
+use Rattle.smt_lists.proofs.Folds.{expr-Atom, expr-List}
+use Rattle.smt_commands.specs.Commands.{symbol_in, symbol_of, is_keyword, keyword_in, items, members_of, command_by, is_argument}
+use Rattle.smt_commands.specs.declared.words.Word.TheVariants as w
+
+items-exprs : (es : List Expr) → items (exprs es) ≡ es
+items-exprs [] = refl
+items-exprs (e ∷ es) = ap (λ z. e ∷ z) (items-exprs es)
+
+pub symbol-Atom : (a : Atom) → symbol_of (expr (s.Atom a)) ≡ symbol_in a.at a.kind
+symbol-Atom a = ap symbol_of (expr-Atom a)
+
+pub symbol-List : (at : ℕ) (es : List Sexp) → symbol_of (expr (s.List at es)) ≡ None
+symbol-List at es = ap symbol_of (expr-List at es)
+
+pub keyword-Atom : (a : Atom) → is_keyword (expr (s.Atom a)) ≡ keyword_in a.kind
+keyword-Atom a = ap is_keyword (expr-Atom a)
+
+pub keyword-List : (at : ℕ) (es : List Sexp) → is_keyword (expr (s.List at es)) ≡ false
+keyword-List at es = ap is_keyword (expr-List at es)
+
+pub members-Atom : (a : Atom) → members_of (expr (s.Atom a)) ≡ None
+members-Atom a = ap members_of (expr-Atom a)
+
+pub members-List : (at : ℕ) (es : List Sexp) → members_of (expr (s.List at es)) ≡ Some (map expr es)
+members-List at es = ap members_of (expr-List at es) ∙ ap (λ z. Some z) (items-exprs (map expr es))
+
+pub place-Atom : (a : Atom) → place_of (expr (s.Atom a)) ≡ a.at
+place-Atom a = ap place_of (expr-Atom a)
+
+pub place-List : (at : ℕ) (es : List Sexp) → place_of (expr (s.List at es)) ≡ at
+place-List at es = ap place_of (expr-List at es)
+
+pub ruleset views = (place-Atom, place-List, symbol-Atom, symbol-List, keyword-Atom, keyword-List, members-Atom, members-List)
+
+-- whether all are arguments, one further
+pub all_on : (xs : List Sexp) (x : Sexp) (more : List Sexp) (whole : Bool) → xs ≡ x ∷ more → is_argument (expr x) ≡ true
+    → list_all is_argument (map expr xs) ≡ whole → list_all is_argument (map expr more) ≡ whole
+all_on xs x more whole e a w =
+    sym (ap (λ z. z && list_all is_argument (map expr more)) a) ∙ sym (ap (λ z. list_all is_argument (map expr z)) e) ∙ w
+
+pub all_off : (xs : List Sexp) (x : Sexp) (more : List Sexp) (whole : Bool) → xs ≡ x ∷ more → is_argument (expr x) ≡ false
+    → list_all is_argument (map expr xs) ≡ whole → false ≡ whole
+all_off xs x more whole e a w =
+    sym (ap (λ z. z && list_all is_argument (map expr more)) a) ∙ sym (ap (λ z. list_all is_argument (map expr z)) e) ∙ w
+
+pub all_end : (xs : List Sexp) (whole : Bool) → xs ≡ [] → list_all is_argument (map expr xs) ≡ whole → true ≡ whole
+all_end xs whole e w = sym (ap (λ z. list_all is_argument (map expr z)) e) ∙ w
+
+-- what is longer is not of the form
+fun_too_long : (a b c : Sexp) (end : List Sexp) → (end ≡ [] → ⊥) → command_by w.DeclareFun (map expr (a ∷ b ∷ c ∷ end)) ≡ None
+fun_too_long a b c [] n = absurd (n refl)
+fun_too_long a b c (d ∷ end) n = refl
+
+pub long_declaration : (xs : List Sexp) (a b c : Sexp) (end : List Sexp) → xs ≡ a ∷ b ∷ c ∷ end → (end ≡ [] → ⊥) → None ≡ command_by w.DeclareFun (map expr xs)
+long_declaration xs a b c end e n = sym (ap (λ z. command_by w.DeclareFun (map expr z)) e ∙ fun_too_long a b c end n)
+
+define_too_long : (a b c d : Sexp) (end : List Sexp) → (end ≡ [] → ⊥) → command_by w.DefineFun (map expr (a ∷ b ∷ c ∷ d ∷ end)) ≡ None
+define_too_long a b c d [] n = absurd (n refl)
+define_too_long a b c d (x ∷ end) n = refl
+
+pub long_definition : (xs : List Sexp) (a b c d : Sexp) (end : List Sexp) → xs ≡ a ∷ b ∷ c ∷ d ∷ end → (end ≡ [] → ⊥) → None ≡ command_by w.DefineFun (map expr xs)
+long_definition xs a b c d end e n = sym (ap (λ z. command_by w.DefineFun (map expr z)) e ∙ define_too_long a b c d end n)

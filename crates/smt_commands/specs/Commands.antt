@@ -1,0 +1,106 @@
+-- Which lists are commands. Where a command has a sort or a term, any S-expression may stand for its form.
+use Rattle.std.specs.Prelude.{ℕ, Bool, true, false, List, [], ◌∷◌, Option, Some, None}
+use Rattle.std.specs.List.{list_all}
+use Rattle.smt_lists.specs.declared.tree.AtomKind.{AtomKind}
+use Rattle.smt_lists.specs.declared.tree.AtomKind.TheVariants as k
+use Rattle.smt_lists.specs.Expressions.{Expr, Exprs, atom, list, no_expr, and_expr}
+use Rattle.smt_commands.specs.declared.words.Word.{Word}
+use Rattle.smt_commands.specs.declared.words.Word.TheVariants as w
+use Rattle.smt_commands.specs.Words.{word_of}
+
+-- a symbol with the offset of its first byte
+pub record Symbol : Type 0 where
+  pub at : ℕ
+  pub text : List ℕ
+
+-- a command: without effect; a symbol that is declared, with the sorts of its arguments and its sort; a symbol that is
+-- defined, with its arguments, its sort and its term; an assertion; a check; the end
+pub data CommandForm : Type 0 where
+  skip : CommandForm
+  declare : Symbol → List Expr → Expr → CommandForm
+  define : Symbol → List Expr → Expr → Expr → CommandForm
+  assert : Expr → CommandForm
+  check_sat : CommandForm
+  exit : CommandForm
+
+abbrev pub symbol_in : ℕ → AtomKind → Option Symbol
+symbol_in at (k.Symbol text) = Some (record { at = at; text = text })
+symbol_in at _ = None
+
+-- the symbol that an S-expression is
+abbrev pub symbol_of : Expr → Option Symbol
+symbol_of (atom a) = symbol_in a.at a.kind
+symbol_of (list at es) = None
+
+abbrev pub keyword_in : AtomKind → Bool
+keyword_in k.Keyword = true
+keyword_in _ = false
+
+-- the S-expression is a keyword
+abbrev pub is_keyword : Expr → Bool
+is_keyword (atom a) = keyword_in a.kind
+is_keyword (list at es) = false
+
+abbrev pub is_some : {A : Type 0} → Option A → Bool
+is_some None = false
+is_some (Some x) = true
+
+-- the members of a list; none where the S-expression is an atom
+abbrev pub items : Exprs → List Expr
+items no_expr = []
+items (and_expr e es) = e ∷ items es
+
+abbrev pub members_of : Expr → Option (List Expr)
+members_of (atom a) = None
+members_of (list at es) = Some (items es)
+
+abbrev pub pair_in : List Expr → Bool
+pair_in (x ∷ s ∷ []) = is_some (symbol_of x)
+pair_in _ = false
+
+abbrev pub pair_of : Option (List Expr) → Bool
+pair_of None = false
+pair_of (Some es) = pair_in es
+
+-- a list of a symbol and of what stands for its sort
+abbrev pub is_argument : Expr → Bool
+is_argument e = pair_of (members_of e)
+
+abbrev pub skips : Bool → Option CommandForm
+skips true = Some skip
+skips false = None
+
+abbrev pub declares : Option Symbol → Option (List Expr) → Expr → Option CommandForm
+declares (Some x) (Some sorts) s = Some (declare x sorts s)
+declares _ _ s = None
+
+abbrev pub defined : Symbol → List Expr → Expr → Expr → Bool → Option CommandForm
+defined f arguments s t true = Some (define f arguments s t)
+defined f arguments s t false = None
+
+abbrev pub defines : Option Symbol → Option (List Expr) → Expr → Expr → Option CommandForm
+defines (Some f) (Some arguments) s t = defined f arguments s t (list_all is_argument arguments)
+defines _ _ s t = None
+
+-- a command by its word and by what stands behind it
+abbrev pub command_by : Word → List Expr → Option CommandForm
+command_by w.SetLogic (l ∷ []) = skips (is_some (symbol_of l))
+command_by w.SetInfo (k ∷ []) = skips (is_keyword k)
+command_by w.SetInfo (k ∷ v ∷ []) = skips (is_keyword k)
+command_by w.SetOption (k ∷ v ∷ []) = skips (is_keyword k)
+command_by w.DeclareConst (x ∷ s ∷ []) = declares (symbol_of x) (Some []) s
+command_by w.DeclareFun (f ∷ sorts ∷ s ∷ []) = declares (symbol_of f) (members_of sorts) s
+command_by w.DefineFun (f ∷ arguments ∷ s ∷ t ∷ []) = defines (symbol_of f) (members_of arguments) s t
+command_by w.Assert (t ∷ []) = Some (assert t)
+command_by w.CheckSat [] = Some check_sat
+command_by w.Exit [] = Some exit
+command_by _ _ = None
+
+abbrev pub command_behind : Option Symbol → List Expr → Option CommandForm
+command_behind None es = None
+command_behind (Some x) es = elim (word_of x.text) [ None ↦ None | Some w ↦ command_by w es ]
+
+-- the command that a list of these members is
+abbrev pub command_of : List Expr → Option CommandForm
+command_of [] = None
+command_of (e ∷ es) = command_behind (symbol_of e) es

@@ -1,0 +1,26 @@
+-- What the commands of the code are.
+use Rattle.std.specs.Prelude.{List, map}
+use Rattle.std.specs.Borrow.{Bor}
+use Rattle.smt_lists.specs.declared.tree.Sexp.{Sexp}
+use Rattle.smt_lists.specs.Expressions.{Expr, expr}
+use Rattle.smt_commands.specs.declared.command.Name.{Name}
+use Rattle.smt_commands.specs.declared.command.Command.{Command}
+use Rattle.smt_commands.specs.declared.command.Command.TheVariants as c
+use Rattle.smt_commands.specs.Commands.{Symbol, CommandForm, skip, declare, define, assert, check_sat, exit}
+
+-- the symbol that a name is
+abbrev pub symbol_is : Name → Symbol
+symbol_is x = record { at = x.at; text = x.text.now }
+
+-- the S-expressions that lent ones are
+abbrev pub items_of : Bor (List Sexp) → List Expr
+items_of es = map expr es.now
+
+-- what a command is
+abbrev pub form_of : Command → CommandForm
+form_of c.Skip = skip
+form_of (c.Declare x sorts s) = declare (symbol_is x) (map expr sorts.now) (expr s.now)
+form_of (c.Define f arguments s t) = define (symbol_is f) (map expr arguments.now) (expr s.now) (expr t.now)
+form_of (c.Assert t) = assert (expr t.now)
+form_of c.CheckSat = check_sat
+form_of c.Exit = exit

@@ -1,0 +1,19 @@
+-- The words with which commands begin.
+use Rattle.std.specs.Prelude.{ℕ, List, codes, Option, Some, None, if◌then◌else◌}
+use Rattle.std.specs.Str.{bytes_eq}
+use Rattle.smt_commands.specs.declared.words.Word.{Word}
+use Rattle.smt_commands.specs.declared.words.Word.TheVariants as w
+
+-- the command of a word
+abbrev pub word_of : List ℕ → Option Word
+word_of text =
+    if bytes_eq text (codes "set-logic") then Some w.SetLogic else
+    (if bytes_eq text (codes "set-info") then Some w.SetInfo else
+    (if bytes_eq text (codes "set-option") then Some w.SetOption else
+    (if bytes_eq text (codes "declare-const") then Some w.DeclareConst else
+    (if bytes_eq text (codes "declare-fun") then Some w.DeclareFun else
+    (if bytes_eq text (codes "define-fun") then Some w.DefineFun else
+    (if bytes_eq text (codes "assert") then Some w.Assert else
+    (if bytes_eq text (codes "check-sat") then Some w.CheckSat else
+    (if bytes_eq text (codes "exit") then Some w.Exit else
+    None))))))))

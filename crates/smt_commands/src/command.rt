@@ -1,0 +1,266 @@
+// Which lists are commands. Where a command has a sort or a term, any S-expression may stand for its form.
+
+ghost use Rattle.smt_commands.specs.Commands.{command_by, command_of, declares, defines, is_argument, is_keyword, members_of, symbol_of};
+ghost use Rattle.smt_commands.specs.Views.{form_of, items_of, symbol_is};
+ghost use Rattle.smt_lists.specs.Expressions.{expr};
+ghost use Rattle.std.specs.List.{list_all};
+ghost use Rattle.std.specs.Option.{option_map};
+ghost use Rattle.std.specs.Prelude.{◌≡◌, [], map, MatchOption};
+ghost use Rattle.smt_commands.specs.declared.words.Word.TheVariants as w;
+
+use crate::words::{Word, find_word};
+use smt_lists::{AtomKind, Sexp};
+
+/// A symbol with the offset of its first byte.
+#[derive(Clone, Copy)]
+pub struct Name<'a> {
+    pub at: u64,
+    pub text: &'a [u8],
+}
+
+/// A command.
+#[derive(Clone, Copy)]
+pub enum Command<'a> {
+    /// A command without effect.
+    Skip,
+    /// A symbol is declared, with the sorts of its arguments and its sort.
+    Declare(Name<'a>, &'a [Sexp], &'a Sexp),
+    /// A symbol is defined, with its arguments, its sort and its term.
+    Define(Name<'a>, &'a [Sexp], &'a Sexp, &'a Sexp),
+    Assert(&'a Sexp),
+    CheckSat,
+    Exit,
+}
+
+/// The command that a list of these members is; none where it is none.
+pub fn read_command(members: &[Sexp]) -> Option<Command<'_>>
+    ensures exact { option_map form_of result ≡ command_of (map expr members.now) }
+{
+    let Some((head, rest)) = members.split_first() else {
+        return None;
+    };
+    let Some(name) = symbol(head) else {
+        return None;
+    };
+    let Some(word) = find_word(name.text) else {
+        return None;
+    };
+    by_word(word, rest)
+}
+
+/// The command of a word with these members behind it.
+fn by_word(word: Word, rest: &[Sexp]) -> Option<Command<'_>>
+    ensures exact { option_map form_of result ≡ command_by word (map expr rest.now) }
+{
+    match word {
+        Word::SetLogic => set_logic(rest),
+        Word::SetInfo => set_info(rest),
+        Word::SetOption => set_option(rest),
+        Word::DeclareConst => declare_const(rest),
+        Word::DeclareFun => declare_fun(rest),
+        Word::DefineFun => define_fun(rest),
+        Word::Assert => assert(rest),
+        Word::CheckSat => alone(rest, Command::CheckSat),
+        Word::Exit => alone(rest, Command::Exit),
+    }
+}
+
+/// `set-logic` with a symbol.
+fn set_logic(rest: &[Sexp]) -> Option<Command<'_>>
+    ensures exact { option_map form_of result ≡ command_by w.SetLogic (map expr rest.now) }
+{
+    let (logic, end) = rest.split_first()?;
+    symbol(logic)?;
+    alone(end, Command::Skip)
+}
+
+/// `set-info` with a keyword, and one S-expression at most.
+fn set_info(rest: &[Sexp]) -> Option<Command<'_>>
+    ensures exact { option_map form_of result ≡ command_by w.SetInfo (map expr rest.now) }
+{
+    let (keyword, behind) = rest.split_first()?;
+    if !is_keyword(keyword) {
+        return None;
+    }
+    let Some((_, end)) = behind.split_first() else {
+        return Some(Command::Skip);
+    };
+    alone(end, Command::Skip)
+}
+
+/// `set-option` with a keyword and one S-expression.
+fn set_option(rest: &[Sexp]) -> Option<Command<'_>>
+    ensures exact { option_map form_of result ≡ command_by w.SetOption (map expr rest.now) }
+{
+    let (keyword, behind) = rest.split_first()?;
+    let (_, end) = behind.split_first()?;
+    if !is_keyword(keyword) {
+        return None;
+    }
+    alone(end, Command::Skip)
+}
+
+/// `declare-const` with a symbol and a sort.
+fn declare_const(rest: &[Sexp]) -> Option<Command<'_>>
+    ensures exact { option_map form_of result ≡ command_by w.DeclareConst (map expr rest.now) }
+{
+    let (name, behind) = rest.split_first()?;
+    let (sort, end) = behind.split_first()?;
+    if !end.is_empty() {
+        return None;
+    }
+    declares(symbol(name), Some(&[]), sort)
+}
+
+/// `declare-fun` with a symbol, the sorts of its arguments, and its sort.
+fn declare_fun(rest: &[Sexp]) -> Option<Command<'_>>
+    ensures exact { option_map form_of result ≡ command_by w.DeclareFun (map expr rest.now) }
+{
+    let (name, behind) = rest.split_first()?;
+    let (sorts, behind) = behind.split_first()?;
+    let (sort, end) = behind.split_first()?;
+    if !end.is_empty() {
+        return None;
+    }
+    declares(symbol(name), members(sorts), sort)
+}
+
+/// `define-fun` with a symbol, its arguments, its sort and its term.
+fn define_fun(rest: &[Sexp]) -> Option<Command<'_>>
+    ensures exact { option_map form_of result ≡ command_by w.DefineFun (map expr rest.now) }
+{
+    let (name, behind) = rest.split_first()?;
+    let (arguments, behind) = behind.split_first()?;
+    let (sort, behind) = behind.split_first()?;
+    let (term, end) = behind.split_first()?;
+    if !end.is_empty() {
+        return None;
+    }
+    defines(symbol(name), members(arguments), sort, term)
+}
+
+/// The declaration of a symbol with these sorts of its arguments; none where there is no symbol or no list.
+fn declares<'a>(
+    name: Option<Name<'a>>,
+    sorts: Option<&'a [Sexp]>,
+    sort: &'a Sexp,
+) -> Option<Command<'a>>
+    ensures exact { option_map form_of result ≡ declares (option_map symbol_is name.entry) (option_map items_of sorts.entry) (expr sort.now) }
+{
+    Some(Command::Declare(name?, sorts?, sort))
+}
+
+/// The definition of a symbol with these arguments; none where there is no symbol, or no list of arguments.
+fn defines<'a>(
+    name: Option<Name<'a>>,
+    arguments: Option<&'a [Sexp]>,
+    sort: &'a Sexp,
+    term: &'a Sexp,
+) -> Option<Command<'a>>
+    ensures exact { option_map form_of result ≡ defines (option_map symbol_is name.entry) (option_map items_of arguments.entry) (expr sort.now) (expr term.now) }
+{
+    let name = name?;
+    let arguments = arguments?;
+    if !are_arguments(arguments) {
+        return None;
+    }
+    Some(Command::Define(name, arguments, sort, term))
+}
+
+/// `assert` with a term.
+fn assert(rest: &[Sexp]) -> Option<Command<'_>>
+    ensures exact { option_map form_of result ≡ command_by w.Assert (map expr rest.now) }
+{
+    let (term, end) = rest.split_first()?;
+    alone(end, Command::Assert(term))
+}
+
+/// The command, where nothing stands behind it.
+fn alone<'a>(end: &[Sexp], command: Command<'a>) -> Option<Command<'a>>
+    ensures exact { MatchOption result (end.now ≡ [] → ⊥) (λ c. (end.now ≡ []) × (form_of c ≡ form_of command.entry)) }
+{
+    if end.is_empty() { Some(command) } else { None }
+}
+
+/// The symbol that an S-expression is.
+#[tactic(auto, using(crate::proofs::Forms::views))]
+pub fn symbol(e: &Sexp) -> Option<Name<'_>>
+    ensures exact { option_map symbol_is result ≡ symbol_of (expr e.now) }
+{
+    match e {
+        Sexp::Atom(a) => match &a.kind {
+            AtomKind::Symbol(text) => Some(Name {
+                at: a.at,
+                text: text.as_slice(),
+            }),
+            AtomKind::Numeral(_)
+            | AtomKind::LargeNumeral
+            | AtomKind::Decimal
+            | AtomKind::Hash
+            | AtomKind::StringLiteral
+            | AtomKind::Keyword => None,
+        },
+        Sexp::List(_, _) => None,
+    }
+}
+
+/// Whether an S-expression is a keyword.
+#[tactic(auto, using(crate::proofs::Forms::views))]
+pub fn is_keyword(e: &Sexp) -> bool
+    ensures exact { result ≡ is_keyword (expr e.now) }
+{
+    match e {
+        Sexp::Atom(a) => match &a.kind {
+            AtomKind::Keyword => true,
+            AtomKind::Symbol(_)
+            | AtomKind::Numeral(_)
+            | AtomKind::LargeNumeral
+            | AtomKind::Decimal
+            | AtomKind::Hash
+            | AtomKind::StringLiteral => false,
+        },
+        Sexp::List(_, _) => false,
+    }
+}
+
+/// The members of a list.
+#[tactic(auto, using(crate::proofs::Forms::views))]
+pub fn members(e: &Sexp) -> Option<&[Sexp]>
+    ensures exact { option_map items_of result ≡ members_of (expr e.now) }
+{
+    match e {
+        Sexp::Atom(_) => None,
+        Sexp::List(_, items) => Some(items.as_slice()),
+    }
+}
+
+/// Whether each is a list of a symbol and of what stands for its sort.
+#[tactic(auto, using(crate::proofs::Forms::all_on, crate::proofs::Forms::all_off, crate::proofs::Forms::all_end))]
+fn are_arguments(items: &[Sexp]) -> bool
+    ensures exact { result ≡ list_all is_argument (map expr items.now) }
+{
+    let mut rest = items;
+    while let Some((item, behind)) = rest.split_first() {
+        if !is_argument(item) {
+            return false;
+        }
+        rest = behind;
+    }
+    true
+}
+
+/// Whether it is a list of a symbol and of what stands for its sort.
+fn is_argument(e: &Sexp) -> bool
+    ensures exact { result ≡ is_argument (expr e.now) }
+{
+    let Some(pair) = members(e) else {
+        return false;
+    };
+    let Some((name, behind)) = pair.split_first() else {
+        return false;
+    };
+    let Some((_, end)) = behind.split_first() else {
+        return false;
+    };
+    end.is_empty() && symbol(name).is_some()
+}

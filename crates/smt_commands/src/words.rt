@@ -1,0 +1,52 @@
+// The words with which commands begin.
+
+ghost use Rattle.smt_commands.specs.Words.{word_of};
+ghost use Rattle.std.specs.Prelude.{◌≡◌};
+
+/// The commands by their words.
+#[derive(Clone, Copy, Debug, PartialEq, Eq)]
+pub enum Word {
+    SetLogic,
+    SetInfo,
+    SetOption,
+    DeclareConst,
+    DeclareFun,
+    DefineFun,
+    Assert,
+    CheckSat,
+    Exit,
+}
+
+/// The command of a word.
+pub fn find_word(text: &[u8]) -> Option<Word>
+    ensures { result ≡ word_of text.now }
+{
+    if text == b"set-logic".as_slice() {
+        return Some(Word::SetLogic);
+    }
+    if text == b"set-info".as_slice() {
+        return Some(Word::SetInfo);
+    }
+    if text == b"set-option".as_slice() {
+        return Some(Word::SetOption);
+    }
+    if text == b"declare-const".as_slice() {
+        return Some(Word::DeclareConst);
+    }
+    if text == b"declare-fun".as_slice() {
+        return Some(Word::DeclareFun);
+    }
+    if text == b"define-fun".as_slice() {
+        return Some(Word::DefineFun);
+    }
+    if text == b"assert".as_slice() {
+        return Some(Word::Assert);
+    }
+    if text == b"check-sat".as_slice() {
+        return Some(Word::CheckSat);
+    }
+    if text == b"exit".as_slice() {
+        return Some(Word::Exit);
+    }
+    None
+}

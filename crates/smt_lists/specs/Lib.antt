@@ -1,0 +1,5 @@
+pub mod Expressions
+pub mod Atoms
+pub mod Grammar
+pub mod First
+pub mod Machine

@@ -1,0 +1,39 @@
+-- What it means of the assertions of a check that its problem holds or is refuted.
+use Rattle.std.proofs.Common.{◌≡◌, ℕ, ℤ, List, [], ◌∷◌, length, sym, ap, subst, ◌∙◌, arith}
+use Rattle.std.specs.List.{Contains}
+use Rattle.std.proofs.lemmas.List.Elements.{All-contains}
+use Rattle.form_typed.specs.Sorts.{AreValuesOf}
+use Rattle.form_typed.specs.Truth.{Truth}
+use Rattle.pri_typing.specs.declared.problem.Problem.{Problem}
+use Rattle.pri_typing.specs.Files.{all_int}
+use Rattle.pri_typing.specs.Problems.{meaning_of}
+use Rattle.smt_terms.specs.Scripts.{CheckLaw, Command, State, checks}
+use Rattle.smt_terms.proofs.Scripts.{checks_law}
+use Rattle.smt_reader.specs.Posed.{MeansSatisfiable, MeansUnsatisfiable}
+
+law_of : (cs : List Command) (s : State) → Contains (checks cs) s → CheckLaw s
+law_of cs s h = All-contains CheckLaw (checks cs) s (checks_law cs) h
+
+-- every integer is of the type Int
+integers : (xs : List (List ℕ)) (u : List ℤ) → length u ≡ length xs → AreValuesOf (all_int xs) u
+integers [] [] h = tt
+integers [] (v ∷ u) h = absurd (omega (arith, h))
+integers (x ∷ xs) [] h = absurd (omega (arith, h))
+integers (x ∷ xs) (v ∷ u) h = (tt, integers xs u (omega (arith, h)))
+
+pub unsatisfiable : (cs : List Command) (p : Problem) → MeansUnsatisfiable cs p
+unsatisfiable cs p s among posed w holds u l =
+    let is : length u ≡ length p.universals = l ∙ sym (ap length posed.universals) in
+    let typed = subst (λ z. AreValuesOf z u) (sym posed.universal_types) (integers s.constants u l) in
+    ((law_of cs s among).true_where w u l).0 (subst (λ f. Truth w f u) posed.formula (holds.is u is typed))
+
+pub satisfiable : (cs : List Command) (p : Problem) → MeansSatisfiable cs p
+satisfiable cs p s among posed refuted =
+    let at = refuted [] (sym (ap length posed.existentials)) (subst (λ z. AreValuesOf z []) (sym posed.existential_types) tt) in
+    let fits : length at.universals ≡ length s.constants = at.fit ∙ ap length posed.universals in
+    record {
+      table = at.table;
+      constants = at.universals;
+      fit = fits;
+      satisfies = ((law_of cs s among).false_where (meaning_of at.table) at.universals fits).0 (subst (λ f. ¬ (Truth (meaning_of at.table) f at.universals)) posed.formula at.fails);
+    }

@@ -1,0 +1,40 @@
+-- The problem of a check, and what it says of the assertions.
+use Rattle.std.specs.Prelude.{◌≡◌, ℤ, List, [], None, length}
+use Rattle.std.specs.List.{Contains}
+use Rattle.form_typed.specs.Formula.{formula}
+use Rattle.form_typed.specs.Truth.{Meaning}
+use Rattle.form_typed.specs.declared.world.Table.{Table}
+use Rattle.pri_typing.specs.declared.problem.Problem.{Problem}
+use Rattle.pri_typing.specs.Files.{all_int}
+use Rattle.pri_typing.specs.Problems.{Holds, IsRefuted, meaning_of}
+use Rattle.smt_terms.specs.Scripts.{Command, IsSatisfied, State, checks, refutation}
+use Rattle.smt_reader.specs.Formed.{symbols}
+
+-- Its universal constants are the Int constants of the check, its functions and predicates the other symbols, and its formula
+-- is the negation of the conjunction of all assertions; all else is empty.
+pub record IsCheckPosed (s : State) (p : Problem) : Type 0 where
+  pub existentials : p.existentials ≡ []
+  pub existential_types : p.existential_types ≡ []
+  pub universals : p.universals ≡ s.constants
+  pub universal_types : p.universal_types ≡ all_int s.constants
+  pub functions : p.functions ≡ symbols s.functions
+  pub predicates : p.predicates ≡ symbols s.predicates
+  pub parts : p.parts ≡ []
+  pub formula : formula p.formula ≡ refutation s
+  pub cuts : p.cuts ≡ []
+  pub first_application : p.first_application ≡ None
+
+-- where it holds in an interpretation, no integers of the constants satisfy the assertions there
+abbrev pub MeansUnsatisfiable : List Command → Problem → Type 0
+MeansUnsatisfiable cs p = (s : State) → Contains (checks cs) s → IsCheckPosed s p → (w : Meaning) → Holds w p [] → (u : List ℤ) → length u ≡ length s.constants → ¬ (IsSatisfied w u s)
+
+-- a finite interpretation and integers of the constants that satisfy the assertions
+pub record IsSatisfiable (s : State) : Type 0 where
+  pub table : Table
+  pub constants : List ℤ
+  pub fit : length constants ≡ length s.constants
+  pub satisfies : IsSatisfied (meaning_of table) constants s
+
+-- where it is refuted, there are such
+abbrev pub MeansSatisfiable : List Command → Problem → Type 0
+MeansSatisfiable cs p = (s : State) → Contains (checks cs) s → IsCheckPosed s p → IsRefuted p → IsSatisfiable s

@@ -1,0 +1,16 @@
+pub mod Backwards
+pub mod Limits
+pub mod Adding
+pub mod Algebra
+pub mod Chains
+pub mod Describing
+pub mod Differences
+pub mod Fitting
+pub mod Names
+pub mod Operating
+pub mod Parts
+pub mod Rests
+pub mod Scopes
+pub mod Shapes
+pub mod Steps
+pub mod Sums

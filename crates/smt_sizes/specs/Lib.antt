@@ -1,0 +1,10 @@
+pub mod Extent
+pub mod Size
+pub mod Sizes
+pub mod Forms
+pub mod Linear
+pub mod Operators
+pub mod Shapes
+pub mod Walking
+pub mod Weight
+pub mod Weights

@@ -1,0 +1,36 @@
+-- What the walk over commands answers at each of them, and behind all.
+use Rattle.std.specs.Prelude.{ℕ, ◌≡◌, Bool, true, false, List, [], ◌∷◌, Option, Some, None}
+use Rattle.smt_lists.specs.Expressions.{Expr}
+use Rattle.smt_commands.specs.declared.refusal.ScriptRefusal.{ScriptRefusal}
+use Rattle.smt_commands.specs.declared.table.Entry.{Entry}
+use Rattle.smt_commands.specs.Commands.{CommandForm, exit}
+use Rattle.smt_commands.specs.Faults.{TermFaults, behind, command_faults, form}
+use Rattle.smt_commands.specs.Least.{IsScriptRefused, least}
+
+-- the command ends the script
+abbrev pub is_exit : Option CommandForm → Bool
+is_exit (Some exit) = true
+is_exit _ = false
+
+-- what comes of the commands behind one; this where it ends the script
+abbrev pub unless_last : {A : Type 0} → Option CommandForm → A → A → A
+unless_last (Some exit) here later = here
+unless_last _ here later = later
+
+-- the symbols behind all commands of a script without faults, behind these
+abbrev pub symbols_from : List Entry → List Expr → List Entry
+symbols_from table [] = table
+symbols_from table (e ∷ es) = unless_last (form e) (behind table (form e)) (symbols_from (behind table (form e)) es)
+
+-- the symbols of a script without faults
+abbrev pub symbols_of : List Expr → List Entry
+symbols_of = symbols_from []
+
+-- the command has no fault, and these are the symbols behind it
+pub record PassesCommand (terms : TermFaults) (table : List Entry) (at : ℕ) (command : Option CommandForm) (new : List Entry) : Type 0 where
+  pub fits : least (command_faults terms table at command) ≡ None
+  pub symbols : new ≡ behind table command
+
+-- the command is refused so
+pub record StopsCommand (terms : TermFaults) (table : List Entry) (at : ℕ) (command : Option CommandForm) (e : ScriptRefusal) : Type 0 where
+  pub is : IsScriptRefused e (least (command_faults terms table at command))

@@ -1,0 +1,8 @@
+use Rattle.std.proofs.Common.{◌≡◌, map}
+use Rattle.form_typed.specs.Formula.{formula}
+use Rattle.smt_terms.specs.Translation.{formula_in}
+use Rattle.smt_writing.specs.Written.{written}
+use Rattle.smt_writing.proofs.combine.formulas.Given as goal
+
+abbrev pub invariant-loop-argument : goal.invariant-loop-argument
+invariant-loop-argument l = map formula l.out ≡ map formula_in (map written l.yielded)

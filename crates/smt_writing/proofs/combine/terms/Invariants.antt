@@ -1,0 +1,8 @@
+use Rattle.std.proofs.Common.{◌≡◌, map}
+use Rattle.form_typed.specs.Formula.{expression}
+use Rattle.smt_terms.specs.Translation.{term_in}
+use Rattle.smt_writing.specs.Written.{written}
+use Rattle.smt_writing.proofs.combine.terms.Given as goal
+
+abbrev pub invariant-loop-argument : goal.invariant-loop-argument
+invariant-loop-argument l = map expression l.out ≡ map term_in (map written l.yielded)

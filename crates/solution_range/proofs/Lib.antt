@@ -1,4 +1,0 @@
-pub mod Entries
-pub mod Parts
-pub mod Puts
-pub mod Values

@@ -1,8 +1,0 @@
-use Rattle.solve_job.proofs.Exactly.{one_answer, one_answer_as}
-use Rattle.solve_job.proofs.laws.one_answer_law.Goals as goal
-
-pub returns-clause-plain : goal.returns-clause-plain
-returns-clause-plain c = one_answer
-
-pub returns-clause-proved : goal.returns-clause-proved
-returns-clause-proved c = one_answer_as

@@ -1,0 +1,14 @@
+pub mod Ranks
+pub mod Method
+pub mod Bests
+pub mod Spans
+pub mod Alone
+pub mod Candidates
+pub mod Splits
+pub mod Outs
+pub mod Solving
+pub mod Noting
+pub mod Entries
+pub mod Parts
+pub mod Puts
+pub mod Values

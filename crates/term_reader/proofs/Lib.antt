@@ -1,3 +1,0 @@
-mod Sums
-pub mod Braced
-pub mod Limits

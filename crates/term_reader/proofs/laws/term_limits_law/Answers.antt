@@ -1,8 +1,0 @@
-use Rattle.term_reader.proofs.Limits.{ranged, shallow}
-use Rattle.term_reader.proofs.laws.term_limits_law.Goals as goal
-
-pub returns-clause-shallow : goal.returns-clause-shallow
-returns-clause-shallow c = shallow
-
-pub returns-clause-ranged : goal.returns-clause-ranged
-returns-clause-ranged c = ranged

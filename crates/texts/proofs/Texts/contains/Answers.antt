@@ -1,7 +1,0 @@
-use Rattle.std.proofs.Common.{◌∙◌, ap}
-use Rattle.texts.specs.Texts.{is_among}
-use Rattle.texts.proofs.Kept.{among_is}
-use Rattle.texts.proofs.Texts.contains.Goals as goal
-
-pub returns : goal.returns
-returns c = c.contains.ensures ∙ among_is c.args.text.now c.self.inside.set.keys ∙ ap (is_among c.args.text.now) c.self.view_is

@@ -1,0 +1,10 @@
+pub mod Held
+pub mod Idle
+pub mod Passing
+pub mod Picks
+pub mod Places
+pub mod Undoing
+pub mod Keeping
+pub mod Kept
+pub mod Pairings
+pub mod Shallow

@@ -1,0 +1,5 @@
+pub mod Choosing
+pub mod Passed
+pub mod Standing
+pub mod Pairing
+pub mod Within

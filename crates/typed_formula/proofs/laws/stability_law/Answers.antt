@@ -1,9 +1,0 @@
-use Rattle.typed_formula.proofs.Stability.{truth_stable}
-use Rattle.typed_formula.proofs.Connectives.{double_negation}
-use Rattle.typed_formula.proofs.laws.stability_law.Goals as goal
-
-pub returns-clause-stable : goal.returns-clause-stable
-returns-clause-stable c = truth_stable
-
-pub returns-clause-double_negation : goal.returns-clause-double_negation
-returns-clause-double_negation c = double_negation

@@ -1,8 +1,0 @@
-use Rattle.std.proofs.Common.{[], drop}
-use Rattle.purse.specs.Trace.{each}
-use Rattle.purse.proofs.Charging.{Left}
-use Rattle.solution_laws.specs.Solutions.{valued_clause}
-use Rattle.value_steps.proofs.values.valued_clauses.Given as goal
-
-abbrev pub invariant-loop-c : goal.invariant-loop-c
-invariant-loop-c l = Left (each (valued_clause l.j l.v) (drop l.c-index l.cs) l.out) (each (valued_clause l.j l.v) l.cs [])
