@@ -1,6 +1,9 @@
 // The limits of the project, each said once: in code as a constant, in clauses by its name in specs/.
 #![tactic(auto)]
 
+ghost use Rattle.std.specs.Prelude.{◌≡◌};
+ghost use Rattle.base_limits.specs.Limits.{branch_limit, most_budget, most_constants, most_count, most_levels, most_nodes, most_symbols};
+
 /// The most nodes of a formula that is proved.
 pub const MOST_NODES: u64 = 1_000_000;
 
@@ -18,3 +21,14 @@ pub const MOST_BUDGET: u64 = 1_000_000_000;
 
 /// The greatest size of a problem that the program makes.
 pub const MOST_COUNT: u64 = 1_000;
+
+/// The constants of the code are the numbers that clauses state.
+pub fn limits_law()
+    ensures nodes { MOST_NODES ≡ most_nodes }
+    ensures levels { MOST_LEVELS ≡ most_levels }
+    ensures symbols { MOST_SYMBOLS ≡ most_symbols }
+    ensures constants { MOST_SYMBOLS ≡ most_constants }
+    ensures branch { BRANCH_LIMIT ≡ branch_limit }
+    ensures budget { MOST_BUDGET ≡ most_budget }
+    ensures count { MOST_COUNT ≡ most_count }
+{}

@@ -1,10 +1,10 @@
 // The quantifiers by instances, as the search asks for them.
 
-use clause_deciding::Elimination;
-use clause_forms::{Instance, Present, Vocabulary};
-use clause_fuel::{Fault, Fuel};
-use clause_instances::{Outcome, Quantifiers};
-use clause_search::{Advice, Advisor};
+use cdcl_deciding::Elimination;
+use cdcl_forms::{Instance, Present, Vocabulary};
+use cdcl_fuel::{Fault, Fuel};
+use cdcl_instances::{Outcome, Quantifiers};
+use cdcl_search::{Advice, Advisor};
 use std::alloc::Global;
 
 #[derive(Drop)]

@@ -4,9 +4,9 @@
 mod instances;
 
 use base_budget::Purse;
+use cdcl_search::{Answer, Search};
 use clause_checker::check;
 use clause_root::prepare;
-use clause_search::{Answer, Search};
 use formula::Core;
 use instances::Instances;
 use pri_problem::{encode_problem, read_problem};
