@@ -58,7 +58,7 @@ fn clause_form(alloc: Global, literals: &[Literal], names: u32) -> Result<Core, 
 }
 
 /// Several clauses.
-fn cdcl_forms(alloc: Global, clauses: &[Clause], names: u32) -> Result<Items<Core>, Memory>
+fn clause_forms(alloc: Global, clauses: &[Clause], names: u32) -> Result<Items<Core>, Memory>
     requires { All (AreTermsOver names) clauses.now }
     ensures { IfOk result (λ fs. map form fs ≡ map (clause_form names) clauses.now) }
 {
@@ -75,5 +75,5 @@ pub(crate) fn dnf_form(alloc: Global, d: &Dnf, names: u32) -> Result<Core, Memor
     requires { AreOver names d.now }
     ensures { IfOk result (λ f. form f ≡ dnf_form names d.now) }
 {
-    Ok(Core::Or(cdcl_forms(alloc, d.clauses(), names)?))
+    Ok(Core::Or(clause_forms(alloc, d.clauses(), names)?))
 }

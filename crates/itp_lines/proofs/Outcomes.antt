@@ -6,7 +6,7 @@ use Rattle.form_typed.specs.Truth.{Meaning}
 use Rattle.formula.specs.Form.{Form, FormTruth, IsFormOver}
 use Rattle.formula.specs.Reduced.{HasReducedTerms}
 use Rattle.formula.specs.Tree.{form}
-use Rattle.pri_typing.specs.Problems.{meaning_of}
+use Rattle.pri_typing.specs.Problems.{finite_meaning, meaning_of}
 use Rattle.model_trees.specs.Open.{IsSaturatedTree}
 use Rattle.form_encoding.specs.Problems.{problem_root}
 use Rattle.function_encoding.specs.declared.answer.Encoded.{Encoded}
@@ -69,7 +69,7 @@ not_saturated e old new d t s k =
     let open_there : IsSaturatedTree (problem_root p).value (length p.existentials) k.2 =
     subst (λ n. IsSaturatedTree (problem_root p).value n k.2) s.encoded.constants (subst (λ f. IsSaturatedTree f e.constants k.2) s.encoded.root says.0) in
     let bad = refuted p k.2 s.formed (problem_reduced p) open_there [] (sym (ap length s.alone)) (s.holds some_meaning).typed in
-    bad.fails ((s.holds (meaning_of bad.table)).is bad.universals bad.fit bad.typed)
+    bad.fails ((s.holds (finite_meaning bad.interpretation)).is bad.universals bad.fit bad.typed)
 
 -- what it ends with is told
 

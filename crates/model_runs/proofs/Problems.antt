@@ -9,7 +9,7 @@ use Rattle.formula.specs.Reduced.{HasReducedTerms}
 use Rattle.proof_tree.specs.Proof.{Proof, given}
 use Rattle.proof_tree.specs.Proves.{start}
 use Rattle.pri_typing.specs.declared.problem.Problem.{Problem}
-use Rattle.pri_typing.specs.Problems.{IsRefuted, meaning_of}
+use Rattle.pri_typing.specs.Problems.{IsRefuted, by_table, meaning_of}
 use Rattle.pri_typing.specs.WellFormed.{IsWellFormed}
 use Rattle.form_encoding.specs.Problems.{constants, problem_root}
 use Rattle.form_encoding.proofs.Conditions.{values_length}
@@ -70,4 +70,4 @@ pub refuted : (p : Problem) (x : Proof) → IsWellFormed p → HasReducedTerms (
 refuted p x formed red s = λ e len typed.
     let i = explained p x e formed red s.application s.tree len typed (s.nowhere e len) in
     let c = i.shows in
-    record { table = (table_at i.stop).value; universals = universals_of (length p.existentials) (length p.universals) (i.stop).values; fit = c.fit; typed = c.typed; fails = c.fails }
+    record { interpretation = by_table (table_at i.stop).value; universals = universals_of (length p.existentials) (length p.universals) (i.stop).values; fit = c.fit; typed = c.typed; fails = c.fails }

@@ -12,7 +12,7 @@ use Rattle.form_encoding.specs.Problems.{body, constants, problem_root}
 use Rattle.form_encoding.specs.Root.{conditions, for_last}
 use Rattle.form_encoding.proofs.Problems.{over_constants_is, root_is}
 use Rattle.pri_typing.specs.declared.problem.Problem.{Problem}
-use Rattle.pri_typing.specs.Problems.{IsRefuted, meaning_of}
+use Rattle.pri_typing.specs.Problems.{IsRefuted, by_table, meaning_of}
 use Rattle.pri_typing.specs.WellFormed.{IsWellFormed}
 use Rattle.pri_problem.proofs.Reduced.{problem_reduced}
 use Rattle.form_typed.specs.declared.typed.Sort.{Sort}
@@ -85,4 +85,4 @@ lost_refuted p formed pure fails = λ e many typed.
     let at = last_fails w (length es) p.universal_types (body p) e long is never in
     let few = values_length p.universal_types at.values at.typed ∙ formed.universal_types.many in
     let all : length (e ++ at.values) ≡ constants p = length-append e at.values ∙ ap (λ n. n + length at.values) many ∙ ap (λ n. length p.existentials + n) few in
-    record { table = no_table; universals = at.values; fit = few; typed = at.typed; fails = λ t. at.fails ((over_constants_is w p (formula p.formula) (e ++ at.values) formed.products all).1 t) }
+    record { interpretation = by_table no_table; universals = at.values; fit = few; typed = at.typed; fails = λ t. at.fails ((over_constants_is w p (formula p.formula) (e ++ at.values) formed.products all).1 t) }

@@ -11,7 +11,7 @@ use Rattle.form_typed.specs.Sorts.{AreValuesOf}
 use Rattle.pri_typing.specs.Files.{all_int}
 use Rattle.pri_typing.specs.WellFormed.{IsWellFormed}
 use Rattle.pri_typing.specs.Everywhere.{Property, Everywhere, AllEverywhere, TermEverywhere, TermsEverywhere}
-use Rattle.pri_typing.specs.Problems.{Holds, IsTrueAt, IsRefuted, meaning_of, IsPure, IsNoPredicate, IsNoCall, IsNameIn, SpeaksOfExistentials}
+use Rattle.pri_typing.specs.Problems.{Holds, IsTrueAt, IsRefuted, finite_meaning, meaning_of, IsPure, IsNoPredicate, IsNoCall, IsNameIn, SpeaksOfExistentials}
 use Rattle.pri_typing.proofs.Everywhere.{Follows, everywhere_more}
 
 no_values : (u : List ℤ) → length u ≡ 0 → u ≡ []
@@ -34,7 +34,7 @@ holds_alone w p e formed none many typed =
 
 -- A problem that is refuted does not hold in every interpretation, whatever the existential constants are.
 pub refuted_fails : (p : Problem) (e : List ℤ) → IsRefuted p → length e ≡ length p.existentials → AreValuesOf p.existential_types e → ((w : Meaning) → Holds w p e) → ⊥
-refuted_fails p e r l typed h = let at = r e l typed in at.fails ((h (meaning_of at.table)).is at.universals at.fit at.typed)
+refuted_fails p e r l typed h = let at = r e l typed in at.fails ((h (finite_meaning at.interpretation)).is at.universals at.fit at.typed)
 
 -- A formula without applications is true alike wherever its names have the same values.
 

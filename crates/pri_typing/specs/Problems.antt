@@ -11,6 +11,8 @@ use Rattle.form_typed.specs.Truth.{Meaning, Truth}
 use Rattle.form_typed.specs.Sorts.{AreValuesOf}
 use Rattle.form_typed.specs.Table.{is_true_at_row, value_at_row}
 use Rattle.form_typed.specs.declared.world.Table.{Table}
+use Rattle.model_table.specs.declared.model.Model.{Model}
+use Rattle.model_table.specs.Models as models
 use Rattle.pri_typing.specs.declared.problem.Problem.{Problem}
 use Rattle.pri_typing.specs.declared.declaration.Kind.{Kind}
 use Rattle.pri_typing.specs.declared.declaration.Kind.TheVariants.{Existential, Universal, Function, Predicate}
@@ -41,13 +43,22 @@ pub record Holds (w : Meaning) (p : Problem) (e : List ℤ) : Type 0 where
 abbrev pub meaning_of : Table → Meaning
 meaning_of t = record { truth = is_true_at_row t.truths; value = value_at_row t.values }
 
+-- a finite interpretation: a table, or a model, in which each symbol has a default
+pub data Finite : Type 0 where
+  by_table : Table → Finite
+  by_model : Model → Finite
+
+abbrev pub finite_meaning : Finite → Meaning
+finite_meaning (by_table t) = meaning_of t
+finite_meaning (by_model m) = models.meaning_of m
+
 -- a finite interpretation, and values of the universal constants, each of its constant's type, at which the formula is not true
 pub record IsRefutedAt (p : Problem) (e : List ℤ) : Type 0 where
-  pub table : Table
+  pub interpretation : Finite
   pub universals : List ℤ
   pub fit : length universals ≡ length p.universals
   pub typed : AreValuesOf p.universal_types universals
-  pub fails : ¬ (Truth (meaning_of table) (formula p.formula) (e ++ universals))
+  pub fails : ¬ (Truth (finite_meaning interpretation) (formula p.formula) (e ++ universals))
 
 -- the problem fails whatever values of their types the existential constants have
 abbrev pub IsRefuted : Problem → Type 0

@@ -6,7 +6,7 @@ use Rattle.form_typed.specs.Sorts.{AreValuesOf}
 use Rattle.form_typed.specs.Truth.{Truth}
 use Rattle.pri_typing.specs.declared.problem.Problem.{Problem}
 use Rattle.pri_typing.specs.Files.{all_int}
-use Rattle.pri_typing.specs.Problems.{meaning_of}
+use Rattle.pri_typing.specs.Problems.{finite_meaning}
 use Rattle.smt_terms.specs.Scripts.{CheckLaw, Command, State, checks}
 use Rattle.smt_terms.proofs.Scripts.{checks_law}
 use Rattle.smt_reader.specs.Posed.{MeansSatisfiable, MeansUnsatisfiable}
@@ -32,8 +32,8 @@ satisfiable cs p s among posed refuted =
     let at = refuted [] (sym (ap length posed.existentials)) (subst (λ z. AreValuesOf z []) (sym posed.existential_types) tt) in
     let fits : length at.universals ≡ length s.constants = at.fit ∙ ap length posed.universals in
     record {
-      table = at.table;
+      interpretation = at.interpretation;
       constants = at.universals;
       fit = fits;
-      satisfies = ((law_of cs s among).false_where (meaning_of at.table) at.universals fits).0 (subst (λ f. ¬ (Truth (meaning_of at.table) f at.universals)) posed.formula at.fails);
+      satisfies = ((law_of cs s among).false_where (finite_meaning at.interpretation) at.universals fits).0 (subst (λ f. ¬ (Truth (finite_meaning at.interpretation) f at.universals)) posed.formula at.fails);
     }

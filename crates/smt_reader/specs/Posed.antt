@@ -3,10 +3,9 @@ use Rattle.std.specs.Prelude.{◌≡◌, ℤ, List, [], None, length}
 use Rattle.std.specs.List.{Contains}
 use Rattle.form_typed.specs.Formula.{formula}
 use Rattle.form_typed.specs.Truth.{Meaning}
-use Rattle.form_typed.specs.declared.world.Table.{Table}
 use Rattle.pri_typing.specs.declared.problem.Problem.{Problem}
 use Rattle.pri_typing.specs.Files.{all_int}
-use Rattle.pri_typing.specs.Problems.{Holds, IsRefuted, meaning_of}
+use Rattle.pri_typing.specs.Problems.{Finite, Holds, IsRefuted, finite_meaning}
 use Rattle.smt_terms.specs.Scripts.{Command, IsSatisfied, State, checks, refutation}
 use Rattle.smt_reader.specs.Formed.{symbols}
 
@@ -30,10 +29,10 @@ MeansUnsatisfiable cs p = (s : State) → Contains (checks cs) s → IsCheckPose
 
 -- a finite interpretation and integers of the constants that satisfy the assertions
 pub record IsSatisfiable (s : State) : Type 0 where
-  pub table : Table
+  pub interpretation : Finite
   pub constants : List ℤ
   pub fit : length constants ≡ length s.constants
-  pub satisfies : IsSatisfied (meaning_of table) constants s
+  pub satisfies : IsSatisfied (finite_meaning interpretation) constants s
 
 -- where it is refuted, there are such
 abbrev pub MeansSatisfiable : List Command → Problem → Type 0
