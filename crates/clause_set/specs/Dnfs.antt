@@ -1,5 +1,5 @@
 -- Operations on disjunctions of clauses, with their charges.
-use Rattle.std.specs.Prelude.{◌+◌, ◌*◌, ℤ, pos, negsuc, Bool, false, not, ◌&&◌, ◌||◌, int_le, List, [], ◌∷◌, ◌++◌, length, filter, Option, Some, None}
+use Rattle.std.specs.Prelude.{◌+◌, ◌*◌, ℤ, pos, negsuc, Bool, false, true, not, ◌&&◌, ◌||◌, int_le, List, [], ◌∷◌, ◌++◌, length, filter, Option, Some, None}
 use Rattle.std.specs.List.{list_all, list_any, flat_map}
 use Rattle.linear_term.specs.Linear.{number}
 use Rattle.base_budget.specs.Trace.{Traced, just, next, pay, combining, each}
@@ -96,6 +96,11 @@ negated_clauses (c ∷ cs) out = next (negated_clause c) (λ n. next (conjunctio
 -- the disjunction that is true
 abbrev pub top : List (List Literal)
 top = [] ∷ []
+
+-- the disjunction has one clause, without literals
+abbrev pub is_top : List (List Literal) → Bool
+is_top ([] ∷ []) = true
+is_top d = false
 
 -- the negation of d
 abbrev pub negation : List (List Literal) → Traced (List (List Literal))

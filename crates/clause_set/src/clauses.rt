@@ -2,12 +2,12 @@
 
 ghost use Rattle.clause_set.specs.Clause.{IsClause};
 ghost use Rattle.clause_set.specs.Clauses.{clause_of, found};
-ghost use Rattle.clause_set.specs.Dnfs.{joined, joined_with, top};
+ghost use Rattle.clause_set.specs.Dnfs.{is_top, joined, joined_with, top};
 ghost use Rattle.clause_set.specs.Literals.{AreLiterals};
 ghost use Rattle.std.specs.Prelude.{◌≡◌, ◌++◌, All, IfOk, IsTrue, OnOk};
 
 use super::clause::Clause;
-use super::order::room_for;
+use base_budget::room_for;
 use linear_term::Memory;
 use sqlite_items::Items;
 use std::alloc::Global;
@@ -45,7 +45,8 @@ pub(crate) fn know_forms(cs: &[Clause])
 /// Whether the clauses are those of the disjunction that is true.
 #[tactic(auto, using(crate::proofs::Across::trivial))]
 pub(crate) fn is_top(cs: &[Clause]) -> bool
-    ensures { IsTrue result → cs.now ≡ top }
+    ensures top { IsTrue result → cs.now ≡ top }
+    ensures exact { result ≡ is_top cs.now }
 {
     let Some((c, rest)) = cs.split_first() else {
         return false;

@@ -12,7 +12,8 @@ ghost use Rattle.std.specs.Prelude.{◌≡◌, ◌<◌, ◌≤◌, ◌++◌, [],
 use super::bounds::{same_pairs, sets_bound};
 use super::clause::Clause;
 use super::literal::Literal;
-use super::order::{Ordered, room_for, sort_once};
+use super::order::{Ordered, sort_once};
+use base_budget::room_for;
 use linear_term::{Memory, Term};
 use sqlite_items::Items;
 use std::alloc::Global;

@@ -1,7 +1,7 @@
 // Disjunctive normal forms: disjunctions of clauses, and charged operations on them.
 
 ghost use Rattle.clause_set.specs.Clause.{IsDnf};
-ghost use Rattle.clause_set.specs.Dnfs.{conjunction, disjunction, joined, tidied, tidying, top};
+ghost use Rattle.clause_set.specs.Dnfs.{conjunction, disjunction, is_top, joined, tidied, tidying, top};
 ghost use Rattle.linear_term.specs.declared.range.Place.{Place};
 ghost use Rattle.clause_set.specs.Literals.{dnf_truth};
 ghost use Rattle.base_budget.specs.Work.{Charged};
@@ -63,6 +63,13 @@ impl Dnf {
         Dnf {
             clauses: Items::new(alloc),
         }
+    }
+
+    /// Whether this is the disjunction that is true: one clause without literals.
+    pub fn is_top(&self) -> bool
+        ensures { result ≡ is_top self.now }
+    {
+        is_top(self.clauses())
     }
 
     /// The clauses are in form: this call does nothing, and tells its caller so.

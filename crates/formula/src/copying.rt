@@ -1,18 +1,12 @@
 // A formula once more. Rust's `Clone` cannot refuse memory, so this is a call of its own.
 
-ghost use Rattle.std.specs.Prelude.{◌≡◌, [], IfOk};
+ghost use Rattle.std.specs.Prelude.{◌≡◌, IfOk};
 
 use crate::calculus::Core;
+use base_budget::room_for;
 use linear_term::{Memory, Term};
 use sqlite_items::Items;
 use std::alloc::Global;
-
-/// No items yet, and room for so many.
-pub(crate) fn room_for<T>(alloc: Global, count: usize) -> Result<Items<T>, Memory>
-    ensures { IfOk result (λ xs. xs ≡ []) }
-{
-    Ok(Items::from_vec(Vec::with_capacity(alloc, count)?))
-}
 
 impl Core {
     /// The same formula once more, with the body of a quantifier in common.

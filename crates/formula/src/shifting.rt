@@ -7,8 +7,8 @@ ghost use Rattle.formula.specs.Shifts.{raised, raised_name, shifted, all_shifted
 ghost use Rattle.formula.specs.Tree.{form, forms_of};
 
 use crate::calculus::Core;
-use crate::copying::room_for;
 use crate::shared::Shared;
+use base_budget::room_for;
 use linear_term::{Memory, Term};
 use smallvec::SmallVec;
 use sqlite_items::Items;
