@@ -9,4 +9,4 @@ mod projection;
 
 pub use fault::{Interpolant, InterpolantFault};
 pub use laws::{apart_law, occurrence_law, plain_law, size_law};
-pub use parts::{between, between_at, between_parts, between_sides};
+pub use parts::{between, between_at, between_parts, between_sides, together};

@@ -66,15 +66,22 @@ pub fn between_sides(
     ensures strongest { IfOk result (λ i. (w : Meaning) → IsStrongest w p.now (first_side p.now cut.now at) (other_side p.now cut.now at) (λ e. dnf_truth i.formula e ≡ true)) }
 {
     let sets = cut.sets.as_slice();
-    let before = together(alloc, &sets[..at])?;
-    let behind = together(alloc, &sets[at..])?;
+    let before = part_numbers(alloc, &sets[..at])?;
+    let behind = part_numbers(alloc, &sets[at..])?;
     between_parts(alloc, p, before.as_slice(), behind.as_slice(), purse)
 }
 
-// The numbers of several sets, in their order. The one refusal is want of memory.
-fn together(alloc: Global, sets: &[Items<u32>]) -> Result<Vec<u32>, EncodeRefusal>
+// The numbers of several sets, in their order. Want of memory counts as the encoding's.
+fn part_numbers(alloc: Global, sets: &[Items<u32>]) -> Result<Vec<u32>, EncodeRefusal>
     ensures whole { IfOk result (λ v. v.items ≡ concat sets.now) }
     ensures memory { IfErr result (λ refusal. refusal ≡ Memory) }
+{
+    Ok(together(alloc, sets)?)
+}
+
+/// The numbers of several sets, in their order. Returns the error if memory is wanting.
+pub fn together(alloc: Global, sets: &[Items<u32>]) -> Result<Vec<u32>, linear_term::Memory>
+    ensures { IfOk result (λ v. v.items ≡ concat sets.now) }
 {
     let mut numbers = Vec::new(alloc);
     for set in sets {

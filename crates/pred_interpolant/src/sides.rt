@@ -1,7 +1,7 @@
 // What sets of parts assume, as formulas.
 
 ghost use Rattle.std.specs.Prelude.{◌≡◌, ◌++◌, true, IfOk, OnOk, map, nat_eq};
-ghost use Rattle.std.specs.List.{concat, filter, list_any};
+ghost use Rattle.std.specs.List.{filter, list_any};
 ghost use Rattle.form_typed.specs.Formula.{formula, formulas_of};
 ghost use Rattle.pri_typing.specs.Problems.{assumed, assumed_by};
 ghost use Rattle.pri_typing.specs.WellFormed.{all_formula_components, formula_components};
@@ -12,17 +12,6 @@ use linear_term::Memory;
 use pri_typing::Problem;
 use sqlite_items::{Boxed, Items};
 use std::alloc::Global;
-
-/// The numbers of several sets, in their order.
-pub fn together(alloc: Global, sets: &[Items<u32>]) -> Result<Vec<u32>, Memory>
-    ensures { IfOk result (λ v. v.items ≡ concat sets.now) }
-{
-    let mut numbers = Vec::new(alloc);
-    for set in sets {
-        numbers.extend_from_slice(set.as_slice())?;
-    }
-    Ok(numbers)
-}
 
 /// Whether the number is one of the set.
 fn contains(set: &[u32], k: u32) -> bool

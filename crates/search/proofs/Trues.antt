@@ -7,10 +7,10 @@ use Rattle.base_budget.proofs.Charging.{drop-item, drop_all, remains_ends, remai
 use Rattle.base_budget.proofs.Tracing.{next-assoc}
 use Rattle.clause_set.specs.declared.literal.Literal.{Literal}
 use Rattle.clause_set.specs.Clauses.{clause_of, compact}
-use Rattle.clause_set.specs.Dnfs.{conjunction, tidied, top}
+use Rattle.clause_set.specs.Dnfs.{conjunction, is_top, tidied, top}
 use Rattle.clause_set.specs.Order.{sorted_once}
 use Rattle.proof_tree.specs.Rules.{conjoined, first_given}
-use Rattle.search.specs.Trues.{are_top, is_top}
+use Rattle.search.specs.Trues.{are_top}
 
 one_top : (d : List (List Literal)) → is_top d ≡ true → d ≡ top
 one_top [] h = absurd (cc)

@@ -1,11 +1,7 @@
 -- Constraints that are true.
-use Rattle.std.specs.Prelude.{Bool, true, false, ◌&&◌, List, [], ◌∷◌}
+use Rattle.std.specs.Prelude.{Bool, true, ◌&&◌, List, [], ◌∷◌}
 use Rattle.clause_set.specs.declared.literal.Literal.{Literal}
-
--- the disjunction has one clause, without literals
-abbrev pub is_top : List (List Literal) → Bool
-is_top ([] ∷ []) = true
-is_top d = false
+use Rattle.clause_set.specs.Dnfs.{is_top}
 
 abbrev pub are_top : List (List (List Literal)) → Bool
 are_top [] = true

@@ -3,7 +3,7 @@
 ghost use Rattle.clause_set.specs.Dnfs.{top};
 ghost use Rattle.clause_set.specs.declared.literal.Literal.{Literal};
 ghost use Rattle.proof_tree.specs.Rules.{first_given};
-ghost use Rattle.search.specs.Trues.{are_top, is_top};
+ghost use Rattle.search.specs.Trues.{are_top};
 ghost use Rattle.std.specs.Prelude.{◌≡◌, ◌++◌, ◌∷◌, ◌↔◌, [], IsTrue, OnOk, true};
 
 use clause_set::Dnf;
@@ -14,22 +14,12 @@ use std::marker::Model;
 use std::slice::from_ref;
 use tree_branch::first;
 
-/// Whether the constraint is true: one clause without literals.
-fn is_true(d: &Dnf) -> bool
-    ensures { result ≡ is_top d.now }
-{
-    match d.clauses() {
-        [c] => c.literals().is_empty(),
-        _ => false,
-    }
-}
-
 /// Whether each of the constraints is true.
 fn all_true(ds: &[Dnf]) -> bool
     ensures { result ≡ are_top ds.now }
 {
     for d in ds {
-        if !is_true(d) {
+        if !d.is_top() {
             return false;
         }
     }

@@ -9,4 +9,5 @@ pub mod Left
 pub mod Paid
 pub mod Redoing
 pub mod Stepped
+pub mod Trues
 mod Held

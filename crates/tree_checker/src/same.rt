@@ -48,27 +48,12 @@ pub fn is_same(made: &[Clause], given: &[Items<Literal>]) -> bool
     ys.is_empty()
 }
 
-/// Whether the clause has no literals.
-fn is_true(c: &Clause) -> bool
-    ensures { result ≡ is_eq (clause_cmp c.now []) }
-{
-    match c.literals().split_first() {
-        None => true,
-        Some(_) => false,
-    }
-}
-
 /// Whether the constraint is true, as a clause without literals.
+#[tactic(auto, using(crate::proofs::Trues::top_same))]
 pub fn is_top(d: &Dnf) -> bool
     ensures { result ≡ is_same d.now top }
 {
-    match d.clauses().split_first() {
-        None => false,
-        Some((c, more)) => match more.split_first() {
-            None => is_true(c),
-            Some(_) => false,
-        },
-    }
+    d.is_top()
 }
 
 /// Whether the constraint is false: no clause.
