@@ -3,7 +3,7 @@
 ghost use Rattle.base_answers.specs.Answer.{IsAnswerStatus, IsStatus};
 ghost use Rattle.base_answers.specs.Outside.{Meets, PutsAll, PutsPart};
 ghost use Rattle.prover_io.specs.Outside.{Rose};
-ghost use Rattle.std.specs.Prelude.{◌≡◌, ◌≤◌, ◌⊎◌, OnOk, OnErr};
+ghost use Rattle.std.specs.Prelude.{◌≡◌, ◌≢◌, ◌≤◌, ◌⊎◌, OnOk, OnErr};
 
 use crate::status::SINK_FAILED;
 use prover_io::{Failed, Sink};
@@ -14,6 +14,7 @@ pub fn put_all<K: Sink>(sink: &mut K, text: &[u8]) -> Result<(), Failed>
     ensures all { OnOk result (PutsAll (K.taken sink.old) (K.taken sink.new) text.now) }
     ensures part { OnErr result (PutsPart (K.taken sink.old) (K.taken sink.new) text.now) }
     ensures cause { OnErr result (Rose (K.faults sink.old) (K.faults sink.new)) }
+    ensures no_fault { OnOk result (K.faults sink.new ≡ K.faults sink.old) }
     ensures later { K.faults sink.old ≤ K.faults sink.new }
 {
     let mut rest = text;
@@ -31,6 +32,7 @@ pub fn put_answer<K: Sink>(sink: &mut K, status: u8, text: &[u8]) -> u8
     ensures ends { (result ≡ status) ⊎ (result ≡ 7) }
     ensures status { IsStatus result }
     ensures sink_failed { result ≡ 7 → Rose (K.faults sink.old) (K.faults sink.new) }
+    ensures no_fault { result ≢ 7 → K.faults sink.new ≡ K.faults sink.old }
 {
     match put_all(sink, text) {
         Ok(()) => status,

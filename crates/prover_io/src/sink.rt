@@ -1,7 +1,7 @@
 // A sink takes bytes and keeps their order.
 
 ghost use Rattle.prover_io.specs.Outside.{Adds, Rose};
-ghost use Rattle.std.specs.Prelude.{◌≡◌, ℕ, ◌<◌, ◌≤◌, List, length, Option, IfOk, OnErr};
+ghost use Rattle.std.specs.Prelude.{◌≡◌, ℕ, ◌<◌, ◌≤◌, List, length, Option, IfOk, OnErr, OnOk};
 
 use crate::source::Failed;
 
@@ -21,5 +21,6 @@ pub trait Sink {
         ensures bytes { IfOk result (λ n. Adds (taken self.old) (taken self.new) n piece.now) }
         ensures failed { OnErr result (taken self.new ≡ taken self.old) }
         ensures cause { OnErr result (Rose (faults self.old) (faults self.new)) }
+        ensures no_fault { OnOk result (faults self.new ≡ faults self.old) }
         ensures later { faults self.old ≤ faults self.new };
 }
