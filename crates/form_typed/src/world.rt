@@ -9,11 +9,10 @@ use std::alloc::Global;
 /// integers. It has no call, so a function that is handed one cannot look into it, and what it promises in one it
 /// promises in every one.
 pub trait World {
-    ghost use Rattle.std.specs.Prelude.{ℕ, ℤ, Bool, List};
+    ghost use Rattle.form_typed.specs.Truth.{Meaning};
 
-    ghost truth: { Self → ℕ → List ℤ → Bool };
-
-    ghost value: { Self → ℕ → List ℤ → ℤ };
+    // What the predicates and functions are.
+    ghost meaning: { Self → Meaning };
 }
 
 /// The predicate `id` is true at these integers.
@@ -53,9 +52,7 @@ impl Table {
 }
 
 impl World for Table {
-    ghost use Rattle.form_typed.specs.Table.{is_true_at_row, value_at_row};
+    ghost use Rattle.form_typed.specs.Table.{meaning_of};
 
-    ghost truth = { λ t p xs. is_true_at_row t.truths p xs };
-
-    ghost value = { λ t f xs. value_at_row t.values f xs };
+    ghost meaning = { λ t. meaning_of t };
 }

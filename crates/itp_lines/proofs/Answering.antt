@@ -9,7 +9,8 @@ use Rattle.base_budget.proofs.Charging.{drop_all}
 use Rattle.form_typed.specs.Formula.{Formula}
 use Rattle.form_typed.specs.Truth.{Meaning}
 use Rattle.formula.specs.Tree.{form}
-use Rattle.pri_typing.specs.Problems.{Holds, IsPlainlyValid, meaning_of}
+use Rattle.form_typed.specs.Table.{meaning_of}
+use Rattle.pri_typing.specs.Problems.{Holds, IsPlainlyValid}
 use Rattle.pri_typing.specs.declared.problem.Cut.{Cut}
 use Rattle.pri_typing.specs.declared.problem.Problem.{Problem}
 use Rattle.form_encoding.specs.Problems.{is_large, parts_root}

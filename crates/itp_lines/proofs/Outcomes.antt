@@ -6,7 +6,8 @@ use Rattle.form_typed.specs.Truth.{Meaning}
 use Rattle.formula.specs.Form.{Form, FormTruth, IsFormOver}
 use Rattle.formula.specs.Reduced.{HasReducedTerms}
 use Rattle.formula.specs.Tree.{form}
-use Rattle.pri_typing.specs.Problems.{finite_meaning, meaning_of}
+use Rattle.form_typed.specs.Table.{meaning_of}
+use Rattle.pri_typing.specs.Problems.{finite_meaning}
 use Rattle.model_trees.specs.Open.{IsSaturatedTree}
 use Rattle.form_encoding.specs.Problems.{problem_root}
 use Rattle.function_encoding.specs.declared.answer.Encoded.{Encoded}

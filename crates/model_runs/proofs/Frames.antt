@@ -34,7 +34,8 @@ use Rattle.form_encoding.proofs.Conditions.{for_last_pure}
 use Rattle.form_encoding.proofs.Types.{bound_at, pure-limits}
 use Rattle.model_trees.specs.Open.{AreOpen, IsOpen}
 use Rattle.model_trees.specs.Refutes.{RefutesSequent}
-use Rattle.model_trees.specs.Rows.{meaning_of, table_at}
+use Rattle.form_typed.specs.Table.{meaning_of}
+use Rattle.model_trees.specs.Rows.{table_at}
 use Rattle.model_trees.specs.Walk.{Stop, denied, walk, walk_first}
 use Rattle.model_trees.proofs.Finding.{denied_finds}
 use Rattle.model_trees.proofs.Refuting.{walk_refutes}

@@ -9,7 +9,8 @@ use Rattle.formula.specs.Reduced.{HasReducedTerms}
 use Rattle.proof_tree.specs.Proof.{Proof, given}
 use Rattle.proof_tree.specs.Proves.{start}
 use Rattle.pri_typing.specs.declared.problem.Problem.{Problem}
-use Rattle.pri_typing.specs.Problems.{IsRefuted, by_table, meaning_of}
+use Rattle.form_typed.specs.Table.{meaning_of}
+use Rattle.pri_typing.specs.Problems.{IsRefuted, by_table}
 use Rattle.pri_typing.specs.WellFormed.{IsWellFormed}
 use Rattle.form_encoding.specs.Problems.{constants, problem_root}
 use Rattle.form_encoding.proofs.Conditions.{values_length}

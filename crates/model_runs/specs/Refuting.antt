@@ -9,7 +9,7 @@ use Rattle.form_typed.specs.Truth.{Truth}
 use Rattle.proof_tree.specs.Proof.{Proof}
 use Rattle.proof_tree.specs.Proves.{start}
 use Rattle.pri_typing.specs.declared.problem.Problem.{Problem}
-use Rattle.pri_typing.specs.Problems.{meaning_of}
+use Rattle.form_typed.specs.Table.{meaning_of}
 use Rattle.pri_typing.specs.WellFormed.{HasArity}
 use Rattle.form_encoding.specs.Problems.{problem_root}
 use Rattle.model_trees.specs.Rows.{table_at, truth_cmp, value_cmp}

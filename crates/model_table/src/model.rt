@@ -42,11 +42,9 @@ pub struct Model {
 }
 
 impl form_typed::World for Model {
-    ghost use Rattle.model_table.specs.Models.{truth_at, value_at};
+    ghost use Rattle.model_table.specs.Models.{meaning_of};
 
-    ghost truth = { λ m p xs. truth_at m.predicates p xs };
-
-    ghost value = { λ m f xs. value_at m.functions f xs };
+    ghost meaning = { λ m. meaning_of m };
 }
 
 impl Model {

@@ -9,7 +9,8 @@ use Rattle.proof_tree.specs.Proof.{Proof, given}
 use Rattle.proof_tree.specs.Reduced.{IsReducedSequent}
 use Rattle.model_trees.specs.Open.{IsOpen}
 use Rattle.model_trees.specs.Refutes.{IsRefutedBy, RefutesSequent}
-use Rattle.model_trees.specs.Rows.{meaning_of, table_at}
+use Rattle.form_typed.specs.Table.{meaning_of}
+use Rattle.model_trees.specs.Rows.{table_at}
 use Rattle.model_trees.specs.Walk.{walk}
 use Rattle.model_trees.proofs.Reaching.{reached}
 use Rattle.model_trees.proofs.Tables.{table_is}

@@ -20,7 +20,7 @@ use Rattle.base_budget.proofs.Tracing.{each-value}
 use Rattle.clause_set.specs.Order.{insert_at, insert_once, inserted, sorted_once}
 use Rattle.clause_set.specs.Total.{then_equal}
 use Rattle.form_typed.specs.Truth.{Meaning}
-use Rattle.form_typed.specs.Table.{is_row_for, is_true_at_row, value_at_row}
+use Rattle.form_typed.specs.Table.{is_row_for, is_true_at_row, meaning_of, value_at_row}
 use Rattle.form_typed.specs.declared.world.TruthRow.{TruthRow}
 use Rattle.form_typed.specs.declared.world.ValueRow.{ValueRow}
 use Rattle.form_typed.proofs.Stability.{equal_stable}
@@ -31,7 +31,7 @@ use Rattle.pred_unify.specs.Leaf.{asks_truth, truth_in, value_at_first, value_in
 use Rattle.pred_unify.proofs.Clashes.{first_ones}
 use Rattle.solve_laws.specs.Candidates.{computed}
 use Rattle.model_trees.specs.Walk.{Stop}
-use Rattle.model_trees.specs.Rows.{all_evaluated, evaluated, meaning_of, one_value, summed, table_at, truth_cmp, truth_row, value_cmp, value_row}
+use Rattle.model_trees.specs.Rows.{all_evaluated, evaluated, one_value, summed, table_at, truth_cmp, truth_row, value_cmp, value_row}
 
 -- ---- values of terms
 next_sum : (c e s t : ℤ) → t +ℤ ((c *ℤ e) +ℤ (pos 1 *ℤ s)) ≡ ((c *ℤ e) +ℤ t) +ℤ s

@@ -3,7 +3,8 @@ use Rattle.std.specs.Prelude.{◌≡◌, ℤ, List, ◌++◌, Option, Some}
 use Rattle.base_budget.specs.Trace.{Traced}
 use Rattle.form_typed.specs.declared.world.Table.{Table}
 use Rattle.sequent.specs.Sequent.{Sequent, AreFalse}
-use Rattle.model_trees.specs.Rows.{meaning_of, table_at}
+use Rattle.form_typed.specs.Table.{meaning_of}
+use Rattle.model_trees.specs.Rows.{table_at}
 use Rattle.model_trees.specs.Walk.{Stop}
 
 -- a finite table makes every member of the sequent false at v

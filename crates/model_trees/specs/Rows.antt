@@ -7,18 +7,12 @@ use Rattle.base_integers.specs.Entry.{entry}
 use Rattle.linear_term.specs.Linear.{Linear}
 use Rattle.base_budget.specs.Trace.{Traced, just, next, each}
 use Rattle.clause_set.specs.Order.{sorted_once}
-use Rattle.form_typed.specs.Truth.{Meaning}
-use Rattle.form_typed.specs.Table.{is_true_at_row, value_at_row}
 use Rattle.form_typed.specs.declared.world.Table.{Table}
 use Rattle.form_typed.specs.declared.world.TruthRow.{TruthRow}
 use Rattle.form_typed.specs.declared.world.ValueRow.{ValueRow}
 use Rattle.formula.specs.Form.{Form, fails, differs}
 use Rattle.solve_laws.specs.Candidates.{computed}
 use Rattle.model_trees.specs.Walk.{Stop}
-
--- the interpretation that a finite table gives
-abbrev pub meaning_of : Table → Meaning
-meaning_of t = record { truth = is_true_at_row t.truths; value = value_at_row t.values }
 
 -- the sum of the pairs' values at e, from a sum on, pair by pair
 abbrev pub summed : List ℤ → List (ℕ × ℤ) → ℤ → Traced ℤ

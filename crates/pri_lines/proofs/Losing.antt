@@ -12,7 +12,8 @@ use Rattle.form_encoding.specs.Problems.{body, constants, problem_root}
 use Rattle.form_encoding.specs.Root.{conditions, for_last}
 use Rattle.form_encoding.proofs.Problems.{over_constants_is, root_is}
 use Rattle.pri_typing.specs.declared.problem.Problem.{Problem}
-use Rattle.pri_typing.specs.Problems.{IsRefuted, by_table, meaning_of}
+use Rattle.form_typed.specs.Table.{meaning_of}
+use Rattle.pri_typing.specs.Problems.{IsRefuted, by_table}
 use Rattle.pri_typing.specs.WellFormed.{IsWellFormed}
 use Rattle.pri_problem.proofs.Reduced.{problem_reduced}
 use Rattle.form_typed.specs.declared.typed.Sort.{Sort}

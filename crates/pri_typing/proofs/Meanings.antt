@@ -11,7 +11,8 @@ use Rattle.form_typed.specs.Sorts.{AreValuesOf}
 use Rattle.pri_typing.specs.Files.{all_int}
 use Rattle.pri_typing.specs.WellFormed.{IsWellFormed}
 use Rattle.pri_typing.specs.Everywhere.{Property, Everywhere, AllEverywhere, TermEverywhere, TermsEverywhere}
-use Rattle.pri_typing.specs.Problems.{Holds, IsTrueAt, IsRefuted, finite_meaning, meaning_of, IsPure, IsNoPredicate, IsNoCall, IsNameIn, SpeaksOfExistentials}
+use Rattle.form_typed.specs.Table.{meaning_of}
+use Rattle.pri_typing.specs.Problems.{Holds, IsTrueAt, IsRefuted, finite_meaning, IsPure, IsNoPredicate, IsNoCall, IsNameIn, SpeaksOfExistentials}
 use Rattle.pri_typing.proofs.Everywhere.{Follows, everywhere_more}
 
 no_values : (u : List ℤ) → length u ≡ 0 → u ≡ []

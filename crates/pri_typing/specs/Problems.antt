@@ -9,7 +9,7 @@ use Rattle.pri_reader.specs.Grammar.{Setting, Derives, whole}
 use Rattle.form_typed.specs.Formula.{Formula, Formulas, Expression, Expressions, formula, formulas, constant, compares, applies, negation, every, some, implies, iff, for_all, for_some, part, no_formula, and_formula, number, name, call, minus, total, product, choice, absolute, lesser, greater, no_expression, and_expression}
 use Rattle.form_typed.specs.Truth.{Meaning, Truth}
 use Rattle.form_typed.specs.Sorts.{AreValuesOf}
-use Rattle.form_typed.specs.Table.{is_true_at_row, value_at_row}
+use Rattle.form_typed.specs.Table.{meaning_of}
 use Rattle.form_typed.specs.declared.world.Table.{Table}
 use Rattle.model_table.specs.declared.model.Model.{Model}
 use Rattle.model_table.specs.Models as models
@@ -38,10 +38,6 @@ pub record Holds (w : Meaning) (p : Problem) (e : List ℤ) : Type 0 where
   pub many : length e ≡ length p.existentials
   pub typed : AreValuesOf p.existential_types e
   pub is : (u : List ℤ) → length u ≡ length p.universals → AreValuesOf p.universal_types u → Truth w (formula p.formula) (e ++ u)
-
--- the interpretation that a finite table gives
-abbrev pub meaning_of : Table → Meaning
-meaning_of t = record { truth = is_true_at_row t.truths; value = value_at_row t.values }
 
 -- a finite interpretation: a table, or a model, in which each symbol has a default
 pub data Finite : Type 0 where

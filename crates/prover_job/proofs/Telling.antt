@@ -1,7 +1,7 @@
 -- What a run answers, and what its end means.
 use Rattle.std.proofs.Common.{◌≡◌, ◌≢◌, ◌≤◌, ◌⊎◌, inl, inr, ℕ, List, [], ◌∷◌, ◌++◌, length, Option, Some, None, Result, Ok, Err, IfOk, refl, sym, ◌∙◌, ap, subst, append-nil, arith}
 use Rattle.form_typed.specs.Truth.{Meaning}
-use Rattle.pri_typing.specs.Problems.{meaning_of}
+use Rattle.form_typed.specs.Table.{meaning_of}
 use Rattle.prover_io.specs.Outside.{IsLonger, IsWhole}
 use Rattle.prover_io.specs.declared.whole.ReadFault.{ReadFault}
 use Rattle.prover_io.specs.declared.whole.ReadFault.TheVariants.{Long}

@@ -1,5 +1,6 @@
 -- What a run answers to its words over a source of named bytes, and what its end means.
-use Rattle.std.specs.Prelude.{◌≡◌, ◌⊎◌, ◌+◌, ◌≤◌, ◌<◌, ◌^◌, ℕ, Bool, List, [], ◌∷◌, ◌++◌, length, Option, Some, None, Contains}
+use Rattle.std.specs.Prelude.{◌≡◌, ◌⊎◌, ◌+◌, ◌≤◌, ◌<◌, ◌^◌, ℕ, Bool, List, [], ◌∷◌, ◌++◌, length, map, Option, Some, None, Contains, String, string_bytes}
+use Rattle.std.specs.declared.alloc.Global.{Global}
 use Rattle.base_limits.specs.Limits.{most_budget, most_count}
 use Rattle.form_typed.specs.Truth.{Meaning}
 use Rattle.form_typed.specs.Formula.{Expression}
@@ -7,7 +8,7 @@ use Rattle.pri_typing.specs.declared.problem.Problem.{Problem}
 use Rattle.prover_io.specs.Outside.{Broke, IsLonger, IsWhole}
 use Rattle.base_answers.specs.Answer.{Answer}
 use Rattle.base_answers.specs.Files.{AnswersSource, most_of_file, most_of_proof}
-use Rattle.base_answers.specs.Outside.{PutsAll}
+use Rattle.base_answers.specs.Outside.{Meets, PutsAll}
 use Rattle.job_words.specs.Jobs.{Task, solve, eliminate, run_script, minimise, check, drill, files_of, NamesJob}
 use Rattle.job_solve.specs.Proved.{IsSolvedAs, ProvesInvalid, ProvesValid, extended}
 use Rattle.base_answers.specs.declared.form.ProofForm.{ProofForm}
@@ -29,13 +30,21 @@ use Rattle.job_least.specs.Decides as least_decides
 use Rattle.job_least.specs.Leasts.{IsLeastAnswer}
 use Rattle.job_least.specs.Meaning.{Minimised, Unsatisfied}
 
--- the words name no job
-abbrev pub NameNoJob : List (List ℕ) → Type 0
-NameNoJob words = (task : Task) → NamesJob words task → ⊥
+-- the words ask for this job
+abbrev pub AskFor : List (String Global) → Task → Type 0
+AskFor words = NamesJob (map string_bytes words)
 
--- the words name no job that reads a file
-abbrev pub NameNoFile : List (List ℕ) → Type 0
-NameNoFile words = (task : Task) → NamesJob words task → files_of task ≡ []
+-- the words ask for no job
+abbrev pub AskForNothing : List (String Global) → Type 0
+AskForNothing words = (task : Task) → ¬ (AskFor words task)
+
+-- the words ask for no job that reads a file
+abbrev pub AskForNoFile : List (String Global) → Type 0
+AskForNoFile words = (task : Task) → AskFor words task → files_of task ≡ []
+
+-- the status and what was put are those of an answer to a problem's file, of the bytes that are told, of which this holds
+abbrev pub MeetsFile : (List ℕ → Answer → Type 0) → Option (List ℕ) → ℕ → Option (List ℕ) → Option (List ℕ) → Type 0
+MeetsFile P told = Meets (AnswersSource most_of_file P told)
 
 -- the numbers of a job are small enough for its work
 abbrev pub IsSmallTask : Task → Type 0

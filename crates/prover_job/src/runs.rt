@@ -1,13 +1,12 @@
 // The top call: the words, then the files of their job, then its answer, then the text of the answer.
 
 ghost use Rattle.base_answers.specs.Answer.{IsStatus, words_answer};
-ghost use Rattle.base_answers.specs.Files.{AnswersSource, most_of_file};
-ghost use Rattle.base_answers.specs.Outside.{Meets};
+ghost ghost use Rattle.base_answers.specs.Outside.{Meets};
 ghost use Rattle.base_answers.specs.declared.form.ProofForm.{ProofForm};
-ghost use Rattle.job_words.specs.Jobs.{NamesJob, Task, check, drill, eliminate, files_of, minimise, run_script, solve, task_of};
+ghost use Rattle.job_words.specs.Jobs.{Task, check, drill, eliminate, files_of, minimise, run_script, solve, task_of};
 ghost use Rattle.prover_io.specs.Outside.{BeginsFront, GrowsAtMost, Rose};
-ghost use Rattle.prover_job.specs.Runs.{AnswersTask, AreBegun, BrokeAt, IsCheckCaused, IsDrillCaused, IsElimCaused, IsJobFile, IsLeastCaused, IsSolveCausedAs, IsSmallTask, NameNoFile, NameNoJob, SaysChecked, SaysConstraint, SaysLeast, SaysNowhere, SaysRefuted, SaysScript, SaysValid, most_moved};
-ghost use Rattle.std.specs.Prelude.{◌≡◌, ◌≢◌, ◌⊎◌, ℕ, List, [], Option, map, string_bytes};
+ghost use Rattle.prover_job.specs.Runs.{AnswersTask, AreBegun, AskFor, AskForNoFile, AskForNothing, BrokeAt, IsCheckCaused, IsDrillCaused, IsElimCaused, IsJobFile, IsLeastCaused, IsSolveCausedAs, IsSmallTask, MeetsFile, SaysChecked, SaysConstraint, SaysLeast, SaysNowhere, SaysRefuted, SaysScript, SaysValid, most_moved};
+ghost use Rattle.std.specs.Prelude.{◌≡◌, ◌≢◌, ◌⊎◌, ℕ, List, [], Option};
 
 use crate::tasks::{Stop, job_output};
 use base_answers::put_answer;
@@ -20,8 +19,11 @@ use std::alloc::Global;
 /// Does the job that the words name, and answers the exit status: 0 valid, or the constraint is made, or the proof is accepted, or
 /// the least value is found or there is none, or each check of the script is answered, 1 invalid, or the problem holds nowhere,
 /// 2 unknown, or a check of the script is, 3 the file is refused, 4 the proof is refused, 5 the words name no job, 6 the source
-/// failed, 7 the sink failed, 8 no memory, 9 the file or the proof's file is too long. `drill` answers as `solve` does to the problem that it makes.
-/// The interpretation has no call, so what is promised in it is promised in every one.
+/// failed, 7 the sink failed, 8 no memory, 9 the file or the proof's file is too long. `drill` answers as `solve` does to the
+/// problem that it makes. The interpretation has no call, so what is promised in it is promised in every one.
+///
+/// The first clauses say which answer is put, the next ones what it means in the interpretation, then where each answer comes, and
+/// the last ones what the run did to its files and its sink.
 pub fn run<S: Source, K: Sink, W: World>(
     alloc: Global,
     words: &[String],
@@ -29,44 +31,46 @@ pub fn run<S: Source, K: Sink, W: World>(
     sink: &mut K,
     world: &W,
 ) -> u8
-    ensures answered { (task : Task) → NamesJob (map string_bytes words.now) task
+    ensures answered { (task : Task) → AskFor words.now task
         → Meets (AnswersTask (S.bytes_of source.old) task) result (K.taken sink.old) (K.taken sink.new) }
-    ensures no_job { NameNoJob (map string_bytes words.now) → Meets (λ answer. answer ≡ words_answer) result (K.taken sink.old) (K.taken sink.new) }
-    ensures valid { (file : List ℕ) (budget : ℕ) (asked : Option ProofForm) → NamesJob (map string_bytes words.now) (solve file budget asked) → result ≡ 0
-        → SaysValid (record { truth = W.truth world.now; value = W.value world.now }) asked (S.bytes_of source.old file) (K.taken sink.old) (K.taken sink.new) }
-    ensures refuted { (file : List ℕ) (budget : ℕ) (asked : Option ProofForm) → NamesJob (map string_bytes words.now) (solve file budget asked) → result ≡ 1
-        → SaysRefuted asked (S.bytes_of source.old file) (K.taken sink.old) (K.taken sink.new) }
-    ensures checked { (file proof : List ℕ) → NamesJob (map string_bytes words.now) (check file proof) → result ≡ 0
-        → SaysChecked (record { truth = W.truth world.now; value = W.value world.now }) (S.bytes_of source.old file) (K.taken sink.old) (K.taken sink.new) }
-    ensures constraint { (file : List ℕ) (budget : ℕ) → NamesJob (map string_bytes words.now) (eliminate file budget) → result ≡ 0
-        → SaysConstraint (record { truth = W.truth world.now; value = W.value world.now }) (S.bytes_of source.old file) (K.taken sink.old) (K.taken sink.new) }
-    ensures scripted { (file : List ℕ) (budget : ℕ) → NamesJob (map string_bytes words.now) (run_script file budget) → (result ≡ 0) ⊎ (result ≡ 2)
-        → SaysScript (record { truth = W.truth world.now; value = W.value world.now }) (S.bytes_of source.old file) (K.taken sink.old) (K.taken sink.new) }
-    ensures minimised { (file term : List ℕ) (budget : ℕ) → NamesJob (map string_bytes words.now) (minimise file term budget) → result ≡ 0
-        → SaysLeast (record { truth = W.truth world.now; value = W.value world.now }) term (S.bytes_of source.old file) (K.taken sink.old) (K.taken sink.new) }
-    ensures nowhere { (file term : List ℕ) (budget : ℕ) → NamesJob (map string_bytes words.now) (minimise file term budget) → result ≡ 1
-        → SaysNowhere (record { truth = W.truth world.now; value = W.value world.now }) (S.bytes_of source.old file) }
-    ensures solve_causes { (file : List ℕ) (budget : ℕ) (asked : Option ProofForm) → NamesJob (map string_bytes words.now) (solve file budget asked)
-        → Meets (AnswersSource most_of_file (IsSolveCausedAs asked budget) (S.bytes_of source.old file)) result (K.taken sink.old) (K.taken sink.new) }
-    ensures elim_causes { (file : List ℕ) (budget : ℕ) → NamesJob (map string_bytes words.now) (eliminate file budget)
-        → Meets (AnswersSource most_of_file (IsElimCaused budget) (S.bytes_of source.old file)) result (K.taken sink.old) (K.taken sink.new) }
-    ensures least_causes { (file term : List ℕ) (budget : ℕ) → NamesJob (map string_bytes words.now) (minimise file term budget)
-        → Meets (AnswersSource most_of_file (IsLeastCaused (record { truth = W.truth world.now; value = W.value world.now }) term budget) (S.bytes_of source.old file)) result (K.taken sink.old) (K.taken sink.new) }
-    ensures check_causes { (file proof : List ℕ) → NamesJob (map string_bytes words.now) (check file proof)
-        → Meets (AnswersSource most_of_file (IsCheckCaused (S.bytes_of source.old proof)) (S.bytes_of source.old file)) result (K.taken sink.old) (K.taken sink.new) }
-    ensures drilled { (count budget : ℕ) → NamesJob (map string_bytes words.now) (drill count budget)
-        → Meets (IsDrillCaused (record { truth = W.truth world.now; value = W.value world.now }) budget count) result (K.taken sink.old) (K.taken sink.new) }
-    ensures unread { NameNoFile (map string_bytes words.now) → source.new ≡ source.old }
-    ensures begun { (task : Task) → NamesJob (map string_bytes words.now) task → files_of task ≢ [] → result ≢ 8 → IsJobFile task (S.at source.new) }
-    ensures listed { (task : Task) → NamesJob (map string_bytes words.now) task → result ≢ 6 → result ≢ 8
-        → AreBegun (S.bytes_of source.old) task (S.names source.old) (S.names source.new) }
-    ensures front { (task : Task) → NamesJob (map string_bytes words.now) task → BeginsFront (files_of task) (S.names source.old) (S.names source.new) }
-    ensures moved { (task : Task) → NamesJob (map string_bytes words.now) task → GrowsAtMost (S.moved source.old) (S.moved source.new) (most_moved task) }
-    ensures source_failed { result ≡ 6 → Rose (S.faults source.old) (S.faults source.new) }
-    ensures named { result ≡ 6 → (task : Task) × NamesJob (map string_bytes words.now) task × BrokeAt task (S.at source.new) (S.broken source.new) }
-    ensures sink_failed { result ≡ 7 → Rose (K.faults sink.old) (K.faults sink.new) }
-    ensures silent { (result ≡ 6) ⊎ (result ≡ 8) → sink.new ≡ sink.old }
+    ensures no_job { AskForNothing words.now
+        → Meets (λ answer. answer ≡ words_answer) result (K.taken sink.old) (K.taken sink.new) }
+    ensures valid { (file : List ℕ) (budget : ℕ) (asked : Option ProofForm) → AskFor words.now (solve file budget asked) → result ≡ 0
+        → SaysValid (W.meaning world.now) asked (S.bytes_of source.old file) (K.taken sink.old) (K.taken sink.new) }
+    ensures refuted { (file : List ℕ) (budget : ℕ) (asked : Option ProofForm) → AskFor words.now (solve file budget asked)
+        → result ≡ 1 → SaysRefuted asked (S.bytes_of source.old file) (K.taken sink.old) (K.taken sink.new) }
+    ensures checked { (file proof : List ℕ) → AskFor words.now (check file proof) → result ≡ 0
+        → SaysChecked (W.meaning world.now) (S.bytes_of source.old file) (K.taken sink.old) (K.taken sink.new) }
+    ensures constraint { (file : List ℕ) (budget : ℕ) → AskFor words.now (eliminate file budget) → result ≡ 0
+        → SaysConstraint (W.meaning world.now) (S.bytes_of source.old file) (K.taken sink.old) (K.taken sink.new) }
+    ensures scripted { (file : List ℕ) (budget : ℕ) → AskFor words.now (run_script file budget) → (result ≡ 0) ⊎ (result ≡ 2)
+        → SaysScript (W.meaning world.now) (S.bytes_of source.old file) (K.taken sink.old) (K.taken sink.new) }
+    ensures minimised { (file term : List ℕ) (budget : ℕ) → AskFor words.now (minimise file term budget) → result ≡ 0
+        → SaysLeast (W.meaning world.now) term (S.bytes_of source.old file) (K.taken sink.old) (K.taken sink.new) }
+    ensures nowhere { (file term : List ℕ) (budget : ℕ) → AskFor words.now (minimise file term budget) → result ≡ 1
+        → SaysNowhere (W.meaning world.now) (S.bytes_of source.old file) }
+    ensures solve_causes { (file : List ℕ) (budget : ℕ) (asked : Option ProofForm) → AskFor words.now (solve file budget asked)
+        → MeetsFile (IsSolveCausedAs asked budget) (S.bytes_of source.old file) result (K.taken sink.old) (K.taken sink.new) }
+    ensures elim_causes { (file : List ℕ) (budget : ℕ) → AskFor words.now (eliminate file budget)
+        → MeetsFile (IsElimCaused budget) (S.bytes_of source.old file) result (K.taken sink.old) (K.taken sink.new) }
+    ensures least_causes { (file term : List ℕ) (budget : ℕ) → AskFor words.now (minimise file term budget)
+        → MeetsFile (IsLeastCaused (W.meaning world.now) term budget) (S.bytes_of source.old file) result (K.taken sink.old) (K.taken sink.new) }
+    ensures check_causes { (file proof : List ℕ) → AskFor words.now (check file proof)
+        → MeetsFile (IsCheckCaused (S.bytes_of source.old proof)) (S.bytes_of source.old file) result (K.taken sink.old) (K.taken sink.new) }
+    ensures drilled { (count budget : ℕ) → AskFor words.now (drill count budget)
+        → Meets (IsDrillCaused (W.meaning world.now) budget count) result (K.taken sink.old) (K.taken sink.new) }
     ensures status { IsStatus result }
+    ensures unread { AskForNoFile words.now → source.new ≡ source.old }
+    ensures begun { (task : Task) → AskFor words.now task → files_of task ≢ [] → result ≢ 8 → IsJobFile task (S.at source.new) }
+    ensures listed { (task : Task) → AskFor words.now task → result ≢ 6 → result ≢ 8
+        → AreBegun (S.bytes_of source.old) task (S.names source.old) (S.names source.new) }
+    ensures front { (task : Task) → AskFor words.now task → BeginsFront (files_of task) (S.names source.old) (S.names source.new) }
+    ensures moved { (task : Task) → AskFor words.now task → GrowsAtMost (S.moved source.old) (S.moved source.new) (most_moved task) }
+    ensures source_failed { result ≡ 6 → Rose (S.faults source.old) (S.faults source.new) }
+    ensures named { result ≡ 6 → (task : Task) × AskFor words.now task × BrokeAt task (S.at source.new) (S.broken source.new) }
+    ensures sink_failed { result ≡ 7 → Rose (K.faults sink.old) (K.faults sink.new) }
+    ensures no_fault { result ≢ 7 → K.faults sink.new ≡ K.faults sink.old }
+    ensures silent { (result ≡ 6) ⊎ (result ≡ 8) → sink.new ≡ sink.old }
 {
     words_law();
     match job(alloc, words) {
@@ -88,6 +92,7 @@ fn do_job<S: Source, K: Sink>(alloc: Global, source: &mut S, sink: &mut K, job: 
     ensures source_failed { result ≡ 6 → Rose (S.faults source.old) (S.faults source.new) }
     ensures named { result ≡ 6 → BrokeAt (task_of job.now) (S.at source.new) (S.broken source.new) }
     ensures sink_failed { result ≡ 7 → Rose (K.faults sink.old) (K.faults sink.new) }
+    ensures no_fault { result ≢ 7 → K.faults sink.new ≡ K.faults sink.old }
     ensures silent { (result ≡ 6) ⊎ (result ≡ 8) → sink.new ≡ sink.old }
     ensures status { IsStatus result }
 {
