@@ -1,7 +1,7 @@
 // The top call: the words, then the files of their job, then its answer, then the text of the answer.
 
 ghost use Rattle.base_answers.specs.Answer.{IsStatus, words_answer};
-ghost ghost use Rattle.base_answers.specs.Outside.{Meets};
+ghost use Rattle.base_answers.specs.Outside.{Meets};
 ghost use Rattle.base_answers.specs.declared.form.ProofForm.{ProofForm};
 ghost use Rattle.job_words.specs.Jobs.{Task, check, drill, eliminate, files_of, minimise, run_script, solve, task_of};
 ghost use Rattle.prover_io.specs.Outside.{BeginsFront, GrowsAtMost, Rose};
@@ -16,14 +16,15 @@ use job_words::{Job, WordsFault, job, words_law};
 use prover_io::{Sink, Source};
 use std::alloc::Global;
 
-/// Does the job that the words name, and answers the exit status: 0 valid, or the constraint is made, or the proof is accepted, or
-/// the least value is found or there is none, or each check of the script is answered, 1 invalid, or the problem holds nowhere,
-/// 2 unknown, or a check of the script is, 3 the file is refused, 4 the proof is refused, 5 the words name no job, 6 the source
-/// failed, 7 the sink failed, 8 no memory, 9 the file or the proof's file is too long. `drill` answers as `solve` does to the
-/// problem that it makes. The interpretation has no call, so what is promised in it is promised in every one.
+/// Does the job that the words ask for, and answers the exit status: 0 valid, or the constraint is made, or the proof
+/// is accepted, or the least value is found or there is none, or each check of the script is answered; 1 invalid, or
+/// the problem holds nowhere; 2 unknown, or a check of the script is; 3 the file is refused; 4 the proof is refused;
+/// 5 the words ask for no job; 6 the source failed; 7 the sink failed; 8 no memory; 9 the file or the proof's file is
+/// too long. `drill` answers as `solve` does to the problem that it makes. The interpretation has no call, so what is promised in
+/// it is promised in every one.
 ///
-/// The first clauses say which answer is put, the next ones what it means in the interpretation, then where each answer comes, and
-/// the last ones what the run did to its files and its sink.
+/// The first clauses say which answer is put, the next ones what it means in the interpretation, then where each answer
+/// comes, and the last ones what the run did to its files and its sink.
 pub fn run<S: Source, K: Sink, W: World>(
     alloc: Global,
     words: &[String],
@@ -35,39 +36,52 @@ pub fn run<S: Source, K: Sink, W: World>(
         → Meets (AnswersTask (S.bytes_of source.old) task) result (K.taken sink.old) (K.taken sink.new) }
     ensures no_job { AskForNothing words.now
         → Meets (λ answer. answer ≡ words_answer) result (K.taken sink.old) (K.taken sink.new) }
-    ensures valid { (file : List ℕ) (budget : ℕ) (asked : Option ProofForm) → AskFor words.now (solve file budget asked) → result ≡ 0
+    ensures valid { (file : List ℕ) (budget : ℕ) (asked : Option ProofForm)
+        → AskFor words.now (solve file budget asked)
+        → result ≡ 0
         → SaysValid (W.meaning world.now) asked (S.bytes_of source.old file) (K.taken sink.old) (K.taken sink.new) }
-    ensures refuted { (file : List ℕ) (budget : ℕ) (asked : Option ProofForm) → AskFor words.now (solve file budget asked)
+    ensures refuted { (file : List ℕ) (budget : ℕ) (asked : Option ProofForm)
+        → AskFor words.now (solve file budget asked)
         → result ≡ 1 → SaysRefuted asked (S.bytes_of source.old file) (K.taken sink.old) (K.taken sink.new) }
     ensures checked { (file proof : List ℕ) → AskFor words.now (check file proof) → result ≡ 0
         → SaysChecked (W.meaning world.now) (S.bytes_of source.old file) (K.taken sink.old) (K.taken sink.new) }
     ensures constraint { (file : List ℕ) (budget : ℕ) → AskFor words.now (eliminate file budget) → result ≡ 0
         → SaysConstraint (W.meaning world.now) (S.bytes_of source.old file) (K.taken sink.old) (K.taken sink.new) }
-    ensures scripted { (file : List ℕ) (budget : ℕ) → AskFor words.now (run_script file budget) → (result ≡ 0) ⊎ (result ≡ 2)
+    ensures scripted { (file : List ℕ) (budget : ℕ) → AskFor words.now (run_script file budget)
+        → (result ≡ 0) ⊎ (result ≡ 2)
         → SaysScript (W.meaning world.now) (S.bytes_of source.old file) (K.taken sink.old) (K.taken sink.new) }
     ensures minimised { (file term : List ℕ) (budget : ℕ) → AskFor words.now (minimise file term budget) → result ≡ 0
         → SaysLeast (W.meaning world.now) term (S.bytes_of source.old file) (K.taken sink.old) (K.taken sink.new) }
     ensures nowhere { (file term : List ℕ) (budget : ℕ) → AskFor words.now (minimise file term budget) → result ≡ 1
         → SaysNowhere (W.meaning world.now) (S.bytes_of source.old file) }
-    ensures solve_causes { (file : List ℕ) (budget : ℕ) (asked : Option ProofForm) → AskFor words.now (solve file budget asked)
-        → MeetsFile (IsSolveCausedAs asked budget) (S.bytes_of source.old file) result (K.taken sink.old) (K.taken sink.new) }
+    ensures solve_causes { (file : List ℕ) (budget : ℕ) (asked : Option ProofForm)
+        → AskFor words.now (solve file budget asked)
+        → MeetsFile (IsSolveCausedAs asked budget) (S.bytes_of source.old file)
+        result (K.taken sink.old) (K.taken sink.new) }
     ensures elim_causes { (file : List ℕ) (budget : ℕ) → AskFor words.now (eliminate file budget)
-        → MeetsFile (IsElimCaused budget) (S.bytes_of source.old file) result (K.taken sink.old) (K.taken sink.new) }
+        → MeetsFile (IsElimCaused budget) (S.bytes_of source.old file)
+        result (K.taken sink.old) (K.taken sink.new) }
     ensures least_causes { (file term : List ℕ) (budget : ℕ) → AskFor words.now (minimise file term budget)
-        → MeetsFile (IsLeastCaused (W.meaning world.now) term budget) (S.bytes_of source.old file) result (K.taken sink.old) (K.taken sink.new) }
+        → MeetsFile (IsLeastCaused (W.meaning world.now) term budget) (S.bytes_of source.old file)
+        result (K.taken sink.old) (K.taken sink.new) }
     ensures check_causes { (file proof : List ℕ) → AskFor words.now (check file proof)
-        → MeetsFile (IsCheckCaused (S.bytes_of source.old proof)) (S.bytes_of source.old file) result (K.taken sink.old) (K.taken sink.new) }
+        → MeetsFile (IsCheckCaused (S.bytes_of source.old proof)) (S.bytes_of source.old file)
+        result (K.taken sink.old) (K.taken sink.new) }
     ensures drilled { (count budget : ℕ) → AskFor words.now (drill count budget)
         → Meets (IsDrillCaused (W.meaning world.now) budget count) result (K.taken sink.old) (K.taken sink.new) }
     ensures status { IsStatus result }
     ensures unread { AskForNoFile words.now → source.new ≡ source.old }
-    ensures begun { (task : Task) → AskFor words.now task → files_of task ≢ [] → result ≢ 8 → IsJobFile task (S.at source.new) }
+    ensures begun { (task : Task) → AskFor words.now task → files_of task ≢ [] → result ≢ 8
+        → IsJobFile task (S.at source.new) }
     ensures listed { (task : Task) → AskFor words.now task → result ≢ 6 → result ≢ 8
         → AreBegun (S.bytes_of source.old) task (S.names source.old) (S.names source.new) }
-    ensures front { (task : Task) → AskFor words.now task → BeginsFront (files_of task) (S.names source.old) (S.names source.new) }
-    ensures moved { (task : Task) → AskFor words.now task → GrowsAtMost (S.moved source.old) (S.moved source.new) (most_moved task) }
+    ensures front { (task : Task) → AskFor words.now task
+        → BeginsFront (files_of task) (S.names source.old) (S.names source.new) }
+    ensures moved { (task : Task) → AskFor words.now task
+        → GrowsAtMost (S.moved source.old) (S.moved source.new) (most_moved task) }
     ensures source_failed { result ≡ 6 → Rose (S.faults source.old) (S.faults source.new) }
-    ensures named { result ≡ 6 → (task : Task) × AskFor words.now task × BrokeAt task (S.at source.new) (S.broken source.new) }
+    ensures named { result ≡ 6
+        → (task : Task) × AskFor words.now task × BrokeAt task (S.at source.new) (S.broken source.new) }
     ensures sink_failed { result ≡ 7 → Rose (K.faults sink.old) (K.faults sink.new) }
     ensures no_fault { result ≢ 7 → K.faults sink.new ≡ K.faults sink.old }
     ensures silent { (result ≡ 6) ⊎ (result ≡ 8) → sink.new ≡ sink.old }
@@ -83,9 +97,11 @@ pub fn run<S: Source, K: Sink, W: World>(
 // Does a job, and answers the exit status.
 fn do_job<S: Source, K: Sink>(alloc: Global, source: &mut S, sink: &mut K, job: &Job) -> u8
     requires { IsSmallTask (task_of job.now) }
-    ensures answered { Meets (AnswersTask (S.bytes_of source.old) (task_of job.now)) result (K.taken sink.old) (K.taken sink.new) }
+    ensures answered { Meets (AnswersTask (S.bytes_of source.old) (task_of job.now))
+        result (K.taken sink.old) (K.taken sink.new) }
     ensures begun { files_of (task_of job.now) ≢ [] → result ≢ 8 → IsJobFile (task_of job.now) (S.at source.new) }
-    ensures listed { result ≢ 6 → result ≢ 8 → AreBegun (S.bytes_of source.old) (task_of job.now) (S.names source.old) (S.names source.new) }
+    ensures listed { result ≢ 6 → result ≢ 8
+        → AreBegun (S.bytes_of source.old) (task_of job.now) (S.names source.old) (S.names source.new) }
     ensures front { BeginsFront (files_of (task_of job.now)) (S.names source.old) (S.names source.new) }
     ensures moved { GrowsAtMost (S.moved source.old) (S.moved source.new) (most_moved (task_of job.now)) }
     ensures unread { files_of (task_of job.now) ≡ [] → source.new ≡ source.old }
