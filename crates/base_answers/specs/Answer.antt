@@ -45,9 +45,13 @@ words_answer = says_line 5 (codes "refused words")
 abbrev pub long_answer : Answer
 long_answer = says_line 9 (codes "refused: file too long")
 
--- the statuses that answers have
+-- the statuses that answers of jobs have
 abbrev pub IsAnswerStatus : ℕ → Type 0
-IsAnswerStatus status = IsTrue (list_any (λ s. s == status) (0 ∷ 1 ∷ 2 ∷ 3 ∷ 4 ∷ 5 ∷ 9 ∷ []))
+IsAnswerStatus status = IsTrue (list_any (λ s. s == status) (0 ∷ 1 ∷ 2 ∷ 3 ∷ 4 ∷ 9 ∷ []))
+
+-- the statuses that come with a text: those of answers, and 5 where the words are refused
+abbrev pub IsTextStatus : ℕ → Type 0
+IsTextStatus status = IsTrue (list_any (λ s. s == status) (0 ∷ 1 ∷ 2 ∷ 3 ∷ 4 ∷ 5 ∷ 9 ∷ []))
 
 -- the statuses that a run ends with: those of answers, and 6, 7 and 8
 abbrev pub IsStatus : ℕ → Type 0

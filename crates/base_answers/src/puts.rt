@@ -1,6 +1,6 @@
 // Putting the text of an answer to a sink.
 
-ghost use Rattle.base_answers.specs.Answer.{IsAnswerStatus, IsStatus};
+ghost use Rattle.base_answers.specs.Answer.{IsStatus, IsTextStatus};
 ghost use Rattle.base_answers.specs.Outside.{Meets, PutsAll, PutsPart};
 ghost use Rattle.prover_io.specs.Outside.{Rose};
 ghost use Rattle.std.specs.Prelude.{◌≡◌, ◌≢◌, ◌≤◌, ◌⊎◌, OnOk, OnErr};
@@ -27,7 +27,7 @@ pub fn put_all<K: Sink>(sink: &mut K, text: &[u8]) -> Result<(), Failed>
 
 /// Puts the text of an answer, and answers its status, or 7 where the sink fails.
 pub fn put_answer<K: Sink>(sink: &mut K, status: u8, text: &[u8]) -> u8
-    requires { IsAnswerStatus status }
+    requires { IsTextStatus status }
     ensures met { Meets (λ answer. answer ≡ record { status = status; text = text.now }) result (K.taken sink.old) (K.taken sink.new) }
     ensures ends { (result ≡ status) ⊎ (result ≡ 7) }
     ensures status { IsStatus result }

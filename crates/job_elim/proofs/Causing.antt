@@ -7,11 +7,11 @@ use Rattle.base_answers.specs.Answer.{Answer, placed, refused_answer, unknown_an
 use Rattle.pri_problem.specs.Reads.{Refusal}
 use Rattle.pri_problem.specs.Refusals.{refusal_name}
 use Rattle.pri_problem.specs.Refused.{ComesOf}
-use Rattle.pri_problem.proofs.Naming.{comes_of, not_impure, not_large}
+use Rattle.pri_problem.proofs.Naming.{comes_of, impure_names, large_apart, not_impure, not_large}
 use Rattle.pri_problem.specs.Answers.{Poses, refused, posed}
-use Rattle.pri_problem.specs.Encoded.{Fits, LeavesRange, impure, pure, large, leaves, runs}
+use Rattle.pri_problem.specs.Encoded.{Fits, IsLarge, LeavesRange, impure, pure, large, leaves, runs}
 use Rattle.job_elim.specs.Eliminated.{AnswersElimEnd, made, steps, overflow, elimination_end, IsEliminated}
-use Rattle.pri_problem.specs.Pure.{PosesPure}
+use Rattle.pri_problem.specs.Pure.{ComesOfImpure, PosesPure}
 use Rattle.job_elim.specs.Causes as cause
 use Rattle.job_elim.specs.Causes.{ElimEnds, IsElimRefused, ElimCauses, ElimDecides}
 use Rattle.job_elim.proofs.Exactly.{by_end, end_answer, one_answer, elimination_answered}
@@ -101,6 +101,17 @@ only_first budget bytes a eliminated r e (cause.first q h) = comes_of bytes a r 
 only_first budget bytes a eliminated r e (cause.impure at h) = absurd (not_impure a r at e (one_answer budget bytes a _ eliminated (posed h.0 h.1 (impure at h.2 refl))))
 only_first budget bytes a eliminated r e (cause.too_large h) = absurd (not_large a r e (one_answer budget bytes a _ eliminated (posed h.0 h.1 (pure h.2.0 (large h.2.1 refl)))))
 
+-- so does that of an application, and that of a large encoding
+impure_of : (budget : ℕ) (bytes : List ℕ) (a : Answer) → IsEliminated budget bytes a → (at : ℕ) → a ≡ refused_answer (placed (codes "Impure") at) → IsElimRefused bytes → ComesOfImpure bytes at
+impure_of budget bytes a eliminated at e (cause.first r h) = absurd (not_impure a r at (one_answer budget bytes a _ eliminated (refused r h refl)) e)
+impure_of budget bytes a eliminated at e (cause.impure i h) = (i, h, impure_names a i at (one_answer budget bytes a _ eliminated (posed h.0 h.1 (impure i h.2 refl))) e)
+impure_of budget bytes a eliminated at e (cause.too_large h) = absurd (large_apart a at (one_answer budget bytes a _ eliminated (posed h.0 h.1 (pure h.2.0 (large h.2.1 refl)))) e)
+
+large_of : (budget : ℕ) (bytes : List ℕ) (a : Answer) → IsEliminated budget bytes a → a ≡ refused_answer (codes "Large") → IsElimRefused bytes → PosesPure bytes IsLarge
+large_of budget bytes a eliminated e (cause.first r h) = absurd (not_large a r (one_answer budget bytes a _ eliminated (refused r h refl)) e)
+large_of budget bytes a eliminated e (cause.impure i h) = absurd (large_apart a i e (one_answer budget bytes a _ eliminated (posed h.0 h.1 (impure i h.2 refl))))
+large_of budget bytes a eliminated e (cause.too_large h) = h
+
 out_of_range : (budget : ℕ) (bytes : List ℕ) (a : Answer) → IsEliminated budget bytes a → PosesPure bytes LeavesRange ⊎ ElimEnds budget bytes IsOutOfRange → a ≡ unknown_answer (codes "overflow")
 out_of_range budget bytes a eliminated (inl h) = one_answer budget bytes a _ eliminated (posed h.0 h.1 (pure h.2.0 (leaves h.2.1 refl)))
 out_of_range budget bytes a eliminated (inr h) = ended budget bytes a h.0 _ eliminated h.1 h.2.0 h.2.1.0 h.2.1.1.2
@@ -124,7 +135,11 @@ causes budget bytes a eliminated = record {
   refused = λ r h. one_answer budget bytes a _ eliminated (refused r h refl);
   only = λ r e. only_first budget bytes a eliminated r e (refused_by budget bytes a eliminated (ap status_of e));
   impure = λ at h. one_answer budget bytes a _ eliminated (posed h.0 h.1 (impure at h.2 refl));
-  large = λ h. one_answer budget bytes a _ eliminated (posed h.0 h.1 (pure h.2.0 (large h.2.1 refl)));
+  impure_only = λ at e. impure_of budget bytes a eliminated at e (refused_by budget bytes a eliminated (ap status_of e));
+  large = (
+    λ e. large_of budget bytes a eliminated e (refused_by budget bytes a eliminated (ap status_of e)),
+    λ h. one_answer budget bytes a _ eliminated (posed h.0 h.1 (pure h.2.0 (large h.2.1 refl))),
+  );
 }
 
 -- ---- what is always made

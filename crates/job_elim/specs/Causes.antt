@@ -8,7 +8,7 @@ use Rattle.pri_problem.specs.Reads.{Refusal, FirstRefusal}
 use Rattle.pri_problem.specs.Refusals.{refusal_name}
 use Rattle.pri_problem.specs.Refused.{ComesOf}
 use Rattle.pri_problem.specs.Answers.{Poses}
-use Rattle.pri_problem.specs.Pure.{PosesImpure, PosesPure}
+use Rattle.pri_problem.specs.Pure.{ComesOfImpure, PosesImpure, PosesPure}
 use Rattle.pri_problem.specs.Encoded.{Fits, IsLarge, LeavesRange}
 use Rattle.job_elim.specs.Eliminated.{elimination_end}
 
@@ -32,7 +32,8 @@ pub record ElimCauses (budget : ℕ) (bytes : List ℕ) (answer : Answer) : Type
   pub refused : (r : Refusal) → FirstRefusal bytes r → answer ≡ refused_answer (refusal_name r)
   pub only : (r : Refusal) → answer ≡ refused_answer (refusal_name r) → ComesOf bytes r
   pub impure : (at : ℕ) → PosesImpure bytes at → answer ≡ refused_answer (placed (codes "Impure") at)
-  pub large : PosesPure bytes IsLarge → answer ≡ refused_answer (codes "Large")
+  pub impure_only : (at : ℕ) → answer ≡ refused_answer (placed (codes "Impure") at) → ComesOfImpure bytes at
+  pub large : (answer ≡ refused_answer (codes "Large")) ↔ PosesPure bytes IsLarge
 
 -- a problem without applications whose encoding fits gets its constraint, unless the budget ends or a number leaves the range
 abbrev pub ElimDecides : ℕ → List ℕ → Answer → Type 0

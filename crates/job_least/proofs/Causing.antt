@@ -12,9 +12,10 @@ use Rattle.base_answers.specs.Answer.{Answer, placed, refused_answer, unknown_an
 use Rattle.pri_problem.specs.Reads.{Refusal, unread, untyped}
 use Rattle.pri_problem.specs.Refusals.{refusal_name}
 use Rattle.pri_problem.specs.Refused.{ComesOf}
-use Rattle.pri_problem.proofs.Naming.{comes_of, not_impure, not_large}
+use Rattle.pri_problem.specs.Pure.{ComesOfImpure}
+use Rattle.pri_problem.proofs.Naming.{comes_of, impure_names, large_apart, not_impure, not_large}
 use Rattle.pri_problem.specs.Answers.{Poses, refused, posed}
-use Rattle.pri_problem.specs.Encoded.{Fits, LeavesRange, impure, pure, large, leaves, runs}
+use Rattle.pri_problem.specs.Encoded.{Fits, IsLarge, LeavesRange, impure, pure, large, leaves, runs}
 use Rattle.pri_problem.proofs.Encoded.{fitting_answered}
 use Rattle.job_least.specs.Objective.{IsObjective}
 use Rattle.job_least.specs.Leasts.{AnswersConstraint, AnswersLeast, AnswersMinimum, AnswersObjective, AnswersWork, IsLeastAnswer, constraint_of, gives, objective_of, overflow, refused_text, stated, steps}
@@ -151,6 +152,25 @@ objective_by term budget bytes a (posed p h (pure k (stated x o (leaves l e)))) 
 objective_by term budget bytes a (posed p h (pure k (stated x o (runs f r)))) z =
     absurd (told_outcome p (least_outcome budget x p) (sym (ap status_of (least_answered budget x p a r)) ∙ ap status_of z))
 
+-- a text that names an application, and one that names a large encoding, come of that alone
+impure_by : (term : List ℕ) (budget : ℕ) (bytes : List ℕ) (a : Answer) → IsLeastAnswer term budget bytes a → (at : ℕ) → a ≡ refused_answer (placed (codes "Impure") at) → ComesOfImpure bytes at
+impure_by term budget bytes a (refused r h e) at z = absurd (not_impure a r at e z)
+impure_by term budget bytes a (posed p h (impure i k e)) at z = (i, (p, h, k), impure_names a i at e z)
+impure_by term budget bytes a (posed p h (pure k (refused_text n e))) at z = absurd (omega (arith, ap name_byte (sym e ∙ z)))
+impure_by term budget bytes a (posed p h (pure k (stated x o (large l e)))) at z = absurd (large_apart a at e z)
+impure_by term budget bytes a (posed p h (pure k (stated x o (leaves l e)))) at z = let bad = ap status_of (sym e ∙ z) in absurd cc
+impure_by term budget bytes a (posed p h (pure k (stated x o (runs f r)))) at z =
+    absurd (told_outcome p (least_outcome budget x p) (sym (ap status_of (least_answered budget x p a r)) ∙ ap status_of z))
+
+large_by : (term : List ℕ) (budget : ℕ) (bytes : List ℕ) (a : Answer) → IsLeastAnswer term budget bytes a → a ≡ refused_answer (codes "Large") → PosesTerm term bytes (λ p x. IsLarge p)
+large_by term budget bytes a (refused r h e) z = absurd (not_large a r e z)
+large_by term budget bytes a (posed p h (impure i k e)) z = absurd (large_apart a i z e)
+large_by term budget bytes a (posed p h (pure k (refused_text n e))) z = absurd (omega (arith, ap name_byte (sym e ∙ z)))
+large_by term budget bytes a (posed p h (pure k (stated x o (large l e)))) z = (p, h, (k, (x, o, l)))
+large_by term budget bytes a (posed p h (pure k (stated x o (leaves l e)))) z = let bad = ap status_of (sym e ∙ z) in absurd cc
+large_by term budget bytes a (posed p h (pure k (stated x o (runs f r)))) z =
+    absurd (told_outcome p (least_outcome budget x p) (sym (ap status_of (least_answered budget x p a r)) ∙ ap status_of z))
+
 -- ---- from a cause to its answer
 
 -- where the work comes out so, the answer is that of the outcome
@@ -210,5 +230,6 @@ causes term budget bytes a answered = record {
   refused = λ r h. one_answer term budget bytes a _ answered (refused r h refl);
   only = λ r e. only_first term budget bytes a answered r e (refused_by term budget bytes a answered (ap status_of e));
   impure = λ at h. one_answer term budget bytes a _ answered (posed h.0 h.1 (impure at h.2 refl));
-  large = λ h. one_answer term budget bytes a _ answered (posed h.0 h.1 (pure h.2.0 (stated h.2.1.0 h.2.1.1 (large h.2.1.2 refl))));
+  impure_only = impure_by term budget bytes a answered;
+  large = (large_by term budget bytes a answered, λ h. one_answer term budget bytes a _ answered (posed h.0 h.1 (pure h.2.0 (stated h.2.1.0 h.2.1.1 (large h.2.1.2 refl)))));
 }

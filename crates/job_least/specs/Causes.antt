@@ -7,7 +7,7 @@ use Rattle.pri_problem.specs.Reads.{Refusal, FirstRefusal}
 use Rattle.pri_problem.specs.Refusals.{refusal_name}
 use Rattle.pri_problem.specs.Refused.{ComesOf}
 use Rattle.pri_problem.specs.Answers.{Poses}
-use Rattle.pri_problem.specs.Pure.{PosesImpure, PosesPure}
+use Rattle.pri_problem.specs.Pure.{ComesOfImpure, PosesImpure, PosesPure}
 use Rattle.pri_problem.specs.Encoded.{Fits, IsLarge, LeavesRange}
 use Rattle.optimiser.specs.Least.{Minimum, nothing}
 use Rattle.job_least.specs.Objective.{IsNoObjective, IsObjective}
@@ -48,4 +48,5 @@ pub record LeastCauses (term : List ℕ) (budget : ℕ) (bytes : List ℕ) (answ
   pub refused : (r : Refusal) → FirstRefusal bytes r → answer ≡ refused_answer (refusal_name r)
   pub only : (r : Refusal) → answer ≡ refused_answer (refusal_name r) → ComesOf bytes r
   pub impure : (at : ℕ) → PosesImpure bytes at → answer ≡ refused_answer (placed (codes "Impure") at)
-  pub large : PosesTerm term bytes (λ p x. IsLarge p) → answer ≡ refused_answer (codes "Large")
+  pub impure_only : (at : ℕ) → answer ≡ refused_answer (placed (codes "Impure") at) → ComesOfImpure bytes at
+  pub large : (answer ≡ refused_answer (codes "Large")) ↔ PosesTerm term bytes (λ p x. IsLarge p)

@@ -86,6 +86,13 @@ not_large a r e f = large_letters r (ap letters (name_same (refusal_name r) (cod
 pub not_impure : (a : Answer) (r : Refusal) (at : ℕ) → a ≡ refused_answer (refusal_name r) → a ≡ refused_answer (placed (codes "Impure") at) → ⊥
 not_impure a r at e f = impure_letters r (ap letters (name_same (refusal_name r) (placed (codes "Impure") at) (sym e ∙ f)))
 
+-- nor are these two the same
+pub large_apart : (a : Answer) (at : ℕ) → a ≡ refused_answer (codes "Large") → a ≡ refused_answer (placed (codes "Impure") at) → ⊥
+large_apart a at e f = let same : 76114 ≡ 73112 = ap letters (name_same (codes "Large") (placed (codes "Impure") at) (sym e ∙ f)) in omega (arith, same)
+
+pub impure_names : (a : Answer) (i at : ℕ) → a ≡ refused_answer (placed (codes "Impure") i) → a ≡ refused_answer (placed (codes "Impure") at) → placed (codes "Impure") i ≡ placed (codes "Impure") at
+impure_names a i at e f = name_same (placed (codes "Impure") i) (placed (codes "Impure") at) (sym e ∙ f)
+
 -- it is that of the first refusal
 pub comes_of : (bytes : List ℕ) (a : Answer) (r q : Refusal) → a ≡ refused_answer (refusal_name r) → FirstRefusal bytes q → a ≡ refused_answer (refusal_name q) → ComesOf bytes r
 comes_of bytes a r q e first f = (q, first, name_same (refusal_name q) (refusal_name r) (sym f ∙ e))

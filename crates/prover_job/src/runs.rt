@@ -36,6 +36,7 @@ pub fn run<S: Source, K: Sink, W: World>(
         → Meets (AnswersTask (S.bytes_of source.old) task) result (K.taken sink.old) (K.taken sink.new) }
     ensures no_job { AskForNothing words.now
         → Meets (λ answer. answer ≡ words_answer) result (K.taken sink.old) (K.taken sink.new) }
+    ensures words_refused { result ≡ 5 → AskForNothing words.now }
     ensures valid { (file : List ℕ) (budget : ℕ) (asked : Option ProofForm)
         → AskFor words.now (solve file budget asked)
         → result ≡ 0
@@ -110,6 +111,7 @@ fn do_job<S: Source, K: Sink>(alloc: Global, source: &mut S, sink: &mut K, job: 
     ensures sink_failed { result ≡ 7 → Rose (K.faults sink.old) (K.faults sink.new) }
     ensures no_fault { result ≢ 7 → K.faults sink.new ≡ K.faults sink.old }
     ensures silent { (result ≡ 6) ⊎ (result ≡ 8) → sink.new ≡ sink.old }
+    ensures words { result ≢ 5 }
     ensures status { IsStatus result }
 {
     match job_output(alloc, source, job) {
