@@ -1,11 +1,11 @@
 -- What a run answers, and what its end means.
-use Rattle.std.proofs.Common.{◌≡◌, ◌≢◌, ◌≤◌, ◌⊎◌, inl, inr, ℕ, List, [], ◌∷◌, ◌++◌, length, Option, Some, None, Result, Ok, Err, IfOk, refl, sym, ◌∙◌, ap, subst, append-nil, arith}
+use Rattle.std.proofs.Common.{◌≡◌, ◌≢◌, ◌≤◌, ◌⊎◌, inl, inr, ℕ, List, [], ◌∷◌, ◌++◌, length, Option, Some, None, Result, Ok, Err, IfOk, refl, sym, ◌∙◌, ap, subst, append-nil, arith, Bool, true, false, ◌||◌, ◌==◌, IsTrue}
 use Rattle.form_typed.specs.Truth.{Meaning}
 use Rattle.form_typed.specs.Table.{meaning_of}
 use Rattle.prover_io.specs.Outside.{IsLonger, IsWhole}
 use Rattle.prover_io.specs.declared.whole.ReadFault.{ReadFault}
 use Rattle.prover_io.specs.declared.whole.ReadFault.TheVariants.{Long}
-use Rattle.base_answers.specs.Answer.{Answer, answer_of, long_answer, IsAnswerStatus}
+use Rattle.base_answers.specs.Answer.{Answer, answer_of, long_answer, IsAnswerStatus, IsTextStatus}
 use Rattle.base_answers.specs.declared.output.Output.{Output}
 use Rattle.base_answers.specs.Outside.{IsPutWhole, Meets, PutsAll}
 use Rattle.base_answers.specs.Files.{AnswersBytes, AnswersSource, most_of_file, most_of_proof, too_long, within}
@@ -96,6 +96,23 @@ task_status bytes_of (check file proof) a h = bytes_status most_of_file (Answers
 task_status bytes_of (drill count budget) a h = subst (λ b. IsAnswerStatus b.status) (sym h.drilled) (solved_status budget (drill_text count) h.solved h.solves)
 
 -- what ends with such a status or with 7 ends neither with 6 nor with 8
+-- a status of an answer comes with a text, and is not that of refused words
+more_true : (a b c d e f g : Bool) → IsTrue (a || (b || (c || (d || (e || (g || false)))))) → IsTrue (a || (b || (c || (d || (e || (f || (g || false)))))))
+more_true true b c d e f g h = refl
+more_true false true c d e f g h = refl
+more_true false false true d e f g h = refl
+more_true false false false true e f g h = refl
+more_true false false false false true f g h = refl
+more_true false false false false false true g h = refl
+more_true false false false false false false g h = h
+
+pub text_status : (status : ℕ) → IsAnswerStatus status → IsTextStatus status
+text_status status is = more_true (0 == status) (1 == status) (2 == status) (3 == status) (4 == status) (5 == status) (9 == status) is
+
+pub no_words : (status ends : ℕ) → IsAnswerStatus status → (ends ≡ status) ⊎ (ends ≡ 7) → ends ≢ 5
+no_words status ends is (inl e) five = let bad : IsAnswerStatus 5 = subst IsAnswerStatus (sym e ∙ five) is in absurd cc
+no_words status ends is (inr seven) five = absurd cc
+
 pub no_fault : (status ends : ℕ) → IsAnswerStatus status → (ends ≡ status) ⊎ (ends ≡ 7) → (ends ≡ 6) ⊎ (ends ≡ 8) → ⊥
 no_fault status ends is (inl e) (inl six) = let bad : IsAnswerStatus 6 = subst IsAnswerStatus (sym e ∙ six) is in absurd cc
 no_fault status ends is (inl e) (inr eight) = let bad : IsAnswerStatus 8 = subst IsAnswerStatus (sym e ∙ eight) is in absurd cc
