@@ -4,3 +4,4 @@ mod Printed
 mod TypedInner
 mod Output
 mod Opening
+mod Accepting
