@@ -8,7 +8,7 @@ use Rattle.pri_typing.specs.declared.problem.Problem.{Problem}
 use Rattle.pri_typing.specs.Problems.{Holds}
 use Rattle.form_encoding.specs.Plain.{IsPlain}
 use Rattle.optimiser.specs.Least.{Minimum, nothing, no_least, least_at, minimising}
-use Rattle.job_least.specs.PlainLeast.{LeastMeans, plain_value}
+use Rattle.job_least.proofs.PlainValues.{LeastMeans, plain_value}
 use Rattle.job_least.proofs.Terms.{plain_has}
 use Rattle.base_answers.specs.Answer.{Answer}
 use Rattle.pri_problem.proofs.Bytes.{reads_formed, reads_pure}

@@ -26,7 +26,7 @@ use Rattle.form_encoding.specs.Problems.{problem_root}
 use Rattle.form_encoding.specs.Root.{names_from}
 use Rattle.form_encoding.proofs.Problems.{holds_is, pure_is, root_over}
 use Rattle.form_encoding.proofs.Products.{IsTermLinear}
-use Rattle.job_least.specs.PlainLeast.{LeastMeans, plain_value}
+use Rattle.job_least.proofs.PlainValues.{LeastMeans, plain_value}
 use Rattle.job_least.proofs.PlainLeast.{means as least_means, same_value}
 use Rattle.job_least.proofs.Terms.{over_all, plain_has}
 use Rattle.base_answers.specs.Answer.{Answer}

@@ -11,7 +11,7 @@ use Rattle.optimiser.specs.Least.{Minimum, nothing, no_least, least_at, IsMinimu
 use Rattle.form_encoding.specs.Root.{names_from}
 use Rattle.form_encoding.specs.Plain.{IsPlain, linear_of}
 use Rattle.form_encoding.proofs.Products.{IsTermLinear}
-use Rattle.job_least.specs.PlainLeast.{plain_value, LeastMeans}
+use Rattle.job_least.proofs.PlainValues.{plain_value, LeastMeans}
 use Rattle.job_least.proofs.Terms.{plain_has, value_is, reads_all}
 
 has : (w : Meaning) (x : Expression) (e : List ℤ) (P : ℤ → Type 0) → IsPlain x → P (plain_value x e) → HasValue w x e P

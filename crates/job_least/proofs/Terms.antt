@@ -20,7 +20,7 @@ use Rattle.form_encoding.specs.Encoding.{named, product_of}
 use Rattle.form_encoding.specs.Root.{names_from}
 use Rattle.form_encoding.specs.Plain.{IsPlain, ArePlain, linear_of, linear_sum, linear_more}
 use Rattle.form_encoding.proofs.Products.{IsTermLinear, AreTermsLinear}
-use Rattle.job_least.specs.PlainLeast.{plain_value, plain_values}
+use Rattle.job_least.proofs.PlainValues.{plain_value, plain_values}
 
 mutual
   pub plain_has : (w : Meaning) (t : Expression) (e : List ℤ) (P : ℤ → Type 0) → IsPlain t → HasValue w t e P ≡ P (plain_value t e)

@@ -1,6 +1,5 @@
 pub mod Reads
 pub mod Plain
-pub mod PlainLeast
 pub mod Causes
 pub mod Decides
 pub mod Leasts
