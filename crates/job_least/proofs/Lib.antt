@@ -4,6 +4,7 @@ pub mod Limits
 pub mod Linears
 pub mod Terms
 pub mod PlainLeast
+pub mod PlainValues
 pub mod Causing
 pub mod Deciding
 pub mod Exactly
