@@ -1,8 +1,8 @@
 -- The token that is cut at the front of a text is at least as long as any that begins there.
-use Rattle.std.proofs.Common.{ℕ, zero, suc, ◌≡◌, ◌≤◌, ◌+◌, ◌==◌, Bool, true, false, List, [], ◌∷◌, ◌++◌, length, drop, refl, sym, ap, subst, ◌∙◌, arith, if◌then◌else◌, append_assoc, length-append}
+use Rattle.std.proofs.Common.{ℕ, zero, suc, ◌≡◌, ◌≤◌, ◌+◌, ◌==◌, not, Bool, true, false, List, [], ◌∷◌, ◌++◌, length, drop, refl, sym, ap, subst, ◌∙◌, arith, if◌then◌else◌, append_assoc, length-append, append-nil}
 use Rattle.std.proofs.Math.Seq.{drop-append_seam}
 use Rattle.std.specs.List.{list_all, prefix_len}
-use Rattle.std.specs.Char.{is_ascii_digit, is_ascii_hexdigit}
+use Rattle.std.specs.Char.{is_ascii_alphabetic, is_ascii_digit, is_ascii_hexdigit}
 use Rattle.std.proofs.lemmas.Bool.{eqb-true}
 use Rattle.base_numerals.proofs.Tests.{left_true, right_true, clash, at_byte}
 use Rattle.smt_tokens.specs.declared.terminals.Terminal.{Terminal}
@@ -11,8 +11,8 @@ use Rattle.smt_tokens.specs.declared.scanner.Piece.{Piece}
 use Rattle.smt_tokens.specs.declared.strings.Ending.{Ending}
 use Rattle.smt_tokens.specs.declared.strings.Ending.TheVariants as e
 use Rattle.smt_tokens.specs.Bytes.{is_white, is_symbol_byte, is_string_byte, is_bar_byte, is_binary_digit}
-use Rattle.smt_tokens.specs.Lexemes.{piece_of, named, blank, marked, number_piece, more_digits, fraction_len, fraction_of, enclosed, ending_from, string_ending_of, bars_ending_of, bars_end}
-use Rattle.smt_tokens.specs.Tokens.{is_run, begins, is_none, is_numeral, IsString, nothing, byte, pair, IsSpelled, opens, closes, numeral, decimal, hexadecimal, binary, string, keyword, symbol, quoted, IsScriptToken}
+use Rattle.smt_tokens.specs.Lexemes.{piece_of, named, blank, marked, number_piece, parted, number_before, more_digits, fraction_len, fraction_of, enclosed, ending_from, string_ending_of, bars_ending_of, bars_end}
+use Rattle.smt_tokens.specs.Tokens.{is_run, begins, is_none, is_numeral, IsString, nothing, byte, pair, is_number, IsSpelled, opens, closes, numeral, decimal, hexadecimal, binary, string, keyword, symbol, quoted, IsScriptToken}
 
 -- a run is no longer than the longest front that passes the test
 pub run_fits : (p : ℕ → Bool) (xs rest : List ℕ) → list_all p xs ≡ true → length xs ≤ prefix_len p (xs ++ rest)
@@ -29,6 +29,18 @@ run_is p (x ∷ xs) y rest a e =
     let here : p x ≡ true = left_true (p x) (list_all p xs) a in
     let more : prefix_len p (xs ++ y ∷ rest) ≡ length xs = run_is p xs y rest (right_true (p x) (list_all p xs) a) e in
     rw here (omega (arith, more))
+
+-- the same where the text ends
+pub run_whole : (p : ℕ → Bool) (xs : List ℕ) → list_all p xs ≡ true → prefix_len p xs ≡ length xs
+run_whole p [] a = refl
+run_whole p (x ∷ xs) a =
+    let here : p x ≡ true = left_true (p x) (list_all p xs) a in
+    let more : prefix_len p xs ≡ length xs = run_whole p xs (right_true (p x) (list_all p xs) a) in
+    rw here (omega (arith, more))
+
+pub run_before : (p : ℕ → Bool) (xs rest : List ℕ) → list_all p xs ≡ true → begins p rest ≡ false → prefix_len p (xs ++ rest) ≡ length xs
+run_before p xs [] a h = ap (prefix_len p) (append-nil xs) ∙ run_whole p xs a
+run_before p xs (y ∷ rest) a h = run_is p xs y rest a h
 
 -- the piece is a token of at least n bytes, and of this kind where it has no more
 pub record Reaches (kind : Terminal) (n : ℕ) (piece : Piece) : Type 0 where
@@ -64,7 +76,7 @@ other_byte p b n f h = by (b == n) refl
 no_white : (p : ℕ → Bool) (b : ℕ) → p 32 ≡ false → p 9 ≡ false → p 10 ≡ false → p 13 ≡ false → p b ≡ true → is_white b ≡ false
 no_white p b f g h i q = rw (other_byte p b 32 f q, other_byte p b 9 g q, other_byte p b 10 h q, other_byte p b 13 i q) refl
 
-pub digit_piece : (b : ℕ) (bs : List ℕ) → is_ascii_digit b ≡ true → piece_of b bs ≡ number_piece (1 + more_digits b bs) (fraction_len (drop (more_digits b bs) bs))
+pub digit_piece : (b : ℕ) (bs : List ℕ) → is_ascii_digit b ≡ true → piece_of b bs ≡ number_before bs (1 + more_digits b bs) (drop (more_digits b bs) bs)
 digit_piece b bs d =
     if_no (is_white b) _ _ _ (no_white is_ascii_digit b refl refl refl refl d)
     (if_no (b == 59) _ _ _ (other_byte is_ascii_digit b 59 refl d)
@@ -81,44 +93,62 @@ symbol_piece b bs s d =
     (if_no (is_ascii_digit b) _ _ _ d
     (if_yes (is_symbol_byte b) _ _ s)))))
 
--- a numeral or a decimal of so many bytes at least
-numeral_fits : (k n m : ℕ) → k ≤ n → Reaches t.Numeral k (number_piece n m)
-numeral_fits k n zero h = record { len = n; terminal = t.Numeral; is = refl; same = λ q. refl; not_bad = λ q. cc; finished = λ q. cc; fits = h }
-numeral_fits k n (suc m) h =
-    record { len = n + suc m; terminal = t.Decimal; is = refl; same = λ q. absurd (omega (arith, q, h)); not_bad = λ q. cc; finished = λ q. cc; fits = omega (arith, h) }
+-- Numbers.
 
-decimal_fits : (k n m : ℕ) → 1 ≤ m → k ≤ n + m → Reaches t.Decimal k (number_piece n m)
-decimal_fits k n zero o h = absurd (omega (arith, o))
-decimal_fits k n (suc m) o h = record { len = n + suc m; terminal = t.Decimal; is = refl; same = λ q. refl; not_bad = λ q. cc; finished = λ q. cc; fits = h }
+digit_symbol : (b : ℕ) → is_ascii_digit b ≡ true → is_symbol_byte b ≡ true
+digit_symbol b d = by (is_ascii_alphabetic b) refl
+  where
+    by : (u : Bool) → is_ascii_alphabetic b ≡ u → is_symbol_byte b ≡ true
+    by true p = rw p refl
+    by false p = rw (p, d) refl
+
+-- what begins with no byte of a symbol begins with no digit, and with no fraction
+no_digit : (rest : List ℕ) → begins is_symbol_byte rest ≡ false → begins is_ascii_digit rest ≡ false
+no_digit [] h = refl
+no_digit (y ∷ rest) h = by (is_ascii_digit y) refl
+  where
+    by : (v : Bool) → is_ascii_digit y ≡ v → v ≡ false
+    by true q = absurd (clash (sym h ∙ digit_symbol y q))
+    by false q = refl
+
+no_fraction : (rest : List ℕ) → begins is_symbol_byte rest ≡ false → fraction_len rest ≡ 0
+no_fraction [] h = refl
+no_fraction (y ∷ rest) h = if_no (y == 46) _ _ _ (other_byte (λ b. not (is_symbol_byte b)) y 46 refl (ap not h)) refl
 
 -- how many digits stand behind the first one of a numeral
-digits_fit : (b : ℕ) (bs rest : List ℕ) → (if b == 48 then is_none bs else list_all is_ascii_digit bs) ≡ true → length bs ≤ more_digits b (bs ++ rest)
-digits_fit b bs rest e = by (b == 48) bs refl e
+digits_are : (b : ℕ) (bs rest : List ℕ) → (if b == 48 then is_none bs else list_all is_ascii_digit bs) ≡ true → begins is_ascii_digit rest ≡ false → more_digits b (bs ++ rest) ≡ length bs
+digits_are b bs rest e f = by (b == 48) bs e
   where
-    by : (v : Bool) (xs : List ℕ) → v ≡ v → (if v then is_none xs else list_all is_ascii_digit xs) ≡ true → length xs ≤ (if v then 0 else prefix_len is_ascii_digit (xs ++ rest))
-    by true [] q h = omega arith
-    by true (x ∷ xs) q h = cc
-    by false xs q h = run_fits is_ascii_digit xs rest h
-
-digits_are : (b : ℕ) (bs : List ℕ) (y : ℕ) (rest : List ℕ) → (if b == 48 then is_none bs else list_all is_ascii_digit bs) ≡ true → is_ascii_digit y ≡ false → more_digits b (bs ++ y ∷ rest) ≡ length bs
-digits_are b bs y rest e f = by (b == 48) bs e
-  where
-    by : (v : Bool) (xs : List ℕ) → (if v then is_none xs else list_all is_ascii_digit xs) ≡ true → (if v then 0 else prefix_len is_ascii_digit (xs ++ y ∷ rest)) ≡ length xs
+    by : (v : Bool) (xs : List ℕ) → (if v then is_none xs else list_all is_ascii_digit xs) ≡ true → (if v then 0 else prefix_len is_ascii_digit (xs ++ rest)) ≡ length xs
     by true [] h = refl
     by true (x ∷ xs) h = cc
-    by false xs h = run_is is_ascii_digit xs y rest h f
+    by false xs h = run_before is_ascii_digit xs rest h f
 
-numeral_reaches : (front rest : List ℕ) → is_numeral front ≡ true → Reaches t.Numeral (length front) (piece_at (front ++ rest))
-numeral_reaches [] rest h = cc
-numeral_reaches (b ∷ bs) rest h =
+-- a number that is parted from what stands behind it
+number_known : (text behind rest : List ℕ) (n m : ℕ) → fraction_len behind ≡ m → drop m behind ≡ rest → begins is_symbol_byte rest ≡ false → number_before text n behind ≡ number_piece n m
+number_known text behind rest n m f r h =
+    ap (λ z. parted text (drop z behind) (number_piece n z)) f ∙ ap (λ z. parted text z (number_piece n m)) r
+    ∙ if_no (begins is_symbol_byte rest) _ _ _ h refl
+
+numeral_reaches : (front rest : List ℕ) → is_numeral front ≡ true → begins is_symbol_byte rest ≡ false → Reaches t.Numeral (length front) (piece_at (front ++ rest))
+numeral_reaches [] rest h k = cc
+numeral_reaches (b ∷ bs) rest h k =
     let d : is_ascii_digit b ≡ true = left_true (is_ascii_digit b) _ h in
-    let more = digits_fit b bs rest (right_true (is_ascii_digit b) _ h) in
-    subst (Reaches t.Numeral (length (b ∷ bs))) (sym (digit_piece b (bs ++ rest) d))
-    (numeral_fits (length (b ∷ bs)) (1 + more_digits b (bs ++ rest)) (fraction_len (drop (more_digits b (bs ++ rest)) (bs ++ rest))) (omega (arith, more)))
+    let n : more_digits b (bs ++ rest) ≡ length bs = digits_are b bs rest (right_true (is_ascii_digit b) _ h) (no_digit rest k) in
+    record {
+      len = 1 + length bs;
+      terminal = t.Numeral;
+      is = digit_piece b (bs ++ rest) d ∙ ap (λ z. number_before (bs ++ rest) (1 + z) (drop z (bs ++ rest))) n
+          ∙ ap (number_before (bs ++ rest) (1 + length bs)) (drop-append_seam bs rest) ∙ number_known (bs ++ rest) rest rest (1 + length bs) 0 (no_fraction rest k) refl k;
+      same = λ q. refl;
+      not_bad = λ q. cc;
+      finished = λ q. cc;
+      fits = omega arith;
+    }
 
-fraction_fits : (n m : ℕ) → 1 ≤ n → n ≤ m → suc n ≤ fraction_of m
-fraction_fits n zero h k = omega (arith, h, k)
-fraction_fits n (suc m) h k = omega (arith, k)
+fraction_some : (n : ℕ) → 1 ≤ n → fraction_of n ≡ suc n
+fraction_some zero h = absurd (omega (arith, h))
+fraction_some (suc n) h = omega arith
 
 pub run_some : (p : ℕ → Bool) (xs : List ℕ) → is_run p xs ≡ true → 1 ≤ length xs
 run_some p [] e = cc
@@ -128,20 +158,29 @@ pub run_all : (p : ℕ → Bool) (xs : List ℕ) → is_run p xs ≡ true → li
 run_all p [] e = cc
 run_all p (x ∷ xs) e = e
 
-decimal_reaches : (whole digits rest : List ℕ) → is_numeral whole ≡ true → is_run is_ascii_digit digits ≡ true → Reaches t.Decimal (length (whole ++ 46 ∷ digits)) (piece_at ((whole ++ 46 ∷ digits) ++ rest))
-decimal_reaches [] digits rest h r = cc
-decimal_reaches (b ∷ bs) digits rest h r =
+decimal_reaches : (whole digits rest : List ℕ) → is_numeral whole ≡ true → is_run is_ascii_digit digits ≡ true → begins is_symbol_byte rest ≡ false
+    → Reaches t.Decimal (length (whole ++ 46 ∷ digits)) (piece_at ((whole ++ 46 ∷ digits) ++ rest))
+decimal_reaches [] digits rest h r k = cc
+decimal_reaches (b ∷ bs) digits rest h r k =
     let d : is_ascii_digit b ≡ true = left_true (is_ascii_digit b) _ h in
-    let text : (bs ++ 46 ∷ digits) ++ rest ≡ bs ++ 46 ∷ (digits ++ rest) = append_assoc bs (46 ∷ digits) rest in
-    let n : more_digits b (bs ++ 46 ∷ (digits ++ rest)) ≡ length bs = digits_are b bs 46 (digits ++ rest) (right_true (is_ascii_digit b) _ h) refl in
-    let behind : drop (more_digits b (bs ++ 46 ∷ (digits ++ rest))) (bs ++ 46 ∷ (digits ++ rest)) ≡ 46 ∷ (digits ++ rest)
-    = ap (λ z. drop z (bs ++ 46 ∷ (digits ++ rest))) n ∙ drop-append_seam bs (46 ∷ (digits ++ rest)) in
-    let f : suc (length digits) ≤ fraction_len (drop (more_digits b (bs ++ 46 ∷ (digits ++ rest))) (bs ++ 46 ∷ (digits ++ rest)))
-    = subst (λ z. suc (length digits) ≤ fraction_len z) (sym behind) (fraction_fits (length digits) (prefix_len is_ascii_digit (digits ++ rest)) (run_some is_ascii_digit digits r) (run_fits is_ascii_digit digits rest (run_all is_ascii_digit digits r))) in
+    let behind = 46 ∷ (digits ++ rest) in
+    let text : (bs ++ 46 ∷ digits) ++ rest ≡ bs ++ behind = append_assoc bs (46 ∷ digits) rest in
+    let n : more_digits b (bs ++ behind) ≡ length bs = digits_are b bs behind (right_true (is_ascii_digit b) _ h) refl in
+    let fraction : fraction_len behind ≡ suc (length digits)
+    = ap fraction_of (run_before is_ascii_digit digits rest (run_all is_ascii_digit digits r) (no_digit rest k)) ∙ fraction_some (length digits) (run_some is_ascii_digit digits r) in
     let whole : length ((b ∷ bs) ++ 46 ∷ digits) ≡ suc (length bs) + suc (length digits) = length-append (b ∷ bs) (46 ∷ digits) in
     subst (λ z. Reaches t.Decimal (length ((b ∷ bs) ++ 46 ∷ digits)) (piece_of b z)) (sym text)
-    (subst (Reaches t.Decimal (length ((b ∷ bs) ++ 46 ∷ digits))) (sym (digit_piece b (bs ++ 46 ∷ (digits ++ rest)) d))
-    (decimal_fits (length ((b ∷ bs) ++ 46 ∷ digits)) (1 + more_digits b (bs ++ 46 ∷ (digits ++ rest))) (fraction_len (drop (more_digits b (bs ++ 46 ∷ (digits ++ rest))) (bs ++ 46 ∷ (digits ++ rest)))) (omega (arith, f)) (omega (arith, n, f, whole))))
+    (record {
+      len = (1 + length bs) + suc (length digits);
+      terminal = t.Decimal;
+      is = digit_piece b (bs ++ behind) d ∙ ap (λ z. number_before (bs ++ behind) (1 + z) (drop z (bs ++ behind))) n
+          ∙ ap (number_before (bs ++ behind) (1 + length bs)) (drop-append_seam bs behind)
+          ∙ number_known (bs ++ behind) behind rest (1 + length bs) (suc (length digits)) fraction (drop-append_seam digits rest) k;
+      same = λ q. refl;
+      not_bad = λ q. cc;
+      finished = λ q. cc;
+      fits = omega (arith, whole);
+    })
 
 marked_reaches : (k front n : ℕ) (terminal : Terminal) (text : List ℕ) → (terminal ≡ t.Bad → ⊥) → (terminal ≡ t.Unfinished → ⊥) → 1 ≤ n → k ≤ front + n → Reaches terminal k (marked front n terminal text)
 marked_reaches k front zero terminal text x y h l = absurd (omega (arith, h))
@@ -203,25 +242,26 @@ quoted_reaches inner rest a =
 abbrev ReachesAt : Terminal → List ℕ → List ℕ → Type 0
 ReachesAt kind rest front = Reaches kind (length front) (piece_at (front ++ rest))
 
-spelled_reaches : (terminal : Terminal) (front rest : List ℕ) → IsSpelled terminal front → (terminal ≡ t.StringLiteral → begins (λ b. b == 34) rest ≡ false) → ReachesAt terminal rest front
-spelled_reaches terminal front rest (opens is) h =
+spelled_reaches : (terminal : Terminal) (front rest : List ℕ) → IsSpelled terminal front → (terminal ≡ t.StringLiteral → begins (λ b. b == 34) rest ≡ false)
+    → (is_number terminal ≡ true → begins is_symbol_byte rest ≡ false) → ReachesAt terminal rest front
+spelled_reaches terminal front rest (opens is) h k =
     subst (ReachesAt t.Open rest) (sym is) (record { len = 1; terminal = t.Open; is = refl; same = λ q. refl; not_bad = λ q. cc; finished = λ q. cc; fits = omega arith })
-spelled_reaches terminal front rest (closes is) h =
+spelled_reaches terminal front rest (closes is) h k =
     subst (ReachesAt t.Close rest) (sym is) (record { len = 1; terminal = t.Close; is = refl; same = λ q. refl; not_bad = λ q. cc; finished = λ q. cc; fits = omega arith })
-spelled_reaches terminal front rest (numeral is) h = numeral_reaches front rest is
-spelled_reaches terminal front rest (decimal whole digits w d is) h = subst (ReachesAt t.Decimal rest) (sym is) (decimal_reaches whole digits rest w d)
-spelled_reaches terminal front rest (hexadecimal digits r is) h =
+spelled_reaches terminal front rest (numeral is) h k = numeral_reaches front rest is (k refl)
+spelled_reaches terminal front rest (decimal whole digits w d is) h k = subst (ReachesAt t.Decimal rest) (sym is) (decimal_reaches whole digits rest w d (k refl))
+spelled_reaches terminal front rest (hexadecimal digits r is) h k =
     subst (ReachesAt t.Hash rest) (sym is) (marked_reaches (length (35 ∷ 120 ∷ digits)) 2 (prefix_len is_ascii_hexdigit (digits ++ rest)) t.Hash (120 ∷ digits ++ rest) (λ q. cc) (λ q. cc)
     (run_reaches is_ascii_hexdigit digits rest r) (omega (arith, run_fits is_ascii_hexdigit digits rest (run_all is_ascii_hexdigit digits r))))
-spelled_reaches terminal front rest (binary digits r is) h =
+spelled_reaches terminal front rest (binary digits r is) h k =
     subst (ReachesAt t.Hash rest) (sym is) (marked_reaches (length (35 ∷ 98 ∷ digits)) 2 (prefix_len is_binary_digit (digits ++ rest)) t.Hash (98 ∷ digits ++ rest) (λ q. cc) (λ q. cc)
     (run_reaches is_binary_digit digits rest r) (omega (arith, run_fits is_binary_digit digits rest (run_all is_binary_digit digits r))))
-spelled_reaches terminal front rest (string inner s is) h = subst (ReachesAt t.StringLiteral rest) (sym is) (string_reaches inner rest s (h refl))
-spelled_reaches terminal front rest (keyword name r is) h =
+spelled_reaches terminal front rest (string inner s is) h k = subst (ReachesAt t.StringLiteral rest) (sym is) (string_reaches inner rest s (h refl))
+spelled_reaches terminal front rest (keyword name r is) h k =
     subst (ReachesAt t.Keyword rest) (sym is) (marked_reaches (length (58 ∷ name)) 1 (prefix_len is_symbol_byte (name ++ rest)) t.Keyword (name ++ rest) (λ q. cc) (λ q. cc)
     (run_reaches is_symbol_byte name rest r) (omega (arith, run_fits is_symbol_byte name rest (run_all is_symbol_byte name r))))
-spelled_reaches terminal front rest (symbol r d) h = symbol_reaches front rest r d
-spelled_reaches terminal front rest (quoted inner a is) h = subst (ReachesAt t.Quoted rest) (sym is) (quoted_reaches inner rest a)
+spelled_reaches terminal front rest (symbol r d) h k = symbol_reaches front rest r d
+spelled_reaches terminal front rest (quoted inner a is) h k = subst (ReachesAt t.Quoted rest) (sym is) (quoted_reaches inner rest a)
 
 pub token_reaches : (terminal : Terminal) (front rest : List ℕ) → IsScriptToken terminal front rest → Reaches terminal (length front) (piece_at (front ++ rest))
-token_reaches terminal front rest x = spelled_reaches terminal front rest x.spelled x.ended
+token_reaches terminal front rest x = spelled_reaches terminal front rest x.spelled x.ended x.parted

@@ -7,29 +7,18 @@ use Rattle.std.specs.List.{list_all, prefix_len}
 use Rattle.std.specs.Cmp.Derive.{both_true}
 use Rattle.std.specs.Char.{is_ascii_digit, is_ascii_hexdigit}
 use Rattle.std.proofs.lemmas.Bool.{eqb-true}
-use Rattle.base_numerals.proofs.Tests.{left_true, right_true, front_all, if_begins}
+use Rattle.base_numerals.proofs.Tests.{front_all, if_begins}
 use Rattle.smt_tokens.specs.declared.terminals.Terminal.{Terminal}
 use Rattle.smt_tokens.specs.declared.terminals.Terminal.TheVariants as t
 use Rattle.smt_tokens.specs.declared.scanner.Piece.{Piece}
 use Rattle.smt_tokens.specs.declared.strings.Ending.{Ending}
 use Rattle.smt_tokens.specs.declared.strings.Ending.TheVariants as e
 use Rattle.smt_tokens.specs.Bytes.{is_white, is_in_line, is_symbol_byte, is_string_byte, is_bar_byte, is_binary_digit}
-use Rattle.smt_tokens.specs.Lexemes.{piece_of, named, blank as blank_piece, marked, bad as bad_piece, number_piece, more_digits, fraction_len, fraction_of, hash_piece, enclosed, ending_from, string_ending_of, bars_ending_of, bars_end}
+use Rattle.smt_tokens.specs.Lexemes.{piece_of, named, blank as blank_piece, marked, bad as bad_piece, number_piece, number_before, more_digits, fraction_len, fraction_of, hash_piece, enclosed, ending_from, string_ending_of, bars_ending_of, bars_end}
 use Rattle.smt_tokens.specs.Tokens.{is_run, begins, is_none, is_numeral, IsString, nothing, byte, pair, IsSpelled, opens, closes, numeral, decimal, hexadecimal, binary, string, keyword, symbol, quoted, IsScriptToken, IsScriptBlank, white, comment, IsUnended, string as open_string, bars}
-use Rattle.smt_tokens.proofs.Longest.{piece_at, run_is, if_yes, choose}
+use Rattle.smt_tokens.proofs.Longest.{piece_at, run_whole, run_before, if_yes, choose}
 
 -- Runs.
-
-run_whole : (p : ℕ → Bool) (xs : List ℕ) → list_all p xs ≡ true → prefix_len p xs ≡ length xs
-run_whole p [] a = refl
-run_whole p (x ∷ xs) a =
-    let here : p x ≡ true = left_true (p x) (list_all p xs) a in
-    let more : prefix_len p xs ≡ length xs = run_whole p xs (right_true (p x) (list_all p xs) a) in
-    rw here (omega (arith, more))
-
-run_before : (p : ℕ → Bool) (xs rest : List ℕ) → list_all p xs ≡ true → begins p rest ≡ false → prefix_len p (xs ++ rest) ≡ length xs
-run_before p xs [] a h = ap (prefix_len p) (append-nil xs) ∙ run_whole p xs a
-run_before p xs (y ∷ rest) a h = run_is p xs y rest a h
 
 stops_by : (p : ℕ → Bool) (b : ℕ) (bs : List ℕ) (v : Bool) → p b ≡ v → begins p (drop (prefix_len p bs) bs) ≡ false → begins p (drop (prefix_len p (b ∷ bs)) (b ∷ bs)) ≡ false
 stops_by p b bs true h r = rw (h, one-add) r
@@ -103,7 +92,7 @@ comment_begun bs =
 symbol_begun : (b : ℕ) (bs : List ℕ) → is_symbol_byte b ≡ true → is_ascii_digit b ≡ false → Begun (b ∷ bs) (named (1 + prefix_len is_symbol_byte bs) t.Symbol)
 symbol_begun b bs s d =
     a_token t.Symbol (b ∷ take (prefix_len is_symbol_byte bs) bs) (drop (prefix_len is_symbol_byte bs) bs) (behind is_symbol_byte b bs)
-    (record { spelled = symbol (both_true s (front_all is_symbol_byte bs)) d; ended = λ q. absurd (cc) })
+    (record { spelled = symbol (both_true s (front_all is_symbol_byte bs)) d; ended = λ q. absurd (cc); parted = λ q. absurd (cc) })
     (ap (λ z. named z t.Symbol) (one-add (prefix_len is_symbol_byte bs) ∙ ap suc (sym (taken_len is_symbol_byte bs))))
 
 keyword_by : (bs : List ℕ) (n : ℕ) → prefix_len is_symbol_byte bs ≡ n → Begun (58 ∷ bs) (marked 1 n t.Keyword bs)
@@ -111,7 +100,7 @@ keyword_by bs zero q = bad_begun 58 bs
 keyword_by bs (suc n) q =
     let some : 1 ≤ prefix_len is_symbol_byte bs = omega (arith, q) in
     a_token t.Keyword (58 ∷ take (prefix_len is_symbol_byte bs) bs) (drop (prefix_len is_symbol_byte bs) bs) (behind is_symbol_byte 58 bs)
-    (record { spelled = keyword (take (prefix_len is_symbol_byte bs) bs) (run_taken is_symbol_byte bs some) refl; ended = λ q. absurd (cc) })
+    (record { spelled = keyword (take (prefix_len is_symbol_byte bs) bs) (run_taken is_symbol_byte bs some) refl; ended = λ q. absurd (cc); parted = λ q. absurd (cc) })
     (ap (λ z. named z t.Keyword) (ap (λ z. 1 + z) (sym q ∙ sym (taken_len is_symbol_byte bs)) ∙ one-add (length (take (prefix_len is_symbol_byte bs) bs))))
 
 two_more : (n : ℕ) → 2 + n ≡ suc (suc n)
@@ -122,7 +111,7 @@ hash_by p c bs zero q spelled = bad_begun 35 (c ∷ bs)
 hash_by p c bs (suc n) q spelled =
     let some : 1 ≤ prefix_len p bs = omega (arith, q) in
     a_token t.Hash (35 ∷ c ∷ take (prefix_len p bs) bs) (drop (prefix_len p bs) bs) (ap (λ z. 35 ∷ z) (behind p c bs))
-    (record { spelled = spelled (take (prefix_len p bs) bs) (run_taken p bs some); ended = λ q. absurd (cc) })
+    (record { spelled = spelled (take (prefix_len p bs) bs) (run_taken p bs some); ended = λ q. absurd (cc); parted = λ q. absurd (cc) })
     (ap (λ z. named z t.Hash) (ap (λ z. 2 + z) (sym q ∙ sym (taken_len p bs)) ∙ two_more (length (take (prefix_len p bs) bs))))
 
 hash_begun : (bs : List ℕ) → Begun (35 ∷ bs) (hash_piece bs)
@@ -173,14 +162,15 @@ fraction_is (b ∷ text) n q = by (b == 46) refl q
         record { digits = text; is = ap (λ z. z ∷ text) (eqb-true b 46 h); run = f.0; len = f.1 }
     by false h k = cc
 
-number_by : (b : ℕ) (bs : List ℕ) (m : ℕ) → is_ascii_digit b ≡ true → fraction_len (drop (more_digits b bs) bs) ≡ m → Begun (b ∷ bs) (number_piece (1 + more_digits b bs) m)
-number_by b bs zero d q =
+number_by : (b : ℕ) (bs : List ℕ) (m : ℕ) → is_ascii_digit b ≡ true → fraction_len (drop (more_digits b bs) bs) ≡ m
+    → begins is_symbol_byte (drop m (drop (more_digits b bs) bs)) ≡ false → Begun (b ∷ bs) (number_piece (1 + more_digits b bs) m)
+number_by b bs zero d q h =
     let n = more_digits b bs in
     let len : length (take n bs) ≡ n = length-take-le n bs (digits_within b bs) in
     a_token t.Numeral (b ∷ take n bs) (drop n bs) (ap (λ z. b ∷ z) (sym (take-append-drop n bs)))
-    (record { spelled = numeral (numeral_is b bs d); ended = λ q. absurd (cc) })
+    (record { spelled = numeral (numeral_is b bs d); ended = λ q. absurd (cc); parted = λ q. h })
     (ap (λ z. named z t.Numeral) (one-add n ∙ ap suc (sym len)))
-number_by b bs (suc m) d q =
+number_by b bs (suc m) d q h =
     let n = more_digits b bs in
     let f = fraction_is (drop n bs) m q in
     let k = prefix_len is_ascii_digit f.digits in
@@ -189,9 +179,15 @@ number_by b bs (suc m) d q =
     let parts : b ∷ bs ≡ ((b ∷ take n bs) ++ 46 ∷ take k f.digits) ++ drop k f.digits =
     ap (λ z. b ∷ z) (sym (take-append-drop n bs)) ∙ ap (λ z. (b ∷ take n bs) ++ z) (f.is ∙ ap (λ z. 46 ∷ z) (sym (take-append-drop k f.digits)))
     ∙ sym (append_assoc (b ∷ take n bs) (46 ∷ take k f.digits) (drop k f.digits)) in
+    let rest : drop k f.digits ≡ drop (suc m) (drop n bs) = sym (ap (drop (suc m)) f.is ∙ ap (λ z. drop z (46 ∷ f.digits)) f.len) in
     a_token t.Decimal ((b ∷ take n bs) ++ 46 ∷ take k f.digits) (drop k f.digits) parts
-    (record { spelled = decimal (b ∷ take n bs) (take k f.digits) (numeral_is b bs d) (run_taken is_ascii_digit f.digits f.run) refl; ended = λ q. absurd (cc) })
+    (record { spelled = decimal (b ∷ take n bs) (take k f.digits) (numeral_is b bs d) (run_taken is_ascii_digit f.digits f.run) refl; ended = λ q. absurd (cc); parted = λ q. ap (begins is_symbol_byte) rest ∙ h })
     (ap (λ z. named z t.Decimal) (omega (arith, size, len, f.len, taken_len is_ascii_digit f.digits)))
+
+number_begun : (b : ℕ) (bs : List ℕ) → is_ascii_digit b ≡ true → Begun (b ∷ bs) (number_before bs (1 + more_digits b bs) (drop (more_digits b bs) bs))
+number_begun b bs d =
+    let text = drop (more_digits b bs) bs in
+    if_begins (Begun (b ∷ bs)) (begins is_symbol_byte (drop (fraction_len text) text)) _ _ (λ h. bad_begun b bs) (λ h. number_by b bs (fraction_len text) d refl h)
 
 -- Strings.
 
@@ -281,7 +277,7 @@ string_by bs (e.Closed m) q =
     let r = string_closed false 0 m bs q in
     let size : length (34 ∷ r.inner ++ 34 ∷ []) ≡ suc (length r.inner + 1) = ap suc (length-append r.inner (34 ∷ [])) in
     a_token t.StringLiteral (34 ∷ r.inner ++ 34 ∷ []) r.rest (ap (λ z. 34 ∷ z) (r.is ∙ sym (append_assoc r.inner (34 ∷ []) r.rest)))
-    (record { spelled = string r.inner r.body refl; ended = λ q. r.ended }) (ap (λ z. named z t.StringLiteral) (omega (arith, size, r.len)))
+    (record { spelled = string r.inner r.body refl; ended = λ q. r.ended; parted = λ q. absurd (cc) }) (ap (λ z. named z t.StringLiteral) (omega (arith, size, r.len)))
 string_by bs e.Forbidden q = bad_begun 34 bs
 string_by bs e.Missing q = an_open (open_string bs (string_is_missing false 0 bs q) refl) (whole_len 34 bs t.Unfinished)
 
@@ -297,7 +293,7 @@ bars_by bs (c ∷ ds) q =
     let size : length (124 ∷ inner ++ 124 ∷ []) ≡ suc (length inner + 1) = ap suc (length-append inner (124 ∷ [])) in
     a_token t.Quoted (124 ∷ inner ++ 124 ∷ []) ds
     (ap (λ z. 124 ∷ z) (sym (take-append-drop (prefix_len is_bar_byte bs) bs) ∙ ap (λ z. inner ++ z) (q ∙ ap (λ z. z ∷ ds) here) ∙ sym (append_assoc inner (124 ∷ []) ds)))
-    (record { spelled = quoted inner (front_all is_bar_byte bs) refl; ended = λ q. absurd (cc) })
+    (record { spelled = quoted inner (front_all is_bar_byte bs) refl; ended = λ q. absurd (cc); parted = λ q. absurd (cc) })
     (ap (λ z. named z t.Quoted) (omega (arith, size, taken_len is_bar_byte bs))))
     (λ h. bad_begun 124 bs)
 
@@ -309,9 +305,9 @@ pub piece_begun : (b : ℕ) (bs : List ℕ) → Begun (b ∷ bs) (piece_of b bs)
 piece_begun b bs =
     if_begins (Begun (b ∷ bs)) (is_white b) _ _ (λ h. a_blank (b ∷ []) bs refl (white b h refl) refl)
     (λ h0. if_begins (Begun (b ∷ bs)) (b == 59) _ _ (λ h. at b 59 bs (λ z. blank_piece (1 + prefix_len is_in_line bs)) h (comment_begun bs))
-    (λ h1. if_begins (Begun (b ∷ bs)) (b == 40) _ _ (λ h. at b 40 bs (λ z. named 1 t.Open) h (a_token t.Open (40 ∷ []) bs refl (record { spelled = opens refl; ended = λ q. absurd (cc) }) refl))
-    (λ h2. if_begins (Begun (b ∷ bs)) (b == 41) _ _ (λ h. at b 41 bs (λ z. named 1 t.Close) h (a_token t.Close (41 ∷ []) bs refl (record { spelled = closes refl; ended = λ q. absurd (cc) }) refl))
-    (λ h3. if_begins (Begun (b ∷ bs)) (is_ascii_digit b) _ _ (λ h. number_by b bs (fraction_len (drop (more_digits b bs) bs)) h refl)
+    (λ h1. if_begins (Begun (b ∷ bs)) (b == 40) _ _ (λ h. at b 40 bs (λ z. named 1 t.Open) h (a_token t.Open (40 ∷ []) bs refl (record { spelled = opens refl; ended = λ q. absurd (cc); parted = λ q. absurd (cc) }) refl))
+    (λ h2. if_begins (Begun (b ∷ bs)) (b == 41) _ _ (λ h. at b 41 bs (λ z. named 1 t.Close) h (a_token t.Close (41 ∷ []) bs refl (record { spelled = closes refl; ended = λ q. absurd (cc); parted = λ q. absurd (cc) }) refl))
+    (λ h3. if_begins (Begun (b ∷ bs)) (is_ascii_digit b) _ _ (λ h. number_begun b bs h)
     (λ d. if_begins (Begun (b ∷ bs)) (is_symbol_byte b) _ _ (λ h. symbol_begun b bs h d)
     (λ h5. if_begins (Begun (b ∷ bs)) (b == 58) _ _ (λ h. at b 58 bs (λ z. marked 1 (prefix_len is_symbol_byte bs) t.Keyword bs) h (keyword_by bs (prefix_len is_symbol_byte bs) refl))
     (λ h6. if_begins (Begun (b ∷ bs)) (b == 35) _ _ (λ h. at b 35 bs (λ z. hash_piece bs) h (hash_begun bs))

@@ -9,6 +9,7 @@ use Rattle.smt_tokens.specs.declared.scanner.Piece.{Piece}
 use Rattle.smt_tokens.specs.declared.strings.Ending.{Ending}
 use Rattle.smt_tokens.specs.declared.strings.Ending.TheVariants as e
 use Rattle.smt_tokens.specs.Bytes.{is_white, is_in_line, is_symbol_byte, is_string_byte, is_bar_byte, is_binary_digit}
+use Rattle.smt_tokens.specs.Tokens.{begins}
 
 abbrev pub blank : ℕ → Piece
 blank n = record { len = n; terminal = None }
@@ -38,6 +39,14 @@ fraction_len (b ∷ text) = if b == 46 then fraction_of (prefix_len is_ascii_dig
 abbrev pub number_piece : ℕ → ℕ → Piece
 number_piece n zero = named n t.Numeral
 number_piece n (suc m) = named (n + suc m) t.Decimal
+
+-- a token before this rest, at the byte before a text; none where the rest begins with a byte of a symbol
+abbrev pub parted : List ℕ → List ℕ → Piece → Piece
+parted text rest piece = if begins is_symbol_byte rest then bad text else piece
+
+-- what begins at the byte before a text with n digits of a numeral, behind which this text stands
+abbrev pub number_before : List ℕ → ℕ → List ℕ → Piece
+number_before text n behind = parted text (drop (fraction_len behind) behind) (number_piece n (fraction_len behind))
 
 -- how many digits of a numeral stand behind its first one: none behind a 0
 abbrev pub more_digits : ℕ → List ℕ → ℕ
@@ -85,7 +94,7 @@ piece_of b text =
     (if b == 59 then blank (1 + prefix_len is_in_line text) else
     (if b == 40 then named 1 t.Open else
     (if b == 41 then named 1 t.Close else
-    (if is_ascii_digit b then number_piece (1 + more_digits b text) (fraction_len (drop (more_digits b text) text)) else
+    (if is_ascii_digit b then number_before text (1 + more_digits b text) (drop (more_digits b text) text) else
     (if is_symbol_byte b then named (1 + prefix_len is_symbol_byte text) t.Symbol else
     (if b == 58 then marked 1 (prefix_len is_symbol_byte text) t.Keyword text else
     (if b == 35 then hash_piece text else

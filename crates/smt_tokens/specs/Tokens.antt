@@ -45,10 +45,18 @@ pub data IsSpelled : Terminal → List ℕ → Type 0 where
   symbol : {text : List ℕ} → is_run is_symbol_byte text ≡ true → begins is_ascii_digit text ≡ false → IsSpelled t.Symbol text
   quoted : {text : List ℕ} (inner : List ℕ) → list_all is_bar_byte inner ≡ true → text ≡ 124 ∷ inner ++ 124 ∷ [] → IsSpelled t.Quoted text
 
--- a text with this rest behind it is a token of this kind; a quote behind a string would belong to it
+-- numerals and decimals
+abbrev pub is_number : Terminal → Bool
+is_number t.Numeral = true
+is_number t.Decimal = true
+is_number _ = false
+
+-- A text with this rest behind it is a token of this kind. A quote behind a string would belong to it, and a number is parted from
+-- what stands behind it: bytes of which symbols are made, of which the first is a digit, are one number or no token.
 pub record IsScriptToken (terminal : Terminal) (front rest : List ℕ) : Type 0 where
   pub spelled : IsSpelled terminal front
   pub ended : terminal ≡ t.StringLiteral → begins (λ b. b == 34) rest ≡ false
+  pub parted : is_number terminal ≡ true → begins is_symbol_byte rest ≡ false
 
 -- so many bytes are the longest token at the front of a text
 pub record IsLongestPiece (terminal : Terminal) (front rest : List ℕ) : Type 0 where

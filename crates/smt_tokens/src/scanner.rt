@@ -1,7 +1,8 @@
 // Where the tokens of a script begin and end: the longest token is taken, and white space and comments part them.
 
 ghost use Rattle.smt_tokens.specs.Bytes.{is_binary_digit, is_in_line, is_symbol_byte};
-ghost use Rattle.smt_tokens.specs.Lexemes.{bad, enclosed, first_piece_of, fraction_len, hash_piece, lexemes_of, marked, more_digits, number_piece};
+ghost use Rattle.smt_tokens.specs.Lexemes.{bad, enclosed, first_piece_of, fraction_len, hash_piece, lexemes_of, marked, more_digits, number_before};
+ghost use Rattle.smt_tokens.specs.Tokens.{begins};
 ghost use Rattle.smt_tokens.specs.Endings.{ClosesWithin};
 ghost use Rattle.std.specs.Char.{is_ascii_digit, is_ascii_hexdigit};
 ghost use Rattle.std.specs.List.{prefix_len};
@@ -70,7 +71,7 @@ fn first_piece(text: &[u8]) -> Option<Piece>
     }
     if first.is_ascii_digit() {
         let more = more_digits(first, behind);
-        return Some(number(1 + more, fraction(behind.split_at(more).1)));
+        return Some(number(1 + more, behind.split_at(more).1, behind));
     }
     if is_symbol_byte(first) {
         return Some(named(1 + symbol_len(behind), Terminal::Symbol));
@@ -143,12 +144,27 @@ fn fraction(text: &[u8]) -> usize
     if digits == 0 { 0 } else { 1 + digits }
 }
 
-/// A numeral of so many digits, or a decimal with so many bytes behind them.
-fn number(digits: usize, fraction: usize) -> Piece
-    requires { digits + fraction < 2 ^ 63 }
-    ensures exact { result ≡ number_piece digits fraction }
-    ensures within { result.len ≡ digits + fraction }
+/// Whether a text begins with a byte of a symbol.
+fn begins_symbol(text: &[u8]) -> bool
+    ensures { result ≡ begins is_symbol_byte text.now }
 {
+    let Some((first, _)) = text.split_first() else {
+        return false;
+    };
+    is_symbol_byte(*first)
+}
+
+/// What begins at the byte before a text with so many digits of a numeral, behind which this text stands: a numeral or a decimal,
+/// and no token where a byte of a symbol stands behind it.
+fn number(digits: usize, behind: &[u8], text: &[u8]) -> Piece
+    requires { (1 ≤ digits) × (digits + length behind.now ≡ 1 + length text.now) × (length text.now < 2 ^ 63) }
+    ensures exact { result ≡ number_before text.now digits behind.now }
+    ensures within { (1 ≤ result.len) × (result.len ≤ 1 + length text.now) }
+{
+    let fraction = fraction(behind);
+    if begins_symbol(behind.split_at(fraction).1) {
+        return bad(text);
+    }
     if fraction == 0 {
         return named(digits, Terminal::Numeral);
     }
