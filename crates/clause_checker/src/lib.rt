@@ -1,3 +1,5 @@
+// The checker of clause proofs. It takes a proof line by line, and accepts exactly what is one, unless it is cut by the budget,
+// by the range of coefficients or by memory.
 #![tactic(auto)]
 
 mod canonical;

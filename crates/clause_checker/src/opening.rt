@@ -1,4 +1,6 @@
-// Open, instance, apply, and the literals of a closure's parts.
+// Open: the members of a conjunction or a disjunction, by clauses of one direction (Plaisted and Greenbaum, A
+// structure-preserving clause form translation, 1986), or the body of a for-all at a new constant (Skolem, 1920). Apply: a
+// new constant for the value of a function.
 
 ghost use Rattle.std.specs.Prelude.{◌≡◌, ◌∷◌, ◌++◌, [], ◌<◌, ◌^◌, suc, map, Some, IfOk, IfErr};
 ghost use Rattle.std.specs.List.{slice_get};

@@ -1,4 +1,4 @@
-// Atoms, split, pairs and quotients.
+// New variables for atoms, the three cases of a number (Split), and quotients as new constants (Divide).
 
 ghost use Rattle.std.specs.Prelude.{◌≡◌, ◌∷◌, [], ◌<ℤ◌, suc, map, pos, IfOk, IfErr};
 ghost use Rattle.std.specs.List.{slice_get};

@@ -1,4 +1,5 @@
-// Sum: a weighted sum of what the falsities of literals say is absurd. Atoms and split.
+// Sum: a weighted sum of what the falsities of literals say is absurd (Farkas, 1902). Since literals are canonical, with
+// constants rounded (Chvatal, Edmonds polytopes and a hierarchy of combinatorial problems, 1973), a cut is such a sum.
 
 ghost use Rattle.std.specs.Prelude.{◌≡◌, ◌∷◌, [], map, pos, true, IfOk, IfErr};
 ghost use Rattle.std.specs.List.{slice_get};
