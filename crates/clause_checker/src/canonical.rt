@@ -6,6 +6,7 @@ ghost use Rattle.linear_term.specs.Range.{InRange};
 ghost use Rattle.formula.specs.Form.{conjunction, disjunction};
 ghost use Rattle.formula.specs.Tree.{form, forms_of};
 ghost use Rattle.clause_proof.specs.Atoms as atoms;
+ghost use Rattle.form_closures.specs.Putting as putting;
 ghost use Rattle.clause_proof.specs.Clauses as q;
 ghost use Rattle.clause_checker.specs.Answers.{IsOther};
 ghost use Rattle.clause_checker.specs.Views.{signed_of};
@@ -230,7 +231,7 @@ fn predicate<'a>(
     ts: &[Term],
     positive: bool,
 ) -> Result<Signed<'a>, Fault>
-    ensures ok { IfOk result (λ x. signed_of x ≡ record { definition = q.predicate p (map (atoms.put_in ts.now) us.now); positive = positive }) }
+    ensures ok { IfOk result (λ x. signed_of x ≡ record { definition = q.predicate p (map (putting.put_in ts.now) us.now); positive = positive }) }
     ensures err { IfErr result IsOther }
 {
     let terms = put_all(alloc, purse, ts, us)?;

@@ -4,6 +4,7 @@ ghost use Rattle.std.specs.Prelude.{◌≡◌, pos, map, IfOk, IfErr};
 ghost use Rattle.linear_term.specs.Range.{InRange};
 ghost use Rattle.linear_term.specs.Combination.{combination};
 ghost use Rattle.clause_proof.specs.Atoms as atoms;
+ghost use Rattle.form_closures.specs.Putting as putting;
 ghost use Rattle.clause_proof.specs.Lines as lines;
 ghost use Rattle.clause_checker.specs.Answers.{IsOther};
 
@@ -35,7 +36,7 @@ pub(crate) fn combine(
 }
 
 /// u, and k times the term for the name x.
-#[tactic(auto, using(crate::proofs::Puts::terms))]
+#[tactic(auto, using(form_closures::proofs::Puts::terms))]
 fn put_one(
     alloc: Global,
     purse: &mut Purse,
@@ -44,7 +45,7 @@ fn put_one(
     x: u32,
     k: i128,
 ) -> Result<Term, Fault>
-    ensures ok { IfOk result (λ r. r ≡ combination (pos 1) u.now k (atoms.term_at ts.now x)) }
+    ensures ok { IfOk result (λ r. r ≡ combination (pos 1) u.now k (putting.term_at ts.now x)) }
     ensures err { IfErr result IsOther }
 {
     if !in_range(k) {
@@ -63,9 +64,9 @@ fn put_one(
 }
 
 /// The term with the terms ts for its names.
-#[tactic(auto, using(crate::proofs::Puts::puts))]
+#[tactic(auto, using(form_closures::proofs::Puts::puts))]
 pub(crate) fn put_in(alloc: Global, purse: &mut Purse, ts: &[Term], t: &Term) -> Result<Term, Fault>
-    ensures ok { IfOk result (λ r. r ≡ atoms.put_in ts.now t.now) }
+    ensures ok { IfOk result (λ r. r ≡ putting.put_in ts.now t.now) }
     ensures err { IfErr result IsOther }
 {
     purse.charge(1)?;
@@ -83,7 +84,7 @@ pub(crate) fn put_all(
     ts: &[Term],
     us: &[Term],
 ) -> Result<Items<Term>, Fault>
-    ensures ok { IfOk result (λ r. r ≡ map (atoms.put_in ts.now) us.now) }
+    ensures ok { IfOk result (λ r. r ≡ map (putting.put_in ts.now) us.now) }
     ensures err { IfErr result IsOther }
 {
     let mut out = Items::new(alloc);

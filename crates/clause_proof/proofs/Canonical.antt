@@ -19,9 +19,10 @@ use Rattle.formula.specs.Form.{Form, FormTruth, equal, unequal, at_least, holds,
 use Rattle.formula.proofs.Stability.{form_stable}
 use Rattle.formula.proofs.Extending.{over_number}
 use Rattle.clause_proof.specs.Clauses.{Definition, always, at_least_zero, is_zero, predicate, closure, DefinitionTruth, IsSo, IsDefinitionOver}
-use Rattle.clause_proof.specs.Atoms.{Signed, plain, negation, other, known, put_in, content, divided, quotient, leads_negative, less_one, opposite_less_one, opposite_term, turned_inequality, inequality_by, inequality_literal, turned_equation, equation_by, equation_literal, inner_form, literal_by, literal_of}
+use Rattle.form_closures.specs.Putting.{put_in}
+use Rattle.clause_proof.specs.Atoms.{Signed, plain, negation, other, known, content, divided, quotient, leads_negative, less_one, opposite_less_one, opposite_term, turned_inequality, inequality_by, inequality_literal, turned_equation, equation_by, equation_literal, inner_form, literal_by, literal_of}
 use Rattle.clause_proof.proofs.Contents.{quotient_exact, content_positive, content_divides, value_split, value_quotient, bare_value}
-use Rattle.clause_proof.proofs.Putting.{put_value, put_values, put_over, puts_over}
+use Rattle.form_closures.proofs.Values.{put_value, put_values, put_over, puts_over}
 
 -- each of two follows from the other
 pub record Same (A B : Type 0) : Type 0 where

@@ -1,5 +1,4 @@
 pub mod Contents
-pub mod Putting
 pub mod Canonical
 pub mod Equality
 pub mod Keeping

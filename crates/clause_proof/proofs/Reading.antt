@@ -13,11 +13,12 @@ use Rattle.sequent.proofs.Members.{all_at}
 use Rattle.clause_proof.specs.declared.line.Application.{Application}
 use Rattle.clause_proof.specs.declared.line.Literal.{Literal}
 use Rattle.clause_proof.specs.Clauses.{Definition, closure, IsApplicationTrue, State, AreTrue, IsApplicationOver, IsFormedState}
-use Rattle.clause_proof.specs.Atoms.{literal_of, put_in, same_term, same_terms}
+use Rattle.form_closures.specs.Putting.{put_in}
+use Rattle.clause_proof.specs.Atoms.{literal_of, same_term, same_terms}
 use Rattle.clause_proof.specs.Lines.{each_false, Inner, implied_by, are_over, reads, reads_atom, second_form, second_of, read_one, read_all, bodies, found}
 use Rattle.clause_proof.proofs.Canonical.{literal_means, literal_over}
 use Rattle.clause_proof.proofs.Equality.{same_term_is, same_terms_are}
-use Rattle.clause_proof.proofs.Putting.{put_values}
+use Rattle.form_closures.proofs.Values.{put_values}
 use Rattle.clause_proof.proofs.Over.{overs_are, Parts, parts_of}
 use Rattle.clause_proof.proofs.Keeping.{Adds, adds_plain}
 use Rattle.clause_proof.proofs.Opening.{old_false, each_clause, values_more, terms_with}

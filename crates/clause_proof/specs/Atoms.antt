@@ -9,6 +9,7 @@ use Rattle.base_integers.specs.Gcd.{gcd}
 use Rattle.linear_term.specs.Linear.{Linear, number}
 use Rattle.linear_term.specs.Combination.{combination}
 use Rattle.linear_term.specs.Order.{linear_cmp}
+use Rattle.form_closures.specs.Putting.{put_in}
 use Rattle.formula.specs.Form.{Form, equal, unequal, at_least, holds, fails, differs, conjunction, disjunction, universal, existential, no_form, and_form}
 use Rattle.clause_proof.specs.Clauses.{Definition, always, at_least_zero, is_zero, predicate, closure}
 
@@ -29,21 +30,6 @@ other x = record { definition = x.definition; positive = not x.positive }
 -- what does not depend on the constants
 abbrev pub known : Bool → Signed
 known b = record { definition = always; positive = b }
-
--- the term for the name x
-abbrev pub term_at : List Linear → ℕ → Linear
-term_at [] x = number (pos 0)
-term_at (t ∷ ts) zero = t
-term_at (t ∷ ts) (suc x) = term_at ts x
-
--- u, and these monomials with the terms for their names
-abbrev pub put_from : List Linear → List (ℕ × ℤ) → Linear → Linear
-put_from ts [] u = u
-put_from ts (p ∷ ps) u = put_from ts ps (combination (pos 1) u p.1 (term_at ts p.0))
-
--- the term with the terms ts for its names
-abbrev pub put_in : List Linear → Linear → Linear
-put_in ts t = put_from ts t.pairs (number t.constant)
 
 -- the greatest common divisor of g and the coefficients
 abbrev pub gcd_with : ℤ → List (ℕ × ℤ) → ℤ

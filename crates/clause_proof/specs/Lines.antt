@@ -15,7 +15,8 @@ use Rattle.clause_proof.specs.declared.line.Factor.{Factor}
 use Rattle.clause_proof.specs.declared.line.Line.{Line}
 use Rattle.clause_proof.specs.declared.line.Line.TheVariants as line
 use Rattle.clause_proof.specs.Clauses.{Definition, always, at_least_zero, is_zero, predicate, closure, State}
-use Rattle.clause_proof.specs.Atoms.{Signed, plain, put_in, less_one, opposite_less_one, inequality_literal, equation_literal, literal_of, same_term, same_terms, same_definition}
+use Rattle.form_closures.specs.Putting.{put_in}
+use Rattle.clause_proof.specs.Atoms.{Signed, plain, less_one, opposite_less_one, inequality_literal, equation_literal, literal_of, same_term, same_terms, same_definition}
 
 -- variable number i is true; is false
 abbrev pub positive : ℕ → Literal

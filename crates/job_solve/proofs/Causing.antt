@@ -17,7 +17,7 @@ use Rattle.pri_problem.proofs.Naming.{comes_of, not_large}
 use Rattle.pri_typing.specs.Problems.{IsPure}
 use Rattle.countermodel.proofs.Saturated.{one_round_ends, root_somes}
 use Rattle.pri_problem.specs.Answers.{Poses, PosesOne, refused, posed}
-use Rattle.pri_problem.specs.Encoded.{Fits, LeavesRange, large, leaves, runs}
+use Rattle.pri_problem.specs.Encoded.{Fits, IsLarge, LeavesRange, large, leaves, runs}
 use Rattle.itp_lines.specs.Blocks.{AreBlockLines}
 use Rattle.itp_lines.proofs.Listing.{blocks_caused}
 use Rattle.job_solve.specs.Solved.{AnswersEnd, closed, valid, invalid, saturated, branch, steps, overflow, run_end, IsSolved}
@@ -154,6 +154,11 @@ only_first : (budget : ℕ) (bytes : List ℕ) (a : Answer) → IsSolved budget 
 only_first budget bytes a solved r e (first q h) = comes_of bytes a r q e h (one_answer budget bytes a _ solved (refused q h refl))
 only_first budget bytes a solved r e (too_large h) = absurd (not_large a r e (one_answer budget bytes a _ solved (posed h.0 h.1 (large h.2 refl))))
 
+-- that of a large encoding comes of it alone
+large_of : (budget : ℕ) (bytes : List ℕ) (a : Answer) → IsSolved budget bytes a → a ≡ refused_answer (codes "Large") → IsRefused bytes → PosesOne bytes IsLarge
+large_of budget bytes a solved e (first r h) = absurd (not_large a r (one_answer budget bytes a _ solved (refused r h refl)) e)
+large_of budget bytes a solved e (too_large h) = h
+
 -- where it ends saturated, it is that of the walk
 walked_as : (budget : ℕ) (bytes : List ℕ) (a : Answer) (So : Problem → Proof → Funds → Type 0) (P : Answer → Type 0) → IsSolved budget bytes a → ((p : Problem) (x : Proof) (left : Funds) → So p x left → P (saturated_answer p x left)) → EndsSaturated budget bytes So → P a
 walked_as budget bytes a So P solved so (p, h, (f, (log, x, stands, is, k))) = subst P (sym (ended budget bytes a p _ solved h f is)) (so p x stands.funds k)
@@ -218,7 +223,10 @@ causes budget bytes a solved = record {
   refuses = (refused_by budget bytes a solved, refused_status budget bytes a solved);
   refused = λ r h. one_answer budget bytes a _ solved (refused r h refl);
   only = λ r e. only_first budget bytes a solved r e (refused_by budget bytes a solved (ap status_of e));
-  large = λ h. one_answer budget bytes a _ solved (posed h.0 h.1 (large h.2 refl));
+  large = (
+    λ e. large_of budget bytes a solved e (refused_by budget bytes a solved (ap status_of e)),
+    λ h. one_answer budget bytes a _ solved (posed h.0 h.1 (large h.2 refl)),
+  );
   blocks = λ p vs x stands poses fits alone is. blocks_told p (run_end budget p) a (run_answered budget bytes a p solved poses fits) vs x stands alone is;
 }
 

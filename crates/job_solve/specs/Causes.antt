@@ -27,9 +27,6 @@ IsValid end = (vs : List ℤ) × (x : Proof) × (stands : At) × (end ≡ ends_w
 abbrev pub IsInvalid : Ending run.RunAnswer → Type 0
 IsInvalid end = (log : List Entry) × (x : Proof) × (stands : At) × (end ≡ ends_with (run.invalid log x) stands)
 
-abbrev pub IsSaturatedEnd : Ending run.RunAnswer → Type 0
-IsSaturatedEnd end = (log : List Entry) × (x : Proof) × (stands : At) × (end ≡ ends_with (run.saturated log x) stands)
-
 abbrev pub IsTooLong : Ending run.RunAnswer → Type 0
 IsTooLong end = (stands : At) × (end ≡ ends_with run.too_long stands)
 
@@ -59,7 +56,7 @@ pub record SolveCauses (budget : ℕ) (bytes : List ℕ) (answer : Answer) : Typ
   pub refuses : (answer.status ≡ 3) ↔ IsRefused bytes
   pub refused : (r : Refusal) → FirstRefusal bytes r → answer ≡ refused_answer (refusal_name r)
   pub only : (r : Refusal) → answer ≡ refused_answer (refusal_name r) → ComesOf bytes r
-  pub large : PosesOne bytes IsLarge → answer ≡ refused_answer (codes "Large")
+  pub large : (answer ≡ refused_answer (codes "Large")) ↔ PosesOne bytes IsLarge
   pub blocks : (p : Problem) (vs : List ℤ) (x : Proof) (stands : At) → Poses bytes p → Fits p → p.existentials ≡ [] → run_end budget p ≡ ends_with (run.valid vs x) stands
       → TellsBlocks p stands.funds answer.text
 

@@ -20,8 +20,8 @@ use Rattle.model_table.specs.Models.{meaning_of, truth_at, value_at}
 use Rattle.model_formulas.specs.declared.choosing.Guard.{Guard}
 use Rattle.model_formulas.specs.Choices.{AreChoices}
 use Rattle.model_formulas.specs.Expansions.{Tells}
-use Rattle.model_formulas.specs.Terms.{put_in}
-use Rattle.model_formulas.proofs.Values.{put_value, put_values}
+use Rattle.form_closures.specs.Putting.{put_in}
+use Rattle.form_closures.proofs.Values.{put_value, put_values}
 use Rattle.model_formulas.proofs.Chosen.{made_value}
 use Rattle.model_formulas.proofs.Firsts.{negated}
 use Rattle.model_formulas.specs.Expanded.{IsExpansion, IsBound, IsRead}

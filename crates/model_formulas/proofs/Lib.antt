@@ -1,5 +1,3 @@
-pub mod Values
-pub mod Puts
 pub mod Told
 pub mod Members
 pub mod Matching

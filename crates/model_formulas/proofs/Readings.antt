@@ -19,7 +19,7 @@ use Rattle.model_table.specs.declared.model.Model.{Model}
 use Rattle.model_table.specs.Models.{value_at}
 use Rattle.model_formulas.specs.declared.choosing.Guard.{Guard}
 use Rattle.model_formulas.specs.Choices.{AreChoices}
-use Rattle.model_formulas.specs.Terms.{put_in}
+use Rattle.form_closures.specs.Putting.{put_in}
 use Rattle.model_formulas.specs.Expanded.{IsRead, Reads, ReadsFirst, is_over, are_over}
 
 equal_is : (o : Ordering) → is_eq o ≡ true → o ≡ Equal

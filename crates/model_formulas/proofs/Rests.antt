@@ -16,9 +16,9 @@ use Rattle.model_table.specs.Models.{meaning_of, value_at}
 use Rattle.model_formulas.specs.declared.choosing.Guard.{Guard}
 use Rattle.model_formulas.specs.Choices.{AreChoices}
 use Rattle.model_formulas.specs.Expansions.{Same}
-use Rattle.model_formulas.specs.Terms.{put_in}
+use Rattle.form_closures.specs.Putting.{put_in}
 use Rattle.model_formulas.proofs.Chosen.{CasesSo, SaysCase, cases_begin, cases_go, cases_end}
-use Rattle.model_formulas.proofs.Values.{put_values}
+use Rattle.form_closures.proofs.Values.{put_values}
 use Rattle.model_formulas.specs.Expanded.{IsExpansion, IsRead, Reads, ReadsFirst, are_over}
 use Rattle.model_formulas.proofs.Arms.{expands_as, values_more}
 use Rattle.model_formulas.proofs.Readings.{overs_are}

@@ -8,7 +8,7 @@ use Rattle.model_table.specs.declared.model.Model.{Model}
 use Rattle.model_table.specs.Models.{meaning_of, value_at}
 use Rattle.model_formulas.specs.declared.choosing.Guard.{Guard}
 use Rattle.model_formulas.specs.Choices.{AreChoices}
-use Rattle.model_formulas.specs.Terms.{put_in}
+use Rattle.form_closures.specs.Putting.{put_in}
 
 -- g has no predicate and no function, and is true at n integers exactly where f is in the model, with the terms ts for its names
 pub record IsExpansion (m : Model) (f : Form) (ts : List Linear) (n : ℕ) (g : Form) : Type 0 where

@@ -1,4 +1,3 @@
-pub mod Terms
 pub mod Expansions
 pub mod Choices
 pub mod Rows

@@ -4,7 +4,7 @@ ghost use Rattle.std.specs.Prelude.{◌≡◌, ◌++◌, ◌∷◌, [], pos, neg
 ghost use Rattle.linear_term.specs.Range.{InRange};
 ghost use Rattle.linear_term.specs.Linear as linear;
 ghost use Rattle.linear_term.specs.Combination.{combination};
-ghost use Rattle.model_formulas.specs.Terms as terms;
+ghost use Rattle.form_closures.specs.Putting as terms;
 
 use crate::effort::Effort;
 use crate::fault::Fault;
@@ -45,7 +45,7 @@ pub fn minus(alloc: Global, effort: &mut Effort, t: &Term, n: i128) -> Result<Te
 }
 
 /// u, and k times the term for the name x.
-#[tactic(auto, using(crate::proofs::Puts::terms))]
+#[tactic(auto, using(form_closures::proofs::Puts::terms))]
 fn put_one(
     alloc: Global,
     effort: &mut Effort,
@@ -72,7 +72,7 @@ fn put_one(
 }
 
 /// The term with the terms ts for its names.
-#[tactic(auto, using(crate::proofs::Puts::puts))]
+#[tactic(auto, using(form_closures::proofs::Puts::puts))]
 pub fn put_in(alloc: Global, effort: &mut Effort, ts: &[Term], t: &Term) -> Result<Term, Fault>
     ensures { IfOk result (λ r. r ≡ terms.put_in ts.now t.now) }
 {

@@ -1,5 +1,5 @@
 use Rattle.std.proofs.Common.{sym, ◌∙◌, to_z-of_z}
-use Rattle.clause_checker.proofs.Puts.{put_found}
+use Rattle.form_closures.proofs.Puts.{put_found}
 use mir.Syntax.{w128}
 use mir.Val.{SFits}
 use Rattle.clause_checker.proofs.putting.put_one.Goals as goal

@@ -1,5 +1,5 @@
 use Rattle.std.proofs.Common.{◌≡◌, map, take}
-use Rattle.model_formulas.specs.Terms as terms
+use Rattle.form_closures.specs.Putting as terms
 use Rattle.model_formulas.proofs.putting.put_all.Given as goal
 
 abbrev pub invariant-loop-u : goal.invariant-loop-u

@@ -1,6 +1,6 @@
 use Rattle.std.proofs.Common.{drop}
-use Rattle.model_formulas.specs.Terms as terms
-use Rattle.model_formulas.proofs.Puts.{PutLeft}
+use Rattle.form_closures.specs.Putting as terms
+use Rattle.form_closures.proofs.Puts.{PutLeft}
 use Rattle.model_formulas.proofs.putting.put_in.Given as goal
 
 abbrev pub invariant-loop-pair : goal.invariant-loop-pair

@@ -6,7 +6,7 @@ use Rattle.std.specs.Option.{option_copied}
 use Rattle.base_budget.proofs.Charging.{drop-item, drop_all}
 use Rattle.linear_term.specs.Linear.{Linear, number}
 use Rattle.linear_term.specs.Combination.{combination}
-use Rattle.model_formulas.specs.Terms.{term_at, put_from, put_in}
+use Rattle.form_closures.specs.Putting.{term_at, put_from, put_in}
 
 found_term : (ts : List Linear) (x : ℕ) (t : Linear) → slice_get ts x ≡ Some t → t ≡ term_at ts x
 found_term [] x t h = absurd (cc)

@@ -9,7 +9,7 @@ use Rattle.linear_term.proofs.Totals.{value_of-combination, value_of-number}
 use Rattle.linear_term.proofs.Names.{combination-over}
 use Rattle.formula.specs.Form.{values_of}
 use Rattle.formula.proofs.Extending.{over_number}
-use Rattle.model_formulas.specs.Terms.{term_at, put_from, put_in}
+use Rattle.form_closures.specs.Putting.{term_at, put_from, put_in}
 
 term_value : (ts : List Linear) (x : ℕ) (e : List ℤ) → value_of (term_at ts x) e ≡ entry (values_of ts e) x
 term_value [] x e = value_of-number (pos 0) e
