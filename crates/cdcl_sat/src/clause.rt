@@ -23,6 +23,17 @@ pub struct Watch {
     pub other: Lit,
 }
 
+impl Watch {
+    /// The same with this literal as the other one.
+    #[inline]
+    pub(crate) fn beside(self, other: Lit) -> Watch {
+        Watch {
+            clause: self.clause,
+            other,
+        }
+    }
+}
+
 /// What became of a clause of which a watched literal is false.
 #[derive(Clone, Copy)]
 pub(crate) enum Visited {

@@ -335,54 +335,46 @@ impl Sat {
         let mut conflict = None;
         for i in 0..n {
             let w = at(&ws, i)?;
-            if conflict.is_some() || self.trail.value_of(w.other)? == 1 {
+            let stays = if conflict.is_some() || self.trail.value_of(w.other)? == 1 {
+                Some(w)
+            } else {
+                self.follow(w, f, &mut conflict)?
+            };
+            if let Some(w) = stays {
                 put(&mut ws, kept, w)?;
                 kept = kept.saturating_add(1);
-                continue;
-            }
-            let cl = near_mut(&mut self.clauses, w.clause as usize)?;
-            match cl.rewatch(&self.trail.value, f)? {
-                Visited::True(first) => {
-                    put(
-                        &mut ws,
-                        kept,
-                        Watch {
-                            clause: w.clause,
-                            other: first,
-                        },
-                    )?;
-                    kept = kept.saturating_add(1);
-                }
-                Visited::Moved(first, l) => {
-                    self.watch_by(
-                        l,
-                        Watch {
-                            clause: w.clause,
-                            other: first,
-                        },
-                    )?;
-                }
-                Visited::Unit(first) => {
-                    put(
-                        &mut ws,
-                        kept,
-                        Watch {
-                            clause: w.clause,
-                            other: first,
-                        },
-                    )?;
-                    kept = kept.saturating_add(1);
-                    if self.trail.value_of(first)? == -1 {
-                        conflict = Some(w.clause);
-                    } else {
-                        self.trail.enqueue(first, Reason::Clause(w.clause))?;
-                    }
-                }
             }
         }
         ws.truncate(kept);
         let slot = near_mut(&mut self.watches, f as usize)?;
         *slot = ws;
         Ok(conflict)
+    }
+
+    /// What becomes of a watch on the false literal f: it is gone where its clause watches another literal now. A clause of false
+    /// literals alone is the conflict.
+    #[inline]
+    fn follow(
+        &mut self,
+        w: Watch,
+        f: Lit,
+        conflict: &mut Option<u32>,
+    ) -> Result<Option<Watch>, Fault> {
+        let cl = near_mut(&mut self.clauses, w.clause as usize)?;
+        match cl.rewatch(&self.trail.value, f)? {
+            Visited::True(first) => Ok(Some(w.beside(first))),
+            Visited::Moved(first, l) => {
+                self.watch_by(l, w.beside(first))?;
+                Ok(None)
+            }
+            Visited::Unit(first) => {
+                if self.trail.value_of(first)? == -1 {
+                    *conflict = Some(w.clause);
+                } else {
+                    self.trail.enqueue(first, Reason::Clause(w.clause))?;
+                }
+                Ok(Some(w.beside(first)))
+            }
+        }
     }
 }

@@ -212,7 +212,6 @@ impl Simplex {
         if !at(&self.active, i)? {
             self.activate(x, fuel)?;
         }
-        let v = new.v;
         let lower = at(&self.lower, i)?;
         let upper = at(&self.upper, i)?;
         let (same, other) = if is_upper {
@@ -221,42 +220,76 @@ impl Simplex {
             (lower, upper)
         };
         if let Some(b) = same
-            && (if is_upper { b.v <= v } else { b.v >= v })
+            && (if is_upper { b.v <= new.v } else { b.v >= new.v })
         {
             return Ok(Bounded::Old);
         }
         if let Some(b) = other
-            && (if is_upper { b.v > v } else { b.v < v })
+            && (if is_upper { b.v > new.v } else { b.v < new.v })
         {
-            let sign = if is_upper { -1 } else { 1 };
-            conflict.push(Share {
-                lit: new.lit,
-                times: sign,
-            })?;
-            conflict.push(Share {
-                lit: b.lit,
-                times: -sign,
-            })?;
+            crossed(is_upper, new, b, conflict)?;
             return Ok(Bounded::Crossed);
         }
+        self.keep(x, is_upper, new, same)?;
+        self.move_within(x, is_upper, new.v, fuel)?;
+        Ok(Bounded::New)
+    }
+
+    /// The bound takes the place of the old one.
+    fn keep(
+        &mut self,
+        x: u32,
+        is_upper: bool,
+        new: Bound,
+        old: Option<Bound>,
+    ) -> Result<(), Fault> {
         self.trail.push(Undo {
             x,
             upper: is_upper,
-            old: same,
+            old,
         })?;
         if is_upper {
-            put(&mut self.upper, i, Some(new))?;
+            put(&mut self.upper, x as usize, Some(new))
         } else {
-            put(&mut self.lower, i, Some(new))?;
+            put(&mut self.lower, x as usize, Some(new))
         }
+    }
+
+    /// The value of a variable without a row goes to its new bound where it crosses it; a sum with a row is looked at later.
+    fn move_within(
+        &mut self,
+        x: u32,
+        is_upper: bool,
+        v: i128,
+        fuel: &mut Fuel,
+    ) -> Result<(), Fault> {
+        let i = x as usize;
         if at(&self.table.row_of, i)? != NOWHERE {
-            self.touch(x)?;
-            return Ok(Bounded::New);
+            return self.touch(x);
         }
         let o = at(&self.value, i)?.versus(v)?;
         if (is_upper && o == Ordering::Greater) || (!is_upper && o == Ordering::Less) {
             self.shift(x, v, fuel)?;
         }
-        Ok(Bounded::New)
+        Ok(())
     }
+}
+
+/// Two bounds that exclude each other, with their multipliers.
+fn crossed(
+    is_upper: bool,
+    new: Bound,
+    other: Bound,
+    conflict: &mut Vec<Share>,
+) -> Result<(), Fault> {
+    let sign = if is_upper { -1 } else { 1 };
+    conflict.push(Share {
+        lit: new.lit,
+        times: sign,
+    })?;
+    conflict.push(Share {
+        lit: other.lit,
+        times: -sign,
+    })?;
+    Ok(())
 }

@@ -55,7 +55,7 @@ pub fn write_proof(log: &Log, words: &Vocabulary, fuel: &mut Fuel) -> Result<Pro
             continue;
         }
         if let Step::Root(l) = at(&log.steps, i)? {
-            root = w.member(words, l)?;
+            root = w.member(l)?;
         } else {
             w.step(log, words, i, fuel)?;
         }
@@ -192,7 +192,7 @@ impl Writer {
     }
 
     /// A literal that the line makes if it is not there.
-    fn member(&mut self, _words: &Vocabulary, l: Lit) -> Result<Literal, Fault> {
+    fn member(&mut self, l: Lit) -> Result<Literal, Fault> {
         if at(&self.variables, variable(l))? == NONE {
             put(&mut self.variables, variable(l), self.next_variable)?;
             self.next_variable = self.next_variable.checked_add(1).ok_or(Fault::Overflow)?;
@@ -200,15 +200,10 @@ impl Writer {
         self.known(l)
     }
 
-    fn members(
-        &mut self,
-        log: &Log,
-        words: &Vocabulary,
-        s: Stretch,
-    ) -> Result<Items<Literal>, Fault> {
+    fn members(&mut self, log: &Log, s: Stretch) -> Result<Items<Literal>, Fault> {
         let mut out = Items::new(self.alloc);
         for l in log.lits_of(s)? {
-            out.push(self.member(words, *l)?)?;
+            out.push(self.member(*l)?)?;
         }
         Ok(out)
     }
@@ -225,7 +220,7 @@ impl Writer {
             _ => return Err(Fault::Broken),
         };
         self.lines.push(line)?;
-        self.member(words, l)
+        self.member(l)
     }
 
     fn variable_of(&mut self, words: &Vocabulary, v: u32) -> Result<u32, Fault> {
@@ -262,46 +257,63 @@ impl Writer {
             Step::OpenAnd(v, members) | Step::OpenOr(v, members) => {
                 fuel.spend((members.end.saturating_sub(members.start)) as u64)?;
                 let v = self.variable_of(words, v)?;
-                Line::Open(v, self.members(log, words, members)?)
+                Line::Open(v, self.members(log, members)?)
             }
             Step::OpenForall(v, member) => self.forall(log, words, i, v, member)?,
             Step::Apply(a) => self.apply(words, a)?,
             Step::Read(v, applications, member) => {
                 let v = self.variable_of(words, v)?;
                 let applications = self.numbers(&self.applications, log.numbers_of(applications)?)?;
-                Line::Read(v, applications, self.member(words, member)?)
+                Line::Read(v, applications, self.member(member)?)
             }
             Step::Instance(v, terms, member) => {
                 let v = self.variable_of(words, v)?;
                 let terms = self.list(words, terms)?;
-                Line::Instance(v, terms, self.member(words, member)?)
+                Line::Instance(v, terms, self.member(member)?)
             }
-            Step::Split(equation, above, below) => {
-                let equation = self.made(words, equation)?;
-                let above = self.member(words, above)?;
-                Line::Split(equation.variable, above, self.member(words, below)?)
-            }
+            Step::Split(equation, above, below) => self.split(words, equation, above, below)?,
             Step::Sum(factors) => self.sum(log, words, factors, fuel)?,
-            Step::Pair(a, b, equations, values) => {
-                let (a, b) = (self.application(a)?, self.application(b)?);
-                let values = self.member(words, values)?;
-                Line::Pair(a, b, self.members(log, words, equations)?, values)
-            }
+            Step::Pair(a, b, equations, values) => self.pair(log, (a, b), equations, values)?,
             Step::PredicatePair(v, w, equations) => {
                 let v = self.variable_of(words, v)?;
                 let w = self.variable_of(words, w)?;
-                Line::PredicatePair(v, w, self.members(log, words, equations)?)
+                Line::PredicatePair(v, w, self.members(log, equations)?)
             }
             Step::Divide(by, t, least, below) => {
                 let t = self.term(words, t)?;
                 self.constant_of(log, i)?;
-                let least = self.member(words, least)?;
-                Line::Divide(by, t, least, self.member(words, below)?)
+                let least = self.member(least)?;
+                Line::Divide(by, t, least, self.member(below)?)
             }
             Step::Learnt(lits, hints) => self.learnt(log, words, lits, hints, fuel)?,
         };
         self.lines.push(line)?;
         Ok(())
+    }
+
+    fn split(
+        &mut self,
+        words: &Vocabulary,
+        equation: Lit,
+        above: Lit,
+        below: Lit,
+    ) -> Result<Line, Fault> {
+        let equation = self.made(words, equation)?;
+        let above = self.member(above)?;
+        Ok(Line::Split(equation.variable, above, self.member(below)?))
+    }
+
+    /// The line of two applications, by their numbers.
+    fn pair(
+        &mut self,
+        log: &Log,
+        pair: (u32, u32),
+        equations: Stretch,
+        values: Lit,
+    ) -> Result<Line, Fault> {
+        let (a, b) = (self.application(pair.0)?, self.application(pair.1)?);
+        let values = self.member(values)?;
+        Ok(Line::Pair(a, b, self.members(log, equations)?, values))
     }
 
     fn forall(
@@ -315,7 +327,7 @@ impl Writer {
         let v = self.variable_of(words, v)?;
         self.constant_of(log, i)?;
         let mut members = Items::new(self.alloc);
-        members.push(self.member(words, member)?)?;
+        members.push(self.member(member)?)?;
         Ok(Line::Open(v, members))
     }
 
