@@ -6,7 +6,7 @@ use Rattle.prover_job.proofs.Telling.{task_status, text_status, no_fault, no_wor
 use Rattle.prover_job.proofs.runs.do_job.Goals as goal
 
 pub put_answer-requires : goal.put_answer-requires
-put_answer-requires g c = text_status _ (task_status (g.S.Source.bytes_of c.args.source.now) (task_of c.args.job.now) (answer_of c.in-Ok.output) c.in-Ok.ensures.answered)
+put_answer-requires g c = text_status ((answer_of c.in-Ok.output).status) (task_status (g.S.Source.bytes_of c.args.source.now) (task_of c.args.job.now) (answer_of c.in-Ok.output) c.in-Ok.ensures.answered)
 
 pub returns-in-Ok-clause-words : goal.returns-in-Ok-clause-words
 returns-in-Ok-clause-words g c = no_words _ _ (task_status (g.S.Source.bytes_of c.args.source.now) (task_of c.args.job.now) (answer_of c.in-Ok.output) c.in-Ok.ensures.answered) c.put_answer.ensures.ends
