@@ -1,9 +1,6 @@
 -- Several bodies written out, and a call that there is no defined function for.
 use Rattle.std.proofs.Common.{◌≡◌, ℕ, ◌+◌, ◌≤◌, false, List, [], ◌∷◌, map, length, nat_eq, refl, sym, ap, ◌∙◌, arith, if◌then◌else◌}
-use Rattle.form_typed.specs.Formula.{formula}
-use Rattle.form_typed.specs.declared.typed.Typed.TheVariants as f
-use Rattle.form_typed.proofs.Folds.{formula-Truth}
-use Rattle.smt_terms.specs.Translation.{Standing, a_formula, at_depth}
+use Rattle.smt_terms.specs.Translation.{Standing, at_depth}
 use Rattle.smt_names.specs.declared.body.Body.{Body}
 use Rattle.smt_names.specs.Body.{Shape, shape, shapes_of}
 use Rattle.smt_names.specs.Saying.{Calls, nothing, shape_said, shapes_said, calls, calls_of, shapes_onto}
@@ -22,5 +19,5 @@ past (t ∷ ts) k ss n h =
     let other : nat_eq k (length ts) ≡ false = grind (arith, h) in
     ap (λ z. if z then shape_said (calls ts) ss t n else calls ts k ss n) other ∙ past ts k ss n (omega (arith, h))
 
-pub false-call : (ds : List Body) (k : ℕ) (ss : List Standing) (n : ℕ) → length ds ≤ k → a_formula (formula (f.Truth false)) ≡ calls_of ds k ss n
-false-call ds k ss n h = ap a_formula (formula-Truth false) ∙ sym (past (shapes_onto [] ds) k ss n (omega (arith, h, onto-count [] ds)))
+pub no-call : (ds : List Body) (k : ℕ) (ss : List Standing) (n : ℕ) → length ds ≤ k → nothing n ≡ calls_of ds k ss n
+no-call ds k ss n h = sym (past (shapes_onto [] ds) k ss n (omega (arith, h, onto-count [] ds)))

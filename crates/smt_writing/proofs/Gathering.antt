@@ -18,12 +18,12 @@ pub heights-gathered : (C : Costs) (e : List ℕ) (bs : List Body) → bound_hei
 heights-gathered C e [] = refl
 heights-gathered C e (b ∷ bs) = heights-gathered C (e ++ height C e (shape b) ∷ []) bs
 
-entry-left : {A : Type 0} (e more : List A) (k : ℕ) (d : A) → k < length e → get_or (e ++ more) k d ≡ get_or e k d
+pub entry-left : {A : Type 0} (e more : List A) (k : ℕ) (d : A) → k < length e → get_or (e ++ more) k d ≡ get_or e k d
 entry-left [] more k d h = absurd (omega arith)
 entry-left (x ∷ e) more zero d h = refl
 entry-left (x ∷ e) more (suc k) d h = entry-left e more k d (omega arith)
 
-entry-here : {A : Type 0} (e : List A) (x : A) (d : A) → get_or (e ++ x ∷ []) (length e) d ≡ x
+pub entry-here : {A : Type 0} (e : List A) (x : A) (d : A) → get_or (e ++ x ∷ []) (length e) d ≡ x
 entry-here [] x d = refl
 entry-here (y ∷ e) x d = entry-here e x d
 

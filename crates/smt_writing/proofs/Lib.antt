@@ -1,4 +1,5 @@
 pub mod Calling
-pub mod Finding
 pub mod Folding
 pub mod Gathering
+pub mod Layering
+pub mod Reaching

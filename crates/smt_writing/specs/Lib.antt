@@ -1,4 +1,5 @@
 pub mod Heights
+pub mod Layers
 pub mod Pairing
-pub mod Slots
+pub mod Places
 pub mod Written

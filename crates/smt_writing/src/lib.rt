@@ -2,10 +2,11 @@
 #![tactic(auto)]
 
 mod combine;
+mod layers;
 mod nodes;
 mod operators;
 mod pairing;
-mod slots;
+mod places;
 mod writing;
 mod written;
 

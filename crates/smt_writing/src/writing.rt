@@ -1,22 +1,24 @@
 // Bodies written out: a bound name is replaced by what it stands for, and a defined function by its body at its arguments.
-// Nothing is copied: a name is looked up where it is used, and its body written there.
+// Nothing is copied: a name is looked up where it is used, and its body written there. `write` calls itself below an operator, a
+// function, a predicate or a quantifier alone, so it goes as deep as what it writes does.
 
-ghost use Rattle.std.specs.Prelude.{◌≡◌, [], IfOk, map};
+ghost use Rattle.std.specs.Prelude.{◌≡◌, ◌≤◌, [], IfOk, length, map};
 ghost use Rattle.form_typed.specs.Formula.{formula};
 ghost use Rattle.smt_terms.specs.Translation.{at_depth, formula_in};
-ghost use Rattle.smt_names.specs.Body.{shape, shapes_of};
-ghost use Rattle.smt_names.specs.Saying.{calls_of, leaf_said, quantified_by, quantified_over, shape_said, shapes_said};
-ghost use Rattle.smt_names.specs.declared.body.Leaf.{Leaf};
-ghost use Rattle.smt_writing.specs.Slots.{slots_at};
+ghost use Rattle.smt_names.specs.Body.{shape};
+ghost use Rattle.smt_names.specs.Saying.{calls_of, quantified_by, quantified_over, shape_said};
+ghost use Rattle.smt_writing.specs.Layers.{AreLayered, Extends};
+ghost use Rattle.smt_writing.specs.Places.{IsHeadWithin, head_said, inside_said, place_said, places_said};
 ghost use Rattle.smt_writing.specs.Written.{written};
 
 use crate::combine::terms;
+use crate::layers::{Layer, Names, push};
 use crate::operators::operate;
-use crate::slots::{Closure, Slots, find};
+use crate::places::{Head, Place, Places, follow};
 use crate::written::{Written, into_formula};
 use form_typed::{Sort, Typed, TypedTerm};
 use linear_term::Memory;
-use smt_names::{Body, Leaf};
+use smt_names::Body;
 use sqlite_items::Boxed;
 use std::alloc::Global;
 
@@ -43,126 +45,107 @@ fn quantify(alloc: Global, all: bool, count: u32, body: Typed) -> Result<Typed, 
     Ok(whole)
 }
 
-/// What a body becomes where so many names are around.
+/// What the body at a place becomes where so many names are around. The layers are left as they were.
 #[cycle(write)]
-fn write(
+fn write<'a>(
     alloc: Global,
-    definitions: &[Body],
-    slots: &Slots<'_>,
+    layers: &mut Vec<Layer<'a>>,
     depth: u32,
-    body: &Body,
+    place: Place<'a>,
 ) -> Result<Written, Memory>
-    ensures { IfOk result (λ w. written w ≡ shape_said (calls_of definitions.now) (slots_at slots.now) (shape body.now) depth) }
+    requires layered { AreLayered layers.old.items }
+    requires within { place.layer ≤ length layers.old.items }
+    ensures said { IfOk result (λ w. written w ≡ place_said layers.old.items place.entry depth) }
+    ensures kept { IfOk result (λ w. layers.new.items ≡ layers.old.items) }
 {
-    match body {
-        Body::Leaf(leaf) => write_leaf(alloc, &*slots, depth, *leaf),
-        Body::Operated(operator, arguments) => {
-            operate(
-                alloc,
-                *operator,
-                write_all(alloc, &*definitions, &*slots, depth, arguments.as_slice())?,
-            )
-        }
-        Body::Function(k, arguments) => {
-            let written = write_all(alloc, &*definitions, &*slots, depth, arguments.as_slice())?;
-            Ok(Written::Term(TypedTerm::Apply(*k, terms(alloc, written)?)))
-        }
-        Body::Predicate(k, arguments) => {
-            let written = write_all(alloc, &*definitions, &*slots, depth, arguments.as_slice())?;
-            Ok(Written::Formula(Typed::Pred(*k, terms(alloc, written)?)))
-        }
-        Body::Defined(k, arguments) => write_call(
-            alloc,
-            &*definitions,
-            &*slots,
-            depth,
-            *k,
-            arguments.as_slice(),
-        ),
-        Body::Let(bodies, inner) => {
-            let more = Slots::Bound(bodies.as_slice(), &*definitions, &*slots);
-            write(alloc, &*definitions, &more, depth, inner.get())
-        }
-        Body::Quantified(all, count, inner) => {
-            let Some(deeper) = depth.checked_add(*count) else {
-                return Err(Memory)
-            };
-            let more = Slots::Variables(*count, depth, &*slots);
-            let inside = write(alloc, &*definitions, &more, deeper, inner.get())?;
-            Ok(Written::Formula(quantify(alloc, *all, *count, into_formula(inside))?))
-        }
-    }
+    let open = layers.len();
+    let head = follow(&mut *layers, place)?;
+    let written = write_head(alloc, &mut *layers, depth, head)?;
+    layers.truncate(open);
+    Ok(written)
 }
 
-/// What a defined function at its arguments becomes.
+/// What a body becomes that does not stand for another one.
 #[cycle(write)]
-fn write_call(
+fn write_head<'a>(
     alloc: Global,
-    definitions: &[Body],
-    slots: &Slots<'_>,
+    layers: &mut Vec<Layer<'a>>,
     depth: u32,
-    k: u32,
-    arguments: &[Body],
+    head: Head<'a>,
 ) -> Result<Written, Memory>
-    ensures { IfOk result (λ w. written w ≡ calls_of definitions.now k (shapes_said (calls_of definitions.now) (slots_at slots.now) (shapes_of arguments.now)) depth) }
+    requires layered { AreLayered layers.old.items }
+    requires within { IsHeadWithin layers.old.items head }
+    ensures said { IfOk result (λ w. written w ≡ head_said layers.old.items head.entry depth) }
+    ensures extends { IfOk result (λ w. Extends layers.old.items layers.new.items) }
 {
-    let i = k as usize;
-    if i >= definitions.len() {
-        return Ok(Written::Formula(Typed::Truth(false)));
+    match head {
+        Head::Number(n) => Ok(Written::Term(TypedTerm::Number(n))),
+        Head::Truth(b) => Ok(Written::Formula(Typed::Truth(b))),
+        Head::Name(k) => Ok(Written::Term(TypedTerm::Name(k))),
+        Head::Operated(operator, arguments) => {
+            let written = write_all(alloc, &mut *layers, depth, arguments)?;
+            operate(alloc, operator, written)
+        }
+        Head::Function(k, arguments) => {
+            let written = write_all(alloc, &mut *layers, depth, arguments)?;
+            Ok(Written::Term(TypedTerm::Apply(k, terms(alloc, written)?)))
+        }
+        Head::Predicate(k, arguments) => {
+            let written = write_all(alloc, &mut *layers, depth, arguments)?;
+            Ok(Written::Formula(Typed::Pred(k, terms(alloc, written)?)))
+        }
+        Head::Quantified(all, count, inside) => {
+            let body = write_inside(alloc, &mut *layers, depth, count, inside)?;
+            Ok(Written::Formula(quantify(alloc, all, count, body)?))
+        }
     }
-    let inner = Slots::Arguments(&*arguments, &*definitions, &*slots);
-    write(alloc, &definitions[..i], &inner, depth, &definitions[i])
 }
 
-/// What a leaf becomes.
+/// What the body at a place becomes inside a quantifier over so many names.
 #[cycle(write)]
-fn write_leaf(alloc: Global, slots: &Slots<'_>, depth: u32, leaf: Leaf) -> Result<Written, Memory>
-    ensures { IfOk result (λ w. written w ≡ leaf_said (slots_at slots.now) leaf depth) }
+fn write_inside<'a>(
+    alloc: Global,
+    layers: &mut Vec<Layer<'a>>,
+    depth: u32,
+    count: u32,
+    place: Place<'a>,
+) -> Result<Typed, Memory>
+    requires layered { AreLayered layers.old.items }
+    requires within { place.layer ≤ length layers.old.items }
+    ensures said { IfOk result (λ f. formula f ≡ inside_said count layers.old.items place.entry depth) }
+    ensures extends { IfOk result (λ f. Extends layers.old.items layers.new.items) }
 {
-    match leaf {
-        Leaf::Number(n) => Ok(Written::Term(TypedTerm::Number(n))),
-        Leaf::Truth(b) => Ok(Written::Formula(Typed::Truth(b))),
-        Leaf::Constant(k) => Ok(Written::Term(TypedTerm::Name(k))),
-        Leaf::Slot(k) => write_slot(alloc, &*slots, depth, k),
-    }
-}
-
-/// What a bound name becomes.
-#[cycle(write)]
-fn write_slot(alloc: Global, slots: &Slots<'_>, depth: u32, k: u32) -> Result<Written, Memory>
-    ensures { IfOk result (λ w. written w ≡ leaf_said (slots_at slots.now) (Leaf.Slot k) depth) }
-{
-    let Some(closure) = find(&*slots, k)? else {
-        return Ok(Written::Formula(Typed::Truth(false)));
+    let deeper = depth.checked_add(count).ok_or(Memory)?;
+    let layer = push(&mut *layers, place.layer, Names::Variables(count, depth))?;
+    let inside = Place {
+        layer,
+        definitions: place.definitions,
+        body: place.body,
     };
-    match closure {
-        Closure::Variable(first, more) => {
-            let Some(name) = first.checked_add(more) else {
-                return Err(Memory)
-            };
-            Ok(Written::Term(TypedTerm::Name(name)))
-        }
-        Closure::Body(body, definitions, before, around) => {
-            let inner = Slots::Bound(&*before, &*definitions, &*around);
-            write(alloc, &*definitions, &inner, depth, &*body)
-        }
-    }
+    Ok(into_formula(write(alloc, &mut *layers, deeper, inside)?))
 }
 
-/// What each of several bodies becomes.
+/// What each of several bodies in one place becomes. The layers are left as they were.
 #[cycle(write)]
-fn write_all(
+fn write_all<'a>(
     alloc: Global,
-    definitions: &[Body],
-    slots: &Slots<'_>,
+    layers: &mut Vec<Layer<'a>>,
     depth: u32,
-    bodies: &[Body],
+    places: Places<'a>,
 ) -> Result<Vec<Written>, Memory>
-    ensures { IfOk result (λ ws. map written ws.items ≡ at_depth depth (shapes_said (calls_of definitions.now) (slots_at slots.now) (shapes_of bodies.now))) }
+    requires layered { AreLayered layers.old.items }
+    requires within { places.layer ≤ length layers.old.items }
+    ensures said { IfOk result (λ ws. map written ws.items ≡ at_depth depth (places_said layers.old.items places.entry)) }
+    ensures kept { IfOk result (λ ws. layers.new.items ≡ layers.old.items) }
 {
     let mut out = Vec::new(alloc);
-    for body in bodies {
-        out.push(write(alloc, &*definitions, &*slots, depth, &*body)?)?;
+    for body in places.bodies {
+        let place = Place {
+            layer: places.layer,
+            definitions: places.definitions,
+            body,
+        };
+        out.push(write(alloc, &mut *layers, depth, place)?)?;
     }
     Ok(out)
 }
@@ -177,5 +160,11 @@ pub fn write_formula(
 ) -> Result<Typed, Memory>
     ensures { IfOk result (λ f. formula f ≡ formula_in (shape_said (calls_of definitions.now) [] (shape body.now) constants)) }
 {
-    Ok(into_formula(write(alloc, definitions, &Slots::Nothing, constants, body)?))
+    let mut layers = Vec::new(alloc);
+    let place = Place {
+        layer: 0,
+        definitions,
+        body,
+    };
+    Ok(into_formula(write(alloc, &mut layers, constants, place)?))
 }
