@@ -22,7 +22,7 @@ pub fn read<T: Terms>(alloc: Global, terms: &T, bytes: &[u8]) -> Result<Table, S
 }
 
 /// A refusal of the tokens as one of the script.
-fn as_script(e: ReadRefusal) -> ScriptRefusal
+pub(crate) fn as_script(e: ReadRefusal) -> ScriptRefusal
     ensures exact { result ≡ as_script e }
 {
     match e {

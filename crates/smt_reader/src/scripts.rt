@@ -2,7 +2,6 @@
 
 ghost use Rattle.std.specs.Prelude.{◌≡◌, ◌≢◌, ◌++◌, ◌∷◌, [], IfErr, IfOk, List, None, map};
 ghost use Rattle.smt_lists.specs.Expressions.{expr};
-ghost use Rattle.smt_reader.specs.Scripts.{as_script};
 ghost use Rattle.smt_terms.specs.Scripts.{State, checks};
 ghost use Rattle.smt_reader.specs.Effects.{command_is};
 ghost use Rattle.smt_reader.specs.Following.{AreNew, FollowsState};
@@ -14,10 +13,11 @@ ghost use Rattle.smt_reader.specs.Taking.{ArePosedOrLarge, IsGathered, at_check,
 use crate::effects::{Effect, read_effects};
 use crate::following::{Reading, follow, start};
 use crate::posing::{Script, pose};
+use crate::reading::as_script;
 use linear_term::Memory;
 use pri_typing::Problem;
 use smt_commands::ScriptRefusal;
-use smt_lists::{ReadRefusal, Sexp, lists};
+use smt_lists::{Sexp, lists};
 use smt_sizes::{NOTHING, Size, above, beside};
 use smt_typing::{Typing, walk};
 use sqlite_items::Items;
@@ -97,17 +97,6 @@ fn checks(alloc: Global, lists: &[Sexp]) -> Result<Option<Items<Problem>>, Memor
 {
     let effects = read_effects(alloc, lists)?;
     problems(alloc, effects.as_slice())
-}
-
-// A refusal of the tokens as one of the script.
-fn as_script(e: ReadRefusal) -> ScriptRefusal
-    ensures exact { result ≡ as_script e }
-{
-    match e {
-        ReadRefusal::Syntax(at) => ScriptRefusal::Syntax(at),
-        ReadRefusal::Deep(at) => ScriptRefusal::Deep(at),
-        ReadRefusal::Memory => ScriptRefusal::Memory,
-    }
 }
 
 // The problems of a script of these lists, or its refusal.
