@@ -1,4 +1,5 @@
 pub mod Answers
 pub mod Lines
 pub mod Answered
+pub mod Causes
 pub mod Meaning

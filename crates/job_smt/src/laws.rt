@@ -1,7 +1,8 @@
-// What the answer to a script means, as the contract of a function with nothing to do.
+// What the answer to a script means and where it comes, each the contract of a function with nothing to do.
 
 ghost use Rattle.base_answers.specs.Answer.{Answer};
 ghost use Rattle.job_smt.specs.Answered.{IsSmtAnswer};
+ghost use Rattle.job_smt.specs.Causes.{SmtCauses};
 ghost use Rattle.job_smt.specs.Meaning.{Scripted};
 ghost use Rattle.std.specs.Prelude.{◌≡◌, ◌⊎◌, ℕ, List};
 ghost use Rattle.form_typed.specs.Truth.{Meaning};
@@ -15,4 +16,9 @@ pub fn meaning_law()
 /// A script has one answer at most: so each answer comes exactly where its row says.
 pub fn one_answer_law()
     ensures { (budget : ℕ) (bytes : List ℕ) (a b : Answer) → IsSmtAnswer budget bytes a → IsSmtAnswer budget bytes b → a ≡ b }
+{}
+
+/// Each answer comes exactly where its row of the table of answers says.
+pub fn causes_law()
+    ensures { (budget : ℕ) (bytes : List ℕ) (a : Answer) → IsSmtAnswer budget bytes a → SmtCauses budget bytes a }
 {}

@@ -11,5 +11,5 @@ mod refusals;
 pub use answering::answer;
 pub use check_laws::answer_law;
 pub use checking::{CheckAnswer, check};
-pub use laws::{meaning_law, one_answer_law};
+pub use laws::{causes_law, meaning_law, one_answer_law};
 pub use lines::answer_checks;
