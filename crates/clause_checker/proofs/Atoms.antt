@@ -1,6 +1,5 @@
 -- New variables, split and quotients.
-use Rattle.std.proofs.Common.{◌≡◌, ℕ, suc, ℤ, pos, ◌<ℤ◌, ◌≤ℤ◌, int_lt, Bool, true, false, ◌&&◌, cond, List, [], ◌∷◌, ◌++◌, length, map, Option, Some, None, Result, Ok, Err, IsErrAnd, refl, sym, ap, ◌∙◌, subst, arith}
-use Rattle.std.specs.List.{slice_get}
+use Rattle.std.proofs.Common.{◌≡◌, ℕ, suc, ℤ, pos, ◌<ℤ◌, ◌≤ℤ◌, int_lt, Bool, true, false, ◌&&◌, cond, [], ◌∷◌, ◌++◌, length, Option, Some, None, Result, Ok, Err, IsErrAnd, refl, sym, ap, ◌∙◌, arith}
 use Rattle.std.proofs.lemmas.Int.{ints}
 use Rattle.std.proofs.lemmas.List.{append-nil}
 use Rattle.linear_term.specs.Linear.{Linear}
@@ -14,7 +13,7 @@ use Rattle.clause_checker.specs.declared.state.Definition.{Definition}
 use Rattle.clause_checker.specs.declared.state.State.{State}
 use Rattle.clause_checker.specs.Answers.{Does}
 use Rattle.clause_checker.specs.Views.{definition_of, definitions_of, state_of, new_variable, zero_of}
-use Rattle.clause_checker.proofs.Doing.{does_some, does_none, does_cut, does_on, does_then, does_err, does_as}
+use Rattle.clause_checker.proofs.Doing.{does_some, does_none, does_then, does_err, does_as}
 use Rattle.clause_checker.proofs.Stands.{all_one, stand_next, length_of}
 use Rattle.clause_checker.proofs.Opens.{adds_stood}
 

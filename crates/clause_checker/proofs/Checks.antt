@@ -1,5 +1,5 @@
 -- Lines and whole proofs.
-use Rattle.std.proofs.Common.{◌≡◌, ℕ, ◌<◌, ◌≤◌, ◌+◌, ◌-◌, ℤ, pos, Bool, true, false, List, [], ◌∷◌, ◌++◌, map, drop, length, get_or, Option, Some, None, Result, Ok, Err, IsErrAnd, OnOk, IsTrue, refl, sym, ap, ◌∙◌, subst, arith}
+use Rattle.std.proofs.Common.{◌≡◌, ℕ, ◌<◌, ◌≤◌, ◌+◌, ◌-◌, ℤ, Bool, true, false, List, [], ◌∷◌, map, drop, length, get_or, Option, Some, None, Result, Ok, Err, IsErrAnd, IsTrue, refl, sym, ap, ◌∙◌, subst, arith}
 use Rattle.std.specs.List.{slice_get}
 use Rattle.form_typed.specs.Truth.{Meaning}
 use Rattle.formula.specs.Form.{Form, FormTruth}
@@ -11,13 +11,13 @@ use Rattle.clause_proof.specs.declared.line.Line.TheVariants as line
 use Rattle.clause_proof.specs.Clauses as q
 use Rattle.clause_proof.specs.Atoms as atoms
 use Rattle.clause_proof.specs.Lines.{found, added, after, extended, without_clauses, stand_all, positive, opposite}
-use Rattle.clause_proof.specs.Proofs.{empty_state, start, run, is_empty, ends_so, ends_empty, IsClauseProof}
+use Rattle.clause_proof.specs.Proofs.{start, run, is_empty, ends_so, ends_empty, IsClauseProof}
 use Rattle.clause_proof.proofs.Sound.{proof_shows}
 use Rattle.clause_checker.specs.declared.fault.Fault.{Fault}
 use Rattle.clause_checker.specs.declared.fault.Fault.TheVariants.{Refused}
 use Rattle.clause_checker.specs.declared.state.State.{State}
 use Rattle.clause_checker.specs.declared.state.Definition.{Definition}
-use Rattle.clause_checker.specs.Answers.{IsOther, Does}
+use Rattle.clause_checker.specs.Answers.{Does}
 use Rattle.clause_checker.specs.Views.{state_of, definitions_of}
 use Rattle.clause_checker.proofs.Doing.{does_some, does_none, does_cut, does_on, does_then, does_err, does_as}
 

@@ -16,7 +16,7 @@ does_none view work h = record { ok = λ y is. absurd (cc); refused = λ is. h }
 not_refused : (e : Fault) → IsOther e → e ≡ Refused → ⊥
 not_refused Refused h is = h
 not_refused Steps h is = absurd (cc)
-not_refused Overflow h is = absurd (cc)
+not_refused (Overflow p) h is = absurd (cc)
 not_refused Room h is = absurd (cc)
 not_refused Memory h is = absurd (cc)
 

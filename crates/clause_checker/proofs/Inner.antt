@@ -1,9 +1,10 @@
 -- Conjunctions and disjunctions of one formula.
-use Rattle.std.proofs.Common.{◌≡◌, ◌≢◌, ℕ, zero, suc, List, [], ◌∷◌, length, Option, Some, None, refl, sym, ap, ◌∙◌, subst, arith}
+use Rattle.std.proofs.Common.{◌≡◌, ◌≢◌, ◌<◌, List, [], ◌∷◌, length, Option, Some, None, refl, sym, ap, ◌∙◌, subst, arith}
 use Rattle.std.specs.Borrow.{Bor}
 use Rattle.std.specs.List.{slice_get}
 use Rattle.std.specs.Option.{option_copied}
 use Rattle.formula.specs.Form.{Form, conjunction, disjunction}
+use Rattle.formula.specs.Sizes.{size}
 use Rattle.formula.specs.Tree.{form, forms_of}
 use Rattle.formula.specs.declared.calculus.Core.{Core}
 use Rattle.clause_proof.specs.Atoms.{inner_form}
@@ -42,6 +43,17 @@ any_many f fs is n = ap inner_form is ∙ go fs n ∙ sym is
 pub one_lacks : (f : Form) (fs : List Core) (o : Option (Bor Core)) → length fs ≡ 1 → option_copied o ≡ slice_get fs 0 → o ≡ None → inner_form f ≡ f
 one_lacks f fs o len is at = absurd (first_there fs o is at len)
 
-pub ruleset alls = (all_single, all_many, one_lacks)
+-- the formula inside is smaller
+pub all_smaller : (f : Form) (fs : List Core) (o : Option (Bor Core)) (b : Bor Core) → f ≡ conjunction (forms_of fs) → length fs ≡ 1 → option_copied o ≡ slice_get fs 0 → o ≡ Some b → size (form b.now) < size f
+all_smaller f fs o b is len at some =
+    let same : f ≡ conjunction (forms_of (b.now ∷ [])) = is ∙ ap (λ l. conjunction (forms_of l)) (first_alone fs o b len at some) in
+    subst (λ g. size (form b.now) < size g) (sym same) (omega arith)
 
-pub ruleset anys = (any_single, any_many, one_lacks)
+pub any_smaller : (f : Form) (fs : List Core) (o : Option (Bor Core)) (b : Bor Core) → f ≡ disjunction (forms_of fs) → length fs ≡ 1 → option_copied o ≡ slice_get fs 0 → o ≡ Some b → size (form b.now) < size f
+any_smaller f fs o b is len at some =
+    let same : f ≡ disjunction (forms_of (b.now ∷ [])) = is ∙ ap (λ l. disjunction (forms_of l)) (first_alone fs o b len at some) in
+    subst (λ g. size (form b.now) < size g) (sym same) (omega arith)
+
+pub ruleset alls = (all_single, all_smaller, all_many, one_lacks)
+
+pub ruleset anys = (any_single, any_smaller, any_many, one_lacks)

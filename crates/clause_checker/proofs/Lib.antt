@@ -1,3 +1,4 @@
+pub mod Causes
 pub mod Doing
 pub mod Puts
 pub mod Quotients

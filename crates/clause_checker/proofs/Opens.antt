@@ -1,5 +1,5 @@
 -- Closures that are opened, and what is added to a state.
-use Rattle.std.proofs.Common.{◌≡◌, ◌≢◌, ℕ, zero, suc, ◌+◌, Bool, true, false, cond, List, [], ◌∷◌, ◌++◌, length, map, Option, Some, None, Result, Ok, Err, IsErrAnd, refl, sym, ap, ◌∙◌, subst, arith}
+use Rattle.std.proofs.Common.{◌≡◌, ◌≢◌, ℕ, suc, ◌+◌, Bool, true, false, cond, List, [], ◌∷◌, ◌++◌, length, map, Option, Some, None, Result, Ok, Err, IsErrAnd, refl, sym, ap, ◌∙◌, arith}
 use Rattle.std.specs.Borrow.{Bor}
 use Rattle.std.specs.List.{slice_get}
 use Rattle.std.specs.Option.{option_copied, option_map}
@@ -9,17 +9,16 @@ use Rattle.linear_term.specs.Linear.{Linear}
 use Rattle.formula.specs.Form.{Form}
 use Rattle.formula.specs.Tree.{form}
 use Rattle.formula.specs.declared.calculus.Core.{Core}
-use Rattle.clause_proof.specs.declared.line.Application.{Application}
 use Rattle.clause_proof.specs.declared.line.Literal.{Literal}
 use Rattle.clause_proof.specs.Clauses as q
 use Rattle.clause_proof.specs.Atoms as atoms
-use Rattle.clause_proof.specs.Lines.{found, stand, stand_all, Addition, adding, extended, as_closure, closure_at, are_over, applied}
+use Rattle.clause_proof.specs.Lines.{found, stand, stand_all, adding, extended, as_closure, are_over, applied}
 use Rattle.clause_checker.specs.declared.fault.Fault.{Fault}
 use Rattle.clause_checker.specs.declared.fault.Fault.TheVariants.{Refused}
 use Rattle.clause_checker.specs.declared.state.Definition.{Definition}
 use Rattle.clause_checker.specs.declared.state.State.{State}
-use Rattle.clause_checker.specs.Answers.{Does, IsOther}
-use Rattle.clause_checker.specs.Views.{definition_of, definitions_of, state_of, Inner, inner_of, pair_up}
+use Rattle.clause_checker.specs.Answers.{Does}
+use Rattle.clause_checker.specs.Views.{definition_of, definitions_of, state_of, inner_of, pair_up}
 use Rattle.clause_checker.proofs.Doing.{does_some, does_none, does_cut, does_on, does_then, does_err, does_as}
 
 -- ---- a variable by its number

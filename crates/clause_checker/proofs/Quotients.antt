@@ -1,5 +1,5 @@
 -- Quotients of terms in normal form are in normal form (as in clause_set, which is not built for this crate).
-use Rattle.std.proofs.Common.{◌≡◌, ◌≢◌, ◌<◌, ◌≤◌, ◌+◌, ◌/◌, ◌^◌, ℕ, ℤ, pos, negsuc, ◌*ℤ◌, ◌≤ℤ◌, ◌<ℤ◌, int_lt, int_le, unsigned_abs, Bool, true, false, cond, List, [], ◌∷◌, refl, sym, ◌∙◌, ap, subst, arith}
+use Rattle.std.proofs.Common.{◌≡◌, ◌≢◌, ◌<◌, ◌≤◌, ◌+◌, ◌/◌, ◌^◌, ℕ, ℤ, pos, negsuc, ◌*ℤ◌, ◌<ℤ◌, int_le, unsigned_abs, true, false, cond, List, [], ◌∷◌, refl, sym, ◌∙◌, ap, subst, arith}
 use Rattle.std.specs.Prelude.{All}
 use Rattle.std.proofs.Common.{to_z, of_z, to_z-of_z}
 use mir.Syntax.{w128}
@@ -13,7 +13,6 @@ use Rattle.std.proofs.lemmas.List.Elements.{All-from_recursion, recursion_from_A
 use Rattle.base_integers.specs.Divides.{Divides, divides}
 use Rattle.linear_term.specs.Linear.{Linear, IsRisingFrom, IsCoefficient, IsNormal}
 use Rattle.linear_term.specs.Range.{InRange}
-use Rattle.linear_term.proofs.Totals.{by_test}
 use Rattle.formula.specs.Form.{Form, conjunction, disjunction}
 use Rattle.formula.specs.Tree.{forms_of}
 use Rattle.formula.specs.declared.calculus.Core.{Core}

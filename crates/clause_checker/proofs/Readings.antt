@@ -5,19 +5,18 @@ use Rattle.std.specs.List.{slice_get}
 use Rattle.std.specs.Option.{option_copied}
 use Rattle.base_budget.proofs.Charging.{drop-item, drop_all}
 use Rattle.linear_term.specs.Linear.{Linear, name}
-use Rattle.formula.specs.Form.{Form, Forms, equal, unequal, at_least, holds, fails, differs, conjunction, disjunction, universal, existential, no_form, and_form}
+use Rattle.formula.specs.Form.{Form, equal, unequal, at_least, holds, fails, differs, conjunction, disjunction, universal, existential}
 use Rattle.formula.specs.Tree.{form, forms_of}
 use Rattle.formula.specs.declared.calculus.Core.{Core}
 use Rattle.clause_proof.specs.declared.line.Application.{Application}
 use Rattle.clause_proof.specs.declared.line.Literal.{Literal}
 use Rattle.clause_proof.specs.Clauses as q
-use Rattle.clause_proof.specs.Lines.{found, extended, implied_by, instanced, are_over, bodies, read_all, read_one, second_form, reads_atom, Addition}
+use Rattle.clause_proof.specs.Lines.{found, extended, implied_by, instanced, are_over, bodies, read_all, read_one, second_form, Addition}
 use Rattle.clause_checker.specs.declared.fault.Fault.{Fault}
 use Rattle.clause_checker.specs.declared.fault.Fault.TheVariants.{Refused}
 use Rattle.clause_checker.specs.Answers.{Does}
 use Rattle.clause_checker.specs.Views.{Inner, inner_of, pair_up, body_at, read_at}
 use Rattle.clause_checker.proofs.Doing.{does_some, does_none, does_cut, does_on, does_then, does_err, does_as}
-use Rattle.clause_checker.proofs.Stands.{item_some, item_none}
 
 -- ---- bodies
 pub record BodiesLeft (us : List Linear) (f : Form) (ts : List Linear) (all : Option Inner) : Type 0 where

@@ -1,7 +1,7 @@
 -- Sums of facts, one more each time, and clauses that are added.
 use Rattle.std.proofs.Common.{◌≡◌, ℕ, pos, Bool, true, false, ◌&&◌, ◌<◌, ◌≤◌, ◌+◌, List, [], ◌∷◌, ◌++◌, map, drop, length, get_or, cond, Option, Some, None, Result, Ok, Err, IsErrAnd, refl, sym, ap, ◌∙◌}
 use Rattle.std.proofs.lemmas.List.{append-nil}
-use Rattle.linear_term.specs.Linear.{Linear, number}
+use Rattle.linear_term.specs.Linear.{number}
 use Rattle.base_budget.proofs.Charging.{drop-item, drop_all}
 use Rattle.clause_proof.specs.declared.line.Factor.{Factor}
 use Rattle.clause_proof.specs.declared.line.Literal.{Literal}

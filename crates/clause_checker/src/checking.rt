@@ -7,13 +7,14 @@ ghost use Rattle.linear_term.specs.Linear as linear;
 ghost use Rattle.formula.specs.Tree.{form};
 ghost use Rattle.clause_proof.specs.Lines as lines;
 ghost use Rattle.clause_proof.specs.Proofs as proofs;
-ghost use Rattle.clause_checker.specs.Answers.{Does, IsOther};
+ghost use Rattle.clause_checker.specs.Answers.{Does, HasCause, IsOther, IsUncharged};
 ghost use Rattle.clause_checker.specs.Views.{state_of};
 ghost use Rattle.clause_checker.specs.declared.fault.Fault.TheVariants.{Refused};
 
-use crate::canonical::literal_of;
+use crate::charging::{charge, coefficient};
 use crate::congruence::{pair, predicate_pair};
 use crate::fault::Fault;
+use crate::formulas::literal_of;
 use crate::opening::{apply, one, open, opposite, positive};
 use crate::pairing::{divide, equation, inequality, predicate, split};
 use crate::reading::{instance, read};
@@ -25,12 +26,12 @@ use base_budget::Purse;
 use clause_marks::Marks;
 use clause_proof::{Line, Literal};
 use formula::{Core, Shared};
-use linear_term::{Term, in_range};
+use linear_term::Term;
 use sqlite_items::{Items, at};
 use std::alloc::Global;
 
 /// The state with what the line adds.
-#[tactic(auto, using(crate::proofs::Checks::putting))]
+#[tactic(auto, using(crate::proofs::Checks::putting, crate::proofs::Causes::causes))]
 fn put<'a>(
     alloc: Global,
     purse: &mut Purse,
@@ -38,7 +39,9 @@ fn put<'a>(
     state: &mut State<'a>,
     line: &Line,
 ) -> Result<(), Fault>
-    ensures { Does (λ u. state_of state.new) (lines.found (lines.added (state_of state.old) line.now) (lines.extended (state_of state.old))) result }
+    ensures does { Does (λ u. state_of state.new) (lines.found (lines.added (state_of state.old) line.now) (lines.extended (state_of state.old))) result }
+    ensures cause { IfErr result (HasCause purse.new) }
+    ensures budget { purse.new.budget ≡ purse.old.budget }
 {
     match line {
         Line::Open(i, ms) => open(alloc, purse, state, *i, ms.as_slice()),
@@ -65,8 +68,9 @@ fn put<'a>(
     }
 }
 
-/// The state after the line. After a fault the state is not to be used again.
-#[tactic(auto, using(crate::proofs::Checks::stepping))]
+/// The state after the line. Steps comes only where the whole budget is spent, and Overflow names a number that leaves the range.
+/// After a fault the state is not to be used again.
+#[tactic(auto, using(crate::proofs::Checks::stepping, crate::proofs::Causes::causes))]
 pub fn step<'a>(
     alloc: Global,
     purse: &mut Purse,
@@ -74,12 +78,14 @@ pub fn step<'a>(
     state: &mut State<'a>,
     line: &Line,
 ) -> Result<(), Fault>
-    ensures { Does (λ u. state_of state.new) (lines.after (state_of state.old) line.now) result }
+    ensures does { Does (λ u. state_of state.new) (lines.after (state_of state.old) line.now) result }
+    ensures cause { IfErr result (HasCause purse.new) }
+    ensures budget { purse.new.budget ≡ purse.old.budget }
 {
-    purse.charge(1)?;
+    charge(purse, 1)?;
     match line {
         Line::Delete(hints) => {
-            purse.charge(hints.len() as u64)?;
+            charge(purse, hints.len() as u64)?;
             delete(&mut state.clauses, hints.as_slice());
             Ok(())
         }
@@ -88,7 +94,7 @@ pub fn step<'a>(
 }
 
 /// The state after the lines.
-#[tactic(auto, using(crate::proofs::Checks::running))]
+#[tactic(auto, using(crate::proofs::Checks::running, crate::proofs::Causes::causes))]
 fn run<'a>(
     alloc: Global,
     purse: &mut Purse,
@@ -96,7 +102,9 @@ fn run<'a>(
     state: &mut State<'a>,
     lines: &[Line],
 ) -> Result<(), Fault>
-    ensures { Does (λ u. state_of state.new) (proofs.run (state_of state.old) lines.now) result }
+    ensures does { Does (λ u. state_of state.new) (proofs.run (state_of state.old) lines.now) result }
+    ensures cause { IfErr result (HasCause purse.new) }
+    ensures budget { purse.new.budget ≡ purse.old.budget }
 {
     for line in lines {
         step(alloc, purse, marks, state, line)?;
@@ -108,19 +116,17 @@ fn run<'a>(
 fn number_terms(alloc: Global, ks: &[i128]) -> Result<Items<Term>, Fault>
     ensures ok { IfOk result (λ ts. ts ≡ map linear.number ks.now) }
     ensures err { IfErr result IsOther }
+    ensures cause { IfErr result IsUncharged }
 {
     let mut out = Items::new(alloc);
     for k in ks {
-        if !in_range(*k) {
-            return Err(Fault::Overflow);
-        }
-        out.push(Term::number(alloc, *k))?;
+        out.push(Term::number(alloc, coefficient(*k)?))?;
     }
     Ok(out)
 }
 
-/// The start: the root at the numbers is false. The literal stands for it.
-#[tactic(auto, using(crate::proofs::Checks::beginning))]
+/// The start: the root at the numbers is false. The literal stands for it. Cuts come as at `step`.
+#[tactic(auto, using(crate::proofs::Checks::beginning, crate::proofs::Causes::causes))]
 pub fn begin<'a>(
     alloc: Global,
     purse: &mut Purse,
@@ -128,9 +134,11 @@ pub fn begin<'a>(
     ks: &[i128],
     m: Literal,
 ) -> Result<State<'a>, Fault>
-    ensures { Does state_of (proofs.start (form root.now) ks.now m) result }
+    ensures does { Does state_of (proofs.start (form root.now) ks.now m) result }
+    ensures cause { IfErr result (HasCause purse.new) }
+    ensures budget { purse.new.budget ≡ purse.old.budget }
 {
-    purse.charge((ks.len() as u64).saturating_add(1))?;
+    charge(purse, (ks.len() as u64).saturating_add(1))?;
     let terms = Shared::new(alloc, number_terms(alloc, ks)?)?;
     let x = literal_of(alloc, purse, root, &terms)?;
     let mut definitions = Items::new(alloc);
@@ -146,9 +154,9 @@ pub fn begin<'a>(
     })
 }
 
-/// Whether the last clause is empty.
+/// Whether the last clause is there and empty, so that the lines before it are a proof.
 #[tactic(auto, using(crate::proofs::Checks::ending))]
-fn ends_empty(clauses: &[Option<Items<Literal>>]) -> bool
+pub fn ends_empty(clauses: &[Option<Items<Literal>>]) -> bool
     ensures { result ≡ proofs.ends_empty clauses.now }
 {
     if clauses.is_empty() {
@@ -162,8 +170,8 @@ fn ends_empty(clauses: &[Option<Items<Literal>>]) -> bool
 }
 
 /// Whether the lines are a proof of the root at the numbers ks for its names, for which the literal stands. Then it is true
-/// there in every interpretation.
-#[tactic(auto, using(crate::proofs::Checks::checking))]
+/// there in every interpretation. Cuts come as at `step`.
+#[tactic(auto, using(crate::proofs::Checks::checking, crate::proofs::Causes::causes))]
 pub fn check(
     alloc: Global,
     purse: &mut Purse,
@@ -175,6 +183,8 @@ pub fn check(
     ensures proof { OnOk result (proofs.IsClauseProof (form root.now) ks.now m lines.now) }
     ensures truth { OnOk result ((w : Meaning) → FormTruth w (form root.now) ks.now) }
     ensures none { result ≡ Err Refused → ¬ (proofs.IsClauseProof (form root.now) ks.now m lines.now) }
+    ensures cause { IfErr result (HasCause purse.new) }
+    ensures budget { purse.new.budget ≡ purse.old.budget }
 {
     let mut marks = Marks::new(alloc);
     let mut state = begin(alloc, purse, root, ks, m)?;

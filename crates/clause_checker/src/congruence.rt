@@ -1,13 +1,13 @@
 // Pairs: equal arguments have equal values, for two applications of one function or of one predicate (Ackermann, Solvable
 // cases of the decision problem, 1954).
 
-ghost use Rattle.std.specs.Prelude.{◌≡◌, ◌∷◌, ◌++◌, [], pos, negsuc, length, map};
+ghost use Rattle.std.specs.Prelude.{◌≡◌, ◌∷◌, ◌++◌, [], pos, negsuc, length, map, IfErr};
 ghost use Rattle.std.specs.List.{slice_get};
 ghost use Rattle.linear_term.specs.Linear as linear;
 ghost use Rattle.linear_term.specs.Combination.{combination};
 ghost use Rattle.clause_proof.specs.Atoms as atoms;
 ghost use Rattle.clause_proof.specs.Lines as lines;
-ghost use Rattle.clause_checker.specs.Answers.{Does};
+ghost use Rattle.clause_checker.specs.Answers.{Does, HasCause};
 ghost use Rattle.clause_checker.specs.Views.{definition_of, definitions_of, equation_at, predicate_of, state_of};
 
 use crate::canonical::equation_literal;
@@ -24,7 +24,7 @@ use sqlite_items::{Items, at};
 use std::alloc::Global;
 
 /// The equation s = t, by its literal.
-#[tactic(auto, using(crate::proofs::Stands::single))]
+#[tactic(auto, using(crate::proofs::Stands::single, crate::proofs::Causes::causes))]
 fn stand_equation<'a>(
     alloc: Global,
     purse: &mut Purse,
@@ -33,7 +33,9 @@ fn stand_equation<'a>(
     t: &Term,
     m: Literal,
 ) -> Result<(), Fault>
-    ensures { Does (λ u. definitions_of definitions.new) (lines.stand (definitions_of definitions.old) (atoms.equation_literal (combination (pos 1) s.now (negsuc 0) t.now)) m) result }
+    ensures does { Does (λ u. definitions_of definitions.new) (lines.stand (definitions_of definitions.old) (atoms.equation_literal (combination (pos 1) s.now (negsuc 0) t.now)) m) result }
+    ensures cause { IfErr result (HasCause purse.new) }
+    ensures budget { purse.new.budget ≡ purse.old.budget }
 {
     let difference = combine(purse, 1, s, -1, t)?;
     let x = equation_literal(alloc, purse, difference)?;
@@ -41,7 +43,7 @@ fn stand_equation<'a>(
 }
 
 /// The equation of arguments number i, by literal number i.
-#[tactic(auto, using(crate::proofs::Stands::items))]
+#[tactic(auto, using(crate::proofs::Stands::items, crate::proofs::Causes::causes))]
 fn stand_equation_at<'a>(
     alloc: Global,
     purse: &mut Purse,
@@ -51,7 +53,9 @@ fn stand_equation_at<'a>(
     literals: &[Literal],
     i: usize,
 ) -> Result<(), Fault>
-    ensures { Does (λ u. definitions_of definitions.new) (equation_at ss.now ts.now literals.now i (definitions_of definitions.old)) result }
+    ensures does { Does (λ u. definitions_of definitions.new) (equation_at ss.now ts.now literals.now i (definitions_of definitions.old)) result }
+    ensures cause { IfErr result (HasCause purse.new) }
+    ensures budget { purse.new.budget ≡ purse.old.budget }
 {
     match at(ss, i) {
         None => Err(Fault::Refused),
@@ -66,7 +70,7 @@ fn stand_equation_at<'a>(
 }
 
 /// The equations of the arguments, each by its literal.
-#[tactic(auto, using(crate::proofs::Pairs::walking))]
+#[tactic(auto, using(crate::proofs::Pairs::walking, crate::proofs::Causes::causes))]
 fn stand_equations<'a>(
     alloc: Global,
     purse: &mut Purse,
@@ -76,7 +80,9 @@ fn stand_equations<'a>(
     literals: &[Literal],
 ) -> Result<(), Fault>
     requires { length ss.now ≡ length ts.now }
-    ensures { Does (λ u. definitions_of definitions.new) (lines.stand_all (definitions_of definitions.old) (lines.equations ss.now ts.now) literals.now) result }
+    ensures does { Does (λ u. definitions_of definitions.new) (lines.stand_all (definitions_of definitions.old) (lines.equations ss.now ts.now) literals.now) result }
+    ensures cause { IfErr result (HasCause purse.new) }
+    ensures budget { purse.new.budget ≡ purse.old.budget }
 {
     for i in 0..ss.len() {
         stand_equation_at(alloc, purse, definitions, ss, ts, literals, i)?;
@@ -88,7 +94,7 @@ fn stand_equations<'a>(
 }
 
 /// The equations of the constants and of the arguments of two applications.
-#[tactic(auto, using(crate::proofs::Stands::two))]
+#[tactic(auto, using(crate::proofs::Stands::two, crate::proofs::Causes::causes))]
 fn stand_pair<'a>(
     alloc: Global,
     purse: &mut Purse,
@@ -99,7 +105,9 @@ fn stand_pair<'a>(
     r: Literal,
 ) -> Result<(), Fault>
     requires { length x.now.terms ≡ length y.now.terms }
-    ensures { Does (λ u. definitions_of definitions.new) (lines.stand_all (definitions_of definitions.old) (atoms.equation_literal (combination (pos 1) (linear.name x.now.constant) (negsuc 0) (linear.name y.now.constant)) ∷ lines.equations x.now.terms y.now.terms) (r ∷ es.now)) result }
+    ensures does { Does (λ u. definitions_of definitions.new) (lines.stand_all (definitions_of definitions.old) (atoms.equation_literal (combination (pos 1) (linear.name x.now.constant) (negsuc 0) (linear.name y.now.constant)) ∷ lines.equations x.now.terms y.now.terms) (r ∷ es.now)) result }
+    ensures cause { IfErr result (HasCause purse.new) }
+    ensures budget { purse.new.budget ≡ purse.old.budget }
 {
     let c = Term::name(alloc, x.constant);
     let d = Term::name(alloc, y.constant);
@@ -115,7 +123,7 @@ fn stand_pair<'a>(
 }
 
 /// What two applications of one function add.
-#[tactic(auto, using(crate::proofs::Pairs::pairs))]
+#[tactic(auto, using(crate::proofs::Pairs::pairs, crate::proofs::Causes::causes))]
 pub(crate) fn pair(
     alloc: Global,
     purse: &mut Purse,
@@ -125,7 +133,9 @@ pub(crate) fn pair(
     es: &[Literal],
     r: Literal,
 ) -> Result<(), Fault>
-    ensures { Does (λ u. state_of state.new) (lines.found (lines.found (slice_get state.old.applications a) (λ x. lines.found (slice_get state.old.applications b) (lines.paired (state_of state.old) es.now r x))) (lines.extended (state_of state.old))) result }
+    ensures does { Does (λ u. state_of state.new) (lines.found (lines.found (slice_get state.old.applications a) (λ x. lines.found (slice_get state.old.applications b) (lines.paired (state_of state.old) es.now r x))) (lines.extended (state_of state.old))) result }
+    ensures cause { IfErr result (HasCause purse.new) }
+    ensures budget { purse.new.budget ≡ purse.old.budget }
 {
     let clauses = one(alloc, with_opposites(alloc, purse, &[r], es)?)?;
     let x = application_at(state.applications.as_slice(), a)?;
@@ -142,13 +152,15 @@ pub(crate) fn pair(
 }
 
 /// The predicate and the terms of a definition.
-#[tactic(auto, using(crate::proofs::Doing::doing))]
+#[tactic(auto, using(crate::proofs::Doing::doing, crate::proofs::Causes::causes))]
 fn predicate_terms(
     alloc: Global,
     purse: &mut Purse,
     d: &Definition,
 ) -> Result<(u32, Items<Term>), Fault>
-    ensures { Does (λ x. x) (predicate_of (definition_of d.now)) result }
+    ensures does { Does (λ x. x) (predicate_of (definition_of d.now)) result }
+    ensures cause { IfErr result (HasCause purse.new) }
+    ensures budget { purse.new.budget ≡ purse.old.budget }
 {
     match d {
         Definition::Predicate(p, ts) => {
@@ -163,14 +175,16 @@ fn predicate_terms(
 }
 
 /// The predicate and the terms of variable number i.
-#[tactic(auto, using(crate::proofs::Opens::found_ones))]
+#[tactic(auto, using(crate::proofs::Opens::found_ones, crate::proofs::Causes::causes))]
 fn predicate_at(
     alloc: Global,
     purse: &mut Purse,
     definitions: &[Definition],
     i: u32,
 ) -> Result<(u32, Items<Term>), Fault>
-    ensures { Does (λ x. x) (lines.found (slice_get (definitions_of definitions.now) i) predicate_of) result }
+    ensures does { Does (λ x. x) (lines.found (slice_get (definitions_of definitions.now) i) predicate_of) result }
+    ensures cause { IfErr result (HasCause purse.new) }
+    ensures budget { purse.new.budget ≡ purse.old.budget }
 {
     match at(definitions, i as usize) {
         None => Err(Fault::Refused),
@@ -179,7 +193,7 @@ fn predicate_at(
 }
 
 /// Where the arguments are equal, variable number i implies variable number j.
-#[tactic(auto, using(crate::proofs::Opens::extending))]
+#[tactic(auto, using(crate::proofs::Opens::extending, crate::proofs::Causes::causes))]
 fn pair_terms(
     alloc: Global,
     purse: &mut Purse,
@@ -191,7 +205,9 @@ fn pair_terms(
     ts: &[Term],
 ) -> Result<(), Fault>
     requires { length ss.now ≡ length ts.now }
-    ensures { Does (λ u. state_of state.new) (lines.extended (state_of state.old) (lines.adding (lines.equations ss.now ts.now) es.now ((lines.negative i ∷ lines.positive j ∷ map lines.opposite es.now) ∷ []) state.old.count)) result }
+    ensures does { Does (λ u. state_of state.new) (lines.extended (state_of state.old) (lines.adding (lines.equations ss.now ts.now) es.now ((lines.negative i ∷ lines.positive j ∷ map lines.opposite es.now) ∷ []) state.old.count)) result }
+    ensures cause { IfErr result (HasCause purse.new) }
+    ensures budget { purse.new.budget ≡ purse.old.budget }
 {
     let clause = with_opposites(alloc, purse, &[negative(i), positive(j)], es)?;
     let clauses = one(alloc, clause)?;
@@ -201,7 +217,7 @@ fn pair_terms(
 }
 
 /// What two variables of one predicate add.
-#[tactic(auto, using(crate::proofs::Pairs::predicate_pairs))]
+#[tactic(auto, using(crate::proofs::Pairs::predicate_pairs, crate::proofs::Causes::causes))]
 pub(crate) fn predicate_pair(
     alloc: Global,
     purse: &mut Purse,
@@ -210,7 +226,9 @@ pub(crate) fn predicate_pair(
     j: u32,
     es: &[Literal],
 ) -> Result<(), Fault>
-    ensures { Does (λ u. state_of state.new) (lines.found (lines.found (slice_get (state_of state.old).definitions i) (λ c. lines.found (slice_get (state_of state.old).definitions j) (lines.predicates_paired (state_of state.old) i j es.now c))) (lines.extended (state_of state.old))) result }
+    ensures does { Does (λ u. state_of state.new) (lines.found (lines.found (slice_get (state_of state.old).definitions i) (λ c. lines.found (slice_get (state_of state.old).definitions j) (lines.predicates_paired (state_of state.old) i j es.now c))) (lines.extended (state_of state.old))) result }
+    ensures cause { IfErr result (HasCause purse.new) }
+    ensures budget { purse.new.budget ≡ purse.old.budget }
 {
     let (p, ss) = predicate_at(alloc, purse, state.definitions.as_slice(), i)?;
     let (q, ts) = predicate_at(alloc, purse, state.definitions.as_slice(), j)?;

@@ -1,9 +1,8 @@
 // Why a check of a clause proof ends without an answer, or with a refusal.
 
-ghost use Rattle.clause_checker.specs.Answers.{IsOther};
+ghost use Rattle.std.specs.Prelude.{◌≡◌};
 
-use base_budget::Spent;
-use linear_term::{Memory, TermFault};
+use linear_term::{Memory, Place, TermFault};
 use std::alloc::{AllocError, AllocFailed};
 
 /// What ends a check.
@@ -11,19 +10,19 @@ use std::alloc::{AllocError, AllocFailed};
 pub enum Fault {
     /// The lines are no proof.
     Refused,
-    /// A charge passes the budget.
+    /// A charge passes the budget, which is then spent whole.
     Steps,
-    /// A number leaves the range of coefficients.
-    Overflow,
+    /// A number leaves the range of coefficients: this one.
+    Overflow(Place),
     /// A constant or a formula would have no number.
     Room,
     Memory,
 }
 
 impl From<Memory> for Fault {
-    ghost use Rattle.clause_checker.specs.Answers.{IsOther};
+    ghost use Rattle.clause_checker.specs.declared.fault.Fault.TheVariants.{Memory};
 
-    ghost from_gives = { λ _ e. IsOther e };
+    ghost from_gives = { λ _ e. e ≡ Memory };
 
     fn from(_memory: Memory) -> Fault {
         Fault::Memory
@@ -31,9 +30,9 @@ impl From<Memory> for Fault {
 }
 
 impl From<AllocError> for Fault {
-    ghost use Rattle.clause_checker.specs.Answers.{IsOther};
+    ghost use Rattle.clause_checker.specs.declared.fault.Fault.TheVariants.{Memory};
 
-    ghost from_gives = { λ _ e. IsOther e };
+    ghost from_gives = { λ _ e. e ≡ Memory };
 
     fn from(_error: AllocError) -> Fault {
         Fault::Memory
@@ -41,9 +40,9 @@ impl From<AllocError> for Fault {
 }
 
 impl<T: Drop> From<AllocFailed<T>> for Fault {
-    ghost use Rattle.clause_checker.specs.Answers.{IsOther};
+    ghost use Rattle.clause_checker.specs.declared.fault.Fault.TheVariants.{Memory};
 
-    ghost from_gives = { λ _ e. IsOther e };
+    ghost from_gives = { λ _ e. e ≡ Memory };
 
     fn from(_failed: AllocFailed<T>) -> Fault {
         Fault::Memory
@@ -51,24 +50,14 @@ impl<T: Drop> From<AllocFailed<T>> for Fault {
 }
 
 impl From<TermFault> for Fault {
-    ghost use Rattle.clause_checker.specs.Answers.{IsOther};
+    ghost use Rattle.clause_checker.specs.Answers.{fault_of};
 
-    ghost from_gives = { λ _ e. IsOther e };
+    ghost from_gives = { λ fault e. e ≡ fault_of fault };
 
     fn from(fault: TermFault) -> Fault {
         match fault {
-            TermFault::Overflow(_) => Fault::Overflow,
+            TermFault::Overflow(place) => Fault::Overflow(place),
             TermFault::Memory => Fault::Memory,
         }
-    }
-}
-
-impl From<Spent> for Fault {
-    ghost use Rattle.clause_checker.specs.Answers.{IsOther};
-
-    ghost from_gives = { λ _ e. IsOther e };
-
-    fn from(_spent: Spent) -> Fault {
-        Fault::Steps
     }
 }

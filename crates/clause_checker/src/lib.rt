@@ -1,11 +1,13 @@
 // The checker of clause proofs. It takes a proof line by line, and accepts exactly what is one, unless it is cut by the budget,
 // by the range of coefficients or by memory.
-#![tactic(auto)]
+#![tactic(auto, using(crate::proofs::Causes::causes))]
 
 mod canonical;
+mod charging;
 mod checking;
 mod congruence;
 mod fault;
+mod formulas;
 mod opening;
 mod pairing;
 mod putting;
@@ -15,6 +17,6 @@ mod standing;
 mod state;
 mod summing;
 
-pub use checking::{begin, check, step};
+pub use checking::{begin, check, ends_empty, step};
 pub use fault::Fault;
 pub use state::{Definition, State};

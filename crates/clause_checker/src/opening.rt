@@ -9,11 +9,12 @@ ghost use Rattle.formula.specs.Form as tree;
 ghost use Rattle.formula.specs.Tree.{form, forms_of};
 ghost use Rattle.clause_proof.specs.Atoms as atoms;
 ghost use Rattle.clause_proof.specs.Lines as lines;
-ghost use Rattle.clause_checker.specs.Answers.{Does, IsOther};
+ghost use Rattle.clause_checker.specs.Answers.{Does, HasCause, IsOther, IsUncharged};
 ghost use Rattle.clause_checker.specs.Views.{definition_of, definitions_of, inner_of, pair_up, signed_of, state_of};
 
-use crate::canonical::literal_of;
+use crate::charging::charge;
 use crate::fault::Fault;
+use crate::formulas::literal_of;
 use crate::putting::{are_over, copied};
 use crate::standing::{stand, stand_members, stand_one};
 use crate::state::{Definition, Signed, State};
@@ -60,8 +61,10 @@ pub(crate) fn with_opposites(
 ) -> Result<Items<Literal>, Fault>
     ensures ok { IfOk result (λ c. c ≡ first.now ++ map lines.opposite ms.now) }
     ensures err { IfErr result IsOther }
+    ensures cause { IfErr result (HasCause purse.new) }
+    ensures budget { purse.new.budget ≡ purse.old.budget }
 {
-    purse.charge((ms.len() as u64).saturating_add(1))?;
+    charge(purse, (ms.len() as u64).saturating_add(1))?;
     let mut out = Items::from_slice(alloc, first)?;
     for m in ms {
         out.push(opposite(*m))?;
@@ -78,10 +81,12 @@ pub(crate) fn each_false(
 ) -> Result<Items<Option<Items<Literal>>>, Fault>
     ensures ok { IfOk result (λ cs. cs ≡ map Some (lines.each_false i ms.now)) }
     ensures err { IfErr result IsOther }
+    ensures cause { IfErr result (HasCause purse.new) }
+    ensures budget { purse.new.budget ≡ purse.old.budget }
 {
     let mut out = Items::new(alloc);
     for m in ms {
-        purse.charge(2)?;
+        charge(purse, 2)?;
         let clause = Items::from_slice(alloc, &[positive(i), opposite(*m)])?;
         out.push(Some(clause))?;
     }
@@ -95,6 +100,7 @@ pub(crate) fn one(
 ) -> Result<Items<Option<Items<Literal>>>, Fault>
     ensures ok { IfOk result (λ cs. cs ≡ Some clause ∷ []) }
     ensures err { IfErr result IsOther }
+    ensures cause { IfErr result IsUncharged }
 {
     let mut out = Items::new(alloc);
     out.push(Some(clause))?;
@@ -102,9 +108,10 @@ pub(crate) fn one(
 }
 
 /// The formula and the terms of a closure.
-#[tactic(auto, using(crate::proofs::Doing::doing))]
+#[tactic(auto, using(crate::proofs::Doing::doing, crate::proofs::Causes::causes))]
 fn as_closure<'a>(d: &Definition<'a>) -> Result<(&'a Core, Shared<Items<Term>>), Fault>
-    ensures { Does inner_of (lines.as_closure (definition_of d.now) pair_up) result }
+    ensures does { Does inner_of (lines.as_closure (definition_of d.now) pair_up) result }
+    ensures cause { IfErr result IsUncharged }
 {
     match d {
         Definition::Closure(f, ts) => {
@@ -119,12 +126,13 @@ fn as_closure<'a>(d: &Definition<'a>) -> Result<(&'a Core, Shared<Items<Term>>),
 }
 
 /// The formula and the terms of variable number i.
-#[tactic(auto, using(crate::proofs::Opens::found_ones, crate::proofs::Doing::doing))]
+#[tactic(auto, using(crate::proofs::Opens::found_ones, crate::proofs::Doing::doing, crate::proofs::Causes::causes))]
 pub(crate) fn closure_at<'a>(
     definitions: &[Definition<'a>],
     i: u32,
 ) -> Result<(&'a Core, Shared<Items<Term>>), Fault>
-    ensures { Does inner_of (lines.found (slice_get (definitions_of definitions.now) i) (λ d. lines.as_closure d pair_up)) result }
+    ensures does { Does inner_of (lines.found (slice_get (definitions_of definitions.now) i) (λ d. lines.as_closure d pair_up)) result }
+    ensures cause { IfErr result IsUncharged }
 {
     match at(definitions, i as usize) {
         None => Err(Fault::Refused),
@@ -133,7 +141,7 @@ pub(crate) fn closure_at<'a>(
 }
 
 /// A conjunction: it is true, or some member is false.
-#[tactic(auto, using(crate::proofs::Opens::extending))]
+#[tactic(auto, using(crate::proofs::Opens::extending, crate::proofs::Causes::causes))]
 fn open_all<'a>(
     alloc: Global,
     purse: &mut Purse,
@@ -143,7 +151,9 @@ fn open_all<'a>(
     ts: &Shared<Items<Term>>,
     ms: &[Literal],
 ) -> Result<(), Fault>
-    ensures { Does (λ u. state_of state.new) (lines.extended (state_of state.old) (lines.adding (lines.members (forms_of fs.now) ts.now) ms.now (lines.some_false i ms.now ∷ []) state.old.count)) result }
+    ensures does { Does (λ u. state_of state.new) (lines.extended (state_of state.old) (lines.adding (lines.members (forms_of fs.now) ts.now) ms.now (lines.some_false i ms.now ∷ []) state.old.count)) result }
+    ensures cause { IfErr result (HasCause purse.new) }
+    ensures budget { purse.new.budget ≡ purse.old.budget }
 {
     let clause = with_opposites(alloc, purse, &[positive(i)], ms)?;
     let clauses = one(alloc, clause)?;
@@ -153,7 +163,7 @@ fn open_all<'a>(
 }
 
 /// A disjunction: it is true, or each member is false.
-#[tactic(auto, using(crate::proofs::Opens::extending))]
+#[tactic(auto, using(crate::proofs::Opens::extending, crate::proofs::Causes::causes))]
 fn open_each<'a>(
     alloc: Global,
     purse: &mut Purse,
@@ -163,7 +173,9 @@ fn open_each<'a>(
     ts: &Shared<Items<Term>>,
     ms: &[Literal],
 ) -> Result<(), Fault>
-    ensures { Does (λ u. state_of state.new) (lines.extended (state_of state.old) (lines.adding (lines.members (forms_of fs.now) ts.now) ms.now (lines.each_false i ms.now) state.old.count)) result }
+    ensures does { Does (λ u. state_of state.new) (lines.extended (state_of state.old) (lines.adding (lines.members (forms_of fs.now) ts.now) ms.now (lines.each_false i ms.now) state.old.count)) result }
+    ensures cause { IfErr result (HasCause purse.new) }
+    ensures budget { purse.new.budget ≡ purse.old.budget }
 {
     let clauses = each_false(alloc, purse, i, ms)?;
     stand_members(alloc, purse, &mut state.definitions, fs, ts, ms)?;
@@ -180,6 +192,8 @@ pub(crate) fn with_term(
 ) -> Result<Shared<Items<Term>>, Fault>
     ensures ok { IfOk result (λ us. us ≡ ts.now ++ t ∷ []) }
     ensures err { IfErr result IsOther }
+    ensures cause { IfErr result (HasCause purse.new) }
+    ensures budget { purse.new.budget ≡ purse.old.budget }
 {
     let mut out = copied(alloc, purse, ts)?;
     out.push(t)?;
@@ -187,13 +201,14 @@ pub(crate) fn with_term(
 }
 
 /// One literal, which the list is to have alone.
-#[tactic(auto, using(crate::proofs::Opens::alone))]
+#[tactic(auto, using(crate::proofs::Opens::alone, crate::proofs::Causes::causes))]
 fn stand_alone<'a>(
     definitions: &mut Items<Definition<'a>>,
     x: Signed<'a>,
     ms: &[Literal],
 ) -> Result<(), Fault>
-    ensures { Does (λ u. definitions_of definitions.new) (lines.stand_all (definitions_of definitions.old) (signed_of x.entry ∷ []) ms.now) result }
+    ensures does { Does (λ u. definitions_of definitions.new) (lines.stand_all (definitions_of definitions.old) (signed_of x.entry ∷ []) ms.now) result }
+    ensures cause { IfErr result IsUncharged }
 {
     if ms.len() != 1 {
         return Err(Fault::Refused);
@@ -205,7 +220,7 @@ fn stand_alone<'a>(
 }
 
 /// A for-all: it is true, or its body is false at the new constant.
-#[tactic(auto, using(crate::proofs::Opens::extending))]
+#[tactic(auto, using(crate::proofs::Opens::extending, crate::proofs::Causes::causes))]
 fn open_body<'a>(
     alloc: Global,
     purse: &mut Purse,
@@ -215,7 +230,9 @@ fn open_body<'a>(
     ts: &Shared<Items<Term>>,
     ms: &[Literal],
 ) -> Result<(), Fault>
-    ensures { Does (λ u. state_of state.new) (lines.extended (state_of state.old) (lines.adding (atoms.literal_of (form body.now) (ts.now ++ linear.name state.old.count ∷ []) ∷ []) ms.now (lines.each_false i ms.now) (suc state.old.count))) result }
+    ensures does { Does (λ u. state_of state.new) (lines.extended (state_of state.old) (lines.adding (atoms.literal_of (form body.now) (ts.now ++ linear.name state.old.count ∷ []) ∷ []) ms.now (lines.each_false i ms.now) (suc state.old.count))) result }
+    ensures cause { IfErr result (HasCause purse.new) }
+    ensures budget { purse.new.budget ≡ purse.old.budget }
 {
     if state.count == u32::MAX {
         return Err(Fault::Room);
@@ -235,7 +252,7 @@ fn open_body<'a>(
 }
 
 /// What a closure adds.
-#[tactic(auto, using(crate::proofs::Doing::doing))]
+#[tactic(auto, using(crate::proofs::Doing::doing, crate::proofs::Causes::causes))]
 fn open_closure<'a>(
     alloc: Global,
     purse: &mut Purse,
@@ -245,7 +262,9 @@ fn open_closure<'a>(
     ts: &Shared<Items<Term>>,
     ms: &[Literal],
 ) -> Result<(), Fault>
-    ensures { Does (λ u. state_of state.new) (lines.found (lines.opened (state_of state.old) i ms.now (form f.now) ts.now) (lines.extended (state_of state.old))) result }
+    ensures does { Does (λ u. state_of state.new) (lines.found (lines.opened (state_of state.old) i ms.now (form f.now) ts.now) (lines.extended (state_of state.old))) result }
+    ensures cause { IfErr result (HasCause purse.new) }
+    ensures budget { purse.new.budget ≡ purse.old.budget }
 {
     match f {
         Core::And(fs) => open_all(alloc, purse, state, i, fs.as_slice(), ts, ms),
@@ -262,7 +281,7 @@ fn open_closure<'a>(
 }
 
 /// What opening variable number i adds.
-#[tactic(auto, using(crate::proofs::Opens::closures))]
+#[tactic(auto, using(crate::proofs::Opens::closures, crate::proofs::Causes::causes))]
 pub(crate) fn open<'a>(
     alloc: Global,
     purse: &mut Purse,
@@ -270,14 +289,16 @@ pub(crate) fn open<'a>(
     i: u32,
     ms: &[Literal],
 ) -> Result<(), Fault>
-    ensures { Does (λ u. state_of state.new) (lines.found (lines.closure_at (state_of state.old) i (lines.opened (state_of state.old) i ms.now)) (lines.extended (state_of state.old))) result }
+    ensures does { Does (λ u. state_of state.new) (lines.found (lines.closure_at (state_of state.old) i (lines.opened (state_of state.old) i ms.now)) (lines.extended (state_of state.old))) result }
+    ensures cause { IfErr result (HasCause purse.new) }
+    ensures budget { purse.new.budget ≡ purse.old.budget }
 {
     let (f, ts) = closure_at(state.definitions.as_slice(), i)?;
     open_closure(alloc, purse, state, i, f, &ts, ms)
 }
 
 /// Variable number i is true where this formula with these terms is.
-#[tactic(auto, using(crate::proofs::Opens::extending))]
+#[tactic(auto, using(crate::proofs::Opens::extending, crate::proofs::Causes::causes))]
 pub(crate) fn implied_by<'a>(
     alloc: Global,
     purse: &mut Purse,
@@ -287,7 +308,9 @@ pub(crate) fn implied_by<'a>(
     f: &'a Core,
     ts: &Shared<Items<Term>>,
 ) -> Result<(), Fault>
-    ensures { Does (λ u. state_of state.new) (lines.extended (state_of state.old) (lines.adding (atoms.literal_of (form f.now) ts.now ∷ []) (m ∷ []) (lines.each_false i (m ∷ [])) state.old.count)) result }
+    ensures does { Does (λ u. state_of state.new) (lines.extended (state_of state.old) (lines.adding (atoms.literal_of (form f.now) ts.now ∷ []) (m ∷ []) (lines.each_false i (m ∷ [])) state.old.count)) result }
+    ensures cause { IfErr result (HasCause purse.new) }
+    ensures budget { purse.new.budget ≡ purse.old.budget }
 {
     let x = literal_of(alloc, purse, f, ts)?;
     let clauses = each_false(alloc, purse, i, &[m])?;
@@ -297,7 +320,7 @@ pub(crate) fn implied_by<'a>(
 }
 
 /// A new constant is the value of a function at the terms.
-#[tactic(auto, using(crate::proofs::Opens::applying))]
+#[tactic(auto, using(crate::proofs::Opens::applying, crate::proofs::Causes::causes))]
 pub(crate) fn apply<'a>(
     alloc: Global,
     purse: &mut Purse,
@@ -305,7 +328,9 @@ pub(crate) fn apply<'a>(
     f: u32,
     ts: &[Term],
 ) -> Result<(), Fault>
-    ensures { Does (λ u. state_of state.new) (lines.found (lines.applied (state_of state.old) f ts.now) (lines.extended (state_of state.old))) result }
+    ensures does { Does (λ u. state_of state.new) (lines.found (lines.applied (state_of state.old) f ts.now) (lines.extended (state_of state.old))) result }
+    ensures cause { IfErr result (HasCause purse.new) }
+    ensures budget { purse.new.budget ≡ purse.old.budget }
 {
     if !are_over(state.count, ts) {
         return Err(Fault::Refused);

@@ -6,11 +6,12 @@ ghost use Rattle.linear_term.specs.Combination.{combination};
 ghost use Rattle.clause_proof.specs.Atoms as atoms;
 ghost use Rattle.form_closures.specs.Putting as putting;
 ghost use Rattle.clause_proof.specs.Lines as lines;
-ghost use Rattle.clause_checker.specs.Answers.{IsOther};
+ghost use Rattle.clause_checker.specs.Answers.{HasCause, IsOther};
 
+use crate::charging::charge;
 use crate::fault::Fault;
 use base_budget::Purse;
-use linear_term::{Term, in_range};
+use linear_term::Term;
 use sqlite_items::{Items, at};
 use std::alloc::Global;
 
@@ -26,8 +27,11 @@ pub(crate) fn combine(
     requires n_in_range { InRange n }
     ensures ok { IfOk result (λ r. r ≡ combination m s.now n t.now) }
     ensures err { IfErr result IsOther }
+    ensures cause { IfErr result (HasCause purse.new) }
+    ensures budget { purse.new.budget ≡ purse.old.budget }
 {
-    purse.charge(
+    charge(
+        purse,
         (s.len() as u64)
             .saturating_add(t.len() as u64)
             .saturating_add(1),
@@ -36,7 +40,7 @@ pub(crate) fn combine(
 }
 
 /// u, and k times the term for the name x.
-#[tactic(auto, using(form_closures::proofs::Puts::terms))]
+#[tactic(auto, using(form_closures::proofs::Puts::terms, crate::proofs::Causes::causes))]
 fn put_one(
     alloc: Global,
     purse: &mut Purse,
@@ -45,12 +49,12 @@ fn put_one(
     x: u32,
     k: i128,
 ) -> Result<Term, Fault>
+    requires { InRange k }
     ensures ok { IfOk result (λ r. r ≡ combination (pos 1) u.now k (putting.term_at ts.now x)) }
     ensures err { IfErr result IsOther }
+    ensures cause { IfErr result (HasCause purse.new) }
+    ensures budget { purse.new.budget ≡ purse.old.budget }
 {
-    if !in_range(k) {
-        return Err(Fault::Overflow);
-    }
     match at(ts, x as usize) {
         Some(t) => {
             let sum = combine(purse, 1, u, k, t)?;
@@ -64,12 +68,15 @@ fn put_one(
 }
 
 /// The term with the terms ts for its names.
-#[tactic(auto, using(form_closures::proofs::Puts::puts))]
+#[tactic(auto, using(form_closures::proofs::Puts::puts, crate::proofs::Causes::causes))]
 pub(crate) fn put_in(alloc: Global, purse: &mut Purse, ts: &[Term], t: &Term) -> Result<Term, Fault>
     ensures ok { IfOk result (λ r. r ≡ putting.put_in ts.now t.now) }
     ensures err { IfErr result IsOther }
+    ensures cause { IfErr result (HasCause purse.new) }
+    ensures budget { purse.new.budget ≡ purse.old.budget }
 {
-    purse.charge(1)?;
+    charge(purse, 1)?;
+    t.know_normal();
     let mut sum = Term::number(alloc, t.constant());
     for pair in t.pairs() {
         sum = put_one(alloc, purse, ts, &sum, pair.0, pair.1)?;
@@ -86,6 +93,8 @@ pub(crate) fn put_all(
 ) -> Result<Items<Term>, Fault>
     ensures ok { IfOk result (λ r. r ≡ map (putting.put_in ts.now) us.now) }
     ensures err { IfErr result IsOther }
+    ensures cause { IfErr result (HasCause purse.new) }
+    ensures budget { purse.new.budget ≡ purse.old.budget }
 {
     let mut out = Items::new(alloc);
     for u in us {
@@ -98,8 +107,10 @@ pub(crate) fn put_all(
 pub(crate) fn copy(purse: &mut Purse, t: &Term) -> Result<Term, Fault>
     ensures ok { IfOk result (λ r. r ≡ t.now) }
     ensures err { IfErr result IsOther }
+    ensures cause { IfErr result (HasCause purse.new) }
+    ensures budget { purse.new.budget ≡ purse.old.budget }
 {
-    purse.charge((t.len() as u64).saturating_add(1))?;
+    charge(purse, (t.len() as u64).saturating_add(1))?;
     Ok(t.copy()?)
 }
 
@@ -107,6 +118,8 @@ pub(crate) fn copy(purse: &mut Purse, t: &Term) -> Result<Term, Fault>
 pub(crate) fn copied(alloc: Global, purse: &mut Purse, ts: &[Term]) -> Result<Items<Term>, Fault>
     ensures ok { IfOk result (λ r. r ≡ ts.now) }
     ensures err { IfErr result IsOther }
+    ensures cause { IfErr result (HasCause purse.new) }
+    ensures budget { purse.new.budget ≡ purse.old.budget }
 {
     let mut out = Items::new(alloc);
     for t in ts {

@@ -5,7 +5,7 @@ ghost use Rattle.linear_term.specs.Linear as linear;
 ghost use Rattle.formula.specs.Tree.{form, forms_of};
 ghost use Rattle.clause_proof.specs.Atoms as atoms;
 ghost use Rattle.clause_proof.specs.Lines as lines;
-ghost use Rattle.clause_checker.specs.Answers.{Does, IsOther};
+ghost use Rattle.clause_checker.specs.Answers.{Does, HasCause, IsOther, IsUncharged};
 ghost use Rattle.std.specs.List.{slice_get};
 ghost use Rattle.clause_checker.specs.Views.{body_at, inner_of, read_at, state_of};
 
@@ -21,9 +21,10 @@ use sqlite_items::{Items, at};
 use std::alloc::Global;
 
 /// The body of a for-some.
-#[tactic(auto, using(crate::proofs::Doing::doing))]
+#[tactic(auto, using(crate::proofs::Doing::doing, crate::proofs::Causes::causes))]
 fn body_of<'a>(f: &'a Core) -> Result<&'a Core, Fault>
-    ensures { Does (λ g. form g.now) (body_at (form f.now)) result }
+    ensures does { Does (λ g. form g.now) (body_at (form f.now)) result }
+    ensures cause { IfErr result IsUncharged }
 {
     match f {
         Core::Exists(g) => Ok(g.get()),
@@ -40,7 +41,7 @@ fn body_of<'a>(f: &'a Core) -> Result<&'a Core, Fault>
 }
 
 /// The body of a for-some, as deep as there are terms, with these.
-#[tactic(auto, using(crate::proofs::Readings::bodies_ones, crate::proofs::Doing::does_cut))]
+#[tactic(auto, using(crate::proofs::Readings::bodies_ones, crate::proofs::Doing::does_cut, crate::proofs::Causes::causes))]
 fn bodies<'a>(
     alloc: Global,
     purse: &mut Purse,
@@ -48,7 +49,9 @@ fn bodies<'a>(
     f: &'a Core,
     ts: Shared<Items<Term>>,
 ) -> Result<(&'a Core, Shared<Items<Term>>), Fault>
-    ensures { Does inner_of (lines.bodies us.now (form f.now) ts) result }
+    ensures does { Does inner_of (lines.bodies us.now (form f.now) ts) result }
+    ensures cause { IfErr result (HasCause purse.new) }
+    ensures budget { purse.new.budget ≡ purse.old.budget }
 {
     let mut body = f;
     let mut terms = ts;
@@ -61,7 +64,7 @@ fn bodies<'a>(
 }
 
 /// What an instance of a closure adds.
-#[tactic(auto, using(crate::proofs::Readings::instances))]
+#[tactic(auto, using(crate::proofs::Readings::instances, crate::proofs::Causes::causes))]
 fn instance_of<'a>(
     alloc: Global,
     purse: &mut Purse,
@@ -72,7 +75,9 @@ fn instance_of<'a>(
     f: &'a Core,
     ts: Shared<Items<Term>>,
 ) -> Result<(), Fault>
-    ensures { Does (λ u. state_of state.new) (lines.found (lines.instanced (state_of state.old) i us.now m (form f.now) ts) (lines.extended (state_of state.old))) result }
+    ensures does { Does (λ u. state_of state.new) (lines.found (lines.instanced (state_of state.old) i us.now m (form f.now) ts) (lines.extended (state_of state.old))) result }
+    ensures cause { IfErr result (HasCause purse.new) }
+    ensures budget { purse.new.budget ≡ purse.old.budget }
 {
     if !are_over(state.count, us) {
         return Err(Fault::Refused);
@@ -82,7 +87,7 @@ fn instance_of<'a>(
 }
 
 /// What an instance of variable number i adds.
-#[tactic(auto, using(crate::proofs::Opens::closures))]
+#[tactic(auto, using(crate::proofs::Opens::closures, crate::proofs::Causes::causes))]
 pub(crate) fn instance<'a>(
     alloc: Global,
     purse: &mut Purse,
@@ -91,7 +96,9 @@ pub(crate) fn instance<'a>(
     us: &[Term],
     m: Literal,
 ) -> Result<(), Fault>
-    ensures { Does (λ u. state_of state.new) (lines.found (lines.closure_at (state_of state.old) i (lines.instanced (state_of state.old) i us.now m)) (lines.extended (state_of state.old))) result }
+    ensures does { Does (λ u. state_of state.new) (lines.found (lines.closure_at (state_of state.old) i (lines.instanced (state_of state.old) i us.now m)) (lines.extended (state_of state.old))) result }
+    ensures cause { IfErr result (HasCause purse.new) }
+    ensures budget { purse.new.budget ≡ purse.old.budget }
 {
     let (f, ts) = closure_at(state.definitions.as_slice(), i)?;
     instance_of(alloc, purse, state, i, us, m, f, ts)
@@ -110,6 +117,8 @@ fn reads(
 ) -> Result<bool, Fault>
     ensures ok { IfOk result (λ b. b ≡ lines.reads x.now f ss.now n ts.now u.now) }
     ensures err { IfErr result IsOther }
+    ensures cause { IfErr result (HasCause purse.new) }
+    ensures budget { purse.new.budget ≡ purse.old.budget }
 {
     let args = put_all(alloc, purse, ts, ss)?;
     let name = Term::name(alloc, n);
@@ -130,6 +139,8 @@ fn reads_atom(
 ) -> Result<bool, Fault>
     ensures ok { IfOk result (λ b. b ≡ lines.reads_atom x.now ts.now (form f.now)) }
     ensures err { IfErr result IsOther }
+    ensures cause { IfErr result (HasCause purse.new) }
+    ensures budget { purse.new.budget ≡ purse.old.budget }
 {
     if ts.len() > 4294967295 {
         return Err(Fault::Room);
@@ -152,7 +163,7 @@ fn reads_atom(
 }
 
 /// The second of two members, where the first one reads the application.
-#[tactic(auto, using(crate::proofs::Readings::seconds))]
+#[tactic(auto, using(crate::proofs::Readings::seconds, crate::proofs::Causes::causes))]
 fn second_form<'a>(
     alloc: Global,
     purse: &mut Purse,
@@ -160,7 +171,9 @@ fn second_form<'a>(
     ts: &[Term],
     fs: &'a [Core],
 ) -> Result<&'a Core, Fault>
-    ensures { Does (λ g. form g.now) (lines.second_form (lines.reads_atom x.now ts.now) (forms_of fs.now)) result }
+    ensures does { Does (λ g. form g.now) (lines.second_form (lines.reads_atom x.now ts.now) (forms_of fs.now)) result }
+    ensures cause { IfErr result (HasCause purse.new) }
+    ensures budget { purse.new.budget ≡ purse.old.budget }
 {
     if fs.len() != 2 {
         return Err(Fault::Refused);
@@ -177,7 +190,7 @@ fn second_form<'a>(
     }
 }
 
-#[tactic(auto, using(crate::proofs::Doing::doing))]
+#[tactic(auto, using(crate::proofs::Doing::doing, crate::proofs::Causes::causes))]
 fn second_of<'a>(
     alloc: Global,
     purse: &mut Purse,
@@ -185,7 +198,9 @@ fn second_of<'a>(
     ts: &[Term],
     f: &'a Core,
 ) -> Result<&'a Core, Fault>
-    ensures { Does (λ g. form g.now) (lines.second_of (lines.reads_atom x.now ts.now) (form f.now)) result }
+    ensures does { Does (λ g. form g.now) (lines.second_of (lines.reads_atom x.now ts.now) (form f.now)) result }
+    ensures cause { IfErr result (HasCause purse.new) }
+    ensures budget { purse.new.budget ≡ purse.old.budget }
 {
     match f {
         Core::Or(fs) => second_form(alloc, purse, x, ts, fs.as_slice()),
@@ -202,7 +217,7 @@ fn second_of<'a>(
 }
 
 /// What is left of a formula that reads the application.
-#[tactic(auto, using(crate::proofs::Doing::doing))]
+#[tactic(auto, using(crate::proofs::Doing::doing, crate::proofs::Causes::causes))]
 fn read_one<'a>(
     alloc: Global,
     purse: &mut Purse,
@@ -210,7 +225,9 @@ fn read_one<'a>(
     ts: &[Term],
     f: &'a Core,
 ) -> Result<&'a Core, Fault>
-    ensures { Does (λ g. form g.now) (lines.read_one x.now ts.now (form f.now)) result }
+    ensures does { Does (λ g. form g.now) (lines.read_one x.now ts.now (form f.now)) result }
+    ensures cause { IfErr result (HasCause purse.new) }
+    ensures budget { purse.new.budget ≡ purse.old.budget }
 {
     match f {
         Core::Forall(g) => second_of(alloc, purse, x, ts, g.get()),
@@ -227,9 +244,10 @@ fn read_one<'a>(
 }
 
 /// Application number i.
-#[tactic(auto, using(crate::proofs::Readings::applications))]
+#[tactic(auto, using(crate::proofs::Readings::applications, crate::proofs::Causes::causes))]
 pub(crate) fn application_at(applications: &[Application], i: u32) -> Result<&Application, Fault>
-    ensures { Does (λ x. x.now) (slice_get applications.now i) result }
+    ensures does { Does (λ x. x.now) (slice_get applications.now i) result }
+    ensures cause { IfErr result IsUncharged }
 {
     match at(applications, i as usize) {
         None => Err(Fault::Refused),
@@ -238,7 +256,7 @@ pub(crate) fn application_at(applications: &[Application], i: u32) -> Result<&Ap
 }
 
 /// What is left of a formula that reads application number b, with the terms for its names.
-#[tactic(auto, using(crate::proofs::Readings::steps))]
+#[tactic(auto, using(crate::proofs::Readings::steps, crate::proofs::Causes::causes))]
 fn read_step<'a>(
     alloc: Global,
     purse: &mut Purse,
@@ -247,7 +265,9 @@ fn read_step<'a>(
     f: &'a Core,
     ts: &Shared<Items<Term>>,
 ) -> Result<(&'a Core, Shared<Items<Term>>), Fault>
-    ensures { Does inner_of (read_at applications.now b (form f.now) ts.now) result }
+    ensures does { Does inner_of (read_at applications.now b (form f.now) ts.now) result }
+    ensures cause { IfErr result (HasCause purse.new) }
+    ensures budget { purse.new.budget ≡ purse.old.budget }
 {
     let x = application_at(applications, b)?;
     let g = read_one(alloc, purse, x, ts.get().as_slice(), f)?;
@@ -261,7 +281,7 @@ fn read_step<'a>(
 }
 
 /// What is left of a formula that reads these applications in turn.
-#[tactic(auto, using(crate::proofs::Readings::reading_ones))]
+#[tactic(auto, using(crate::proofs::Readings::reading_ones, crate::proofs::Causes::causes))]
 fn read_all<'a>(
     alloc: Global,
     purse: &mut Purse,
@@ -270,7 +290,9 @@ fn read_all<'a>(
     f: &'a Core,
     ts: Shared<Items<Term>>,
 ) -> Result<(&'a Core, Shared<Items<Term>>), Fault>
-    ensures { Does inner_of (lines.read_all applications.now bs.now (form f.now) ts) result }
+    ensures does { Does inner_of (lines.read_all applications.now bs.now (form f.now) ts) result }
+    ensures cause { IfErr result (HasCause purse.new) }
+    ensures budget { purse.new.budget ≡ purse.old.budget }
 {
     let mut rest = f;
     let mut terms = ts;
@@ -283,7 +305,7 @@ fn read_all<'a>(
 }
 
 /// What reading adds.
-#[tactic(auto, using(crate::proofs::Readings::readings))]
+#[tactic(auto, using(crate::proofs::Readings::readings, crate::proofs::Causes::causes))]
 fn read_of<'a>(
     alloc: Global,
     purse: &mut Purse,
@@ -294,14 +316,16 @@ fn read_of<'a>(
     f: &'a Core,
     ts: Shared<Items<Term>>,
 ) -> Result<(), Fault>
-    ensures { Does (λ u. state_of state.new) (lines.found (lines.found (lines.read_all state.old.applications bs.now (form f.now) ts) (lines.implied_by (state_of state.old) i m)) (lines.extended (state_of state.old))) result }
+    ensures does { Does (λ u. state_of state.new) (lines.found (lines.found (lines.read_all state.old.applications bs.now (form f.now) ts) (lines.implied_by (state_of state.old) i m)) (lines.extended (state_of state.old))) result }
+    ensures cause { IfErr result (HasCause purse.new) }
+    ensures budget { purse.new.budget ≡ purse.old.budget }
 {
     let (rest, terms) = read_all(alloc, purse, state.applications.as_slice(), bs, f, ts)?;
     implied_by(alloc, purse, state, i, m, rest, &terms)
 }
 
 /// What is left of variable number i that reads these applications in turn.
-#[tactic(auto, using(crate::proofs::Opens::closures))]
+#[tactic(auto, using(crate::proofs::Opens::closures, crate::proofs::Causes::causes))]
 pub(crate) fn read<'a>(
     alloc: Global,
     purse: &mut Purse,
@@ -310,7 +334,9 @@ pub(crate) fn read<'a>(
     bs: &[u32],
     m: Literal,
 ) -> Result<(), Fault>
-    ensures { Does (λ u. state_of state.new) (lines.found (lines.closure_at (state_of state.old) i (λ f ts. lines.found (lines.read_all state.old.applications bs.now f ts) (lines.implied_by (state_of state.old) i m))) (lines.extended (state_of state.old))) result }
+    ensures does { Does (λ u. state_of state.new) (lines.found (lines.closure_at (state_of state.old) i (λ f ts. lines.found (lines.read_all state.old.applications bs.now f ts) (lines.implied_by (state_of state.old) i m))) (lines.extended (state_of state.old))) result }
+    ensures cause { IfErr result (HasCause purse.new) }
+    ensures budget { purse.new.budget ≡ purse.old.budget }
 {
     let (f, ts) = closure_at(state.definitions.as_slice(), i)?;
     read_of(alloc, purse, state, i, bs, m, f, ts)

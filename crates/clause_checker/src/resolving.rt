@@ -6,10 +6,11 @@ ghost use Rattle.std.specs.Prelude.{◌≡◌, ◌++◌, ◌∷◌, [], List, No
 ghost use Rattle.std.specs.List.{slice_get};
 ghost use Rattle.clause_proof.specs.declared.line.Literal.{Literal};
 ghost use Rattle.clause_proof.specs.Lines as lines;
-ghost use Rattle.clause_checker.specs.Answers.{Does, IsOther};
+ghost use Rattle.clause_checker.specs.Answers.{Does, HasCause, IsOther, IsUncharged};
 ghost use Rattle.clause_checker.specs.Marking.{IsMarking};
 ghost use Rattle.clause_checker.specs.Views.{left_at, left_view, state_of};
 
+use crate::charging::charge;
 use crate::fault::Fault;
 use crate::opening::opposite;
 use crate::state::State;
@@ -64,22 +65,25 @@ fn left_at(
 ) -> Result<Left, Fault>
     ensures ok { IfOk result (λ l. (fs : List Literal) → IsMarking marks.now fs → l ≡ left_at (slice_get clauses.now h) fs) }
     ensures err { IfErr result IsOther }
+    ensures cause { IfErr result (HasCause purse.new) }
+    ensures budget { purse.new.budget ≡ purse.old.budget }
 {
     match at(clauses, h as usize) {
         None => Ok(Left::More),
         Some(None) => Ok(Left::More),
         Some(Some(clause)) => {
-            purse.charge(clause.len() as u64)?;
+            charge(purse, clause.len() as u64)?;
             Ok(left_of(marks, clause.as_slice()))
         }
     }
 }
 
 /// One more literal that is false.
-#[tactic(auto, using(crate::proofs::Lefts::marking))]
+#[tactic(auto, using(crate::proofs::Lefts::marking, crate::proofs::Causes::causes))]
 fn mark(marks: &mut Marks, l: Literal) -> Result<(), Fault>
     ensures ok { OnOk result ((fs : List Literal) → IsMarking marks.old fs → IsMarking marks.new (fs ++ l ∷ [])) }
     ensures err { IfErr result IsOther }
+    ensures cause { IfErr result IsUncharged }
 {
     if marks.insert(l) {
         return Ok(());
@@ -88,7 +92,7 @@ fn mark(marks: &mut Marks, l: Literal) -> Result<(), Fault>
 }
 
 /// The literals of the clause are false, and no others.
-#[tactic(auto, using(crate::proofs::Lefts::marked_ones))]
+#[tactic(auto, using(crate::proofs::Lefts::marked_ones, crate::proofs::Causes::causes))]
 fn mark_all(
     alloc: Global,
     purse: &mut Purse,
@@ -98,8 +102,10 @@ fn mark_all(
 ) -> Result<(), Fault>
     ensures ok { OnOk result (IsMarking marks.new clause.now) }
     ensures err { IfErr result IsOther }
+    ensures cause { IfErr result (HasCause purse.new) }
+    ensures budget { purse.new.budget ≡ purse.old.budget }
 {
-    purse.charge(clause.len() as u64)?;
+    charge(purse, clause.len() as u64)?;
     marks.clear(alloc, n)?;
     for l in clause {
         mark(marks, *l)?;
@@ -108,7 +114,7 @@ fn mark_all(
 }
 
 /// Whether the clauses with these numbers clash with the falsity of the marked literals.
-#[tactic(auto, using(crate::proofs::Lefts::clashing))]
+#[tactic(auto, using(crate::proofs::Lefts::clashing, crate::proofs::Causes::causes))]
 fn clashes(
     purse: &mut Purse,
     marks: &mut Marks,
@@ -117,9 +123,11 @@ fn clashes(
 ) -> Result<bool, Fault>
     ensures ok { IfOk result (λ b. (fs : List Literal) → IsMarking marks.old fs → b ≡ lines.clashes clauses.now hints.now fs) }
     ensures err { IfErr result IsOther }
+    ensures cause { IfErr result (HasCause purse.new) }
+    ensures budget { purse.new.budget ≡ purse.old.budget }
 {
     for h in hints {
-        purse.charge(1)?;
+        charge(purse, 1)?;
         match left_at(purse, marks, clauses, *h)? {
             Left::Nothing => return Ok(true),
             Left::One(l) => mark(marks, opposite(l))?,
@@ -137,7 +145,7 @@ fn are_known(n: usize, clause: &[Literal]) -> bool
 }
 
 /// What a clause adds that follows along the hints.
-#[tactic(auto, using(crate::proofs::Sums::clauses_only, crate::proofs::Doing::doing))]
+#[tactic(auto, using(crate::proofs::Sums::clauses_only, crate::proofs::Doing::doing, crate::proofs::Causes::causes))]
 pub(crate) fn resolve(
     alloc: Global,
     purse: &mut Purse,
@@ -146,9 +154,11 @@ pub(crate) fn resolve(
     clause: &[Literal],
     hints: &[u32],
 ) -> Result<(), Fault>
-    ensures { Does (λ u. state_of state.new) (lines.found (lines.resolved (state_of state.old) clause.now hints.now) (lines.extended (state_of state.old))) result }
+    ensures does { Does (λ u. state_of state.new) (lines.found (lines.resolved (state_of state.old) clause.now hints.now) (lines.extended (state_of state.old))) result }
+    ensures cause { IfErr result (HasCause purse.new) }
+    ensures budget { purse.new.budget ≡ purse.old.budget }
 {
-    purse.charge((clause.len() as u64).saturating_add(1))?;
+    charge(purse, (clause.len() as u64).saturating_add(1))?;
     if !are_known(state.definitions.len(), clause) {
         return Err(Fault::Refused);
     }

@@ -1,15 +1,15 @@
 // What literals stand for: a known variable that says the same, or the next new one.
 
-ghost use Rattle.std.specs.Prelude.{◌≡◌, ◌∷◌, [], map};
+ghost use Rattle.std.specs.Prelude.{◌≡◌, ◌∷◌, [], map, IfErr};
 ghost use Rattle.std.specs.List.{slice_get};
 ghost use Rattle.formula.specs.Tree.{form, forms_of};
 ghost use Rattle.clause_proof.specs.Atoms as atoms;
 ghost use Rattle.clause_proof.specs.Lines as lines;
-ghost use Rattle.clause_checker.specs.Answers.{Does};
+ghost use Rattle.clause_checker.specs.Answers.{Does, HasCause, IsUncharged};
 ghost use Rattle.clause_checker.specs.Views.{definition_of, definitions_of, known_so, member_at, signed_of};
 
-use crate::canonical::literal_of;
 use crate::fault::Fault;
+use crate::formulas::literal_of;
 use crate::putting::{same_term, same_terms};
 use crate::state::{Definition, Signed};
 use base_budget::Purse;
@@ -68,13 +68,14 @@ fn is_known(definitions: &[Definition], i: u32, d: &Definition) -> bool
 }
 
 /// The definitions, with that of the literal if it is new.
-#[tactic(auto, using(crate::proofs::Stands::standing))]
+#[tactic(auto, using(crate::proofs::Stands::standing, crate::proofs::Causes::causes))]
 pub(crate) fn stand<'a>(
     definitions: &mut Items<Definition<'a>>,
     x: Signed<'a>,
     m: Literal,
 ) -> Result<(), Fault>
-    ensures { Does (λ u. definitions_of definitions.new) (lines.stand (definitions_of definitions.old) (signed_of x.entry) m) result }
+    ensures does { Does (λ u. definitions_of definitions.new) (lines.stand (definitions_of definitions.old) (signed_of x.entry) m) result }
+    ensures cause { IfErr result IsUncharged }
 {
     let Signed {
         definition,
@@ -94,19 +95,20 @@ pub(crate) fn stand<'a>(
 }
 
 /// The same of one literal alone, as a list.
-#[tactic(auto, using(crate::proofs::Stands::one))]
+#[tactic(auto, using(crate::proofs::Stands::one, crate::proofs::Causes::causes))]
 pub(crate) fn stand_one<'a>(
     definitions: &mut Items<Definition<'a>>,
     x: Signed<'a>,
     m: Literal,
 ) -> Result<(), Fault>
-    ensures { Does (λ u. definitions_of definitions.new) (lines.stand_all (definitions_of definitions.old) (signed_of x.entry ∷ []) (m ∷ [])) result }
+    ensures does { Does (λ u. definitions_of definitions.new) (lines.stand_all (definitions_of definitions.old) (signed_of x.entry ∷ []) (m ∷ [])) result }
+    ensures cause { IfErr result IsUncharged }
 {
     stand(definitions, x, m)
 }
 
 /// The same of two.
-#[tactic(auto, using(crate::proofs::Stands::two))]
+#[tactic(auto, using(crate::proofs::Stands::two, crate::proofs::Causes::causes))]
 pub(crate) fn stand_two<'a>(
     definitions: &mut Items<Definition<'a>>,
     x: Signed<'a>,
@@ -114,14 +116,15 @@ pub(crate) fn stand_two<'a>(
     m: Literal,
     n: Literal,
 ) -> Result<(), Fault>
-    ensures { Does (λ u. definitions_of definitions.new) (lines.stand_all (definitions_of definitions.old) (signed_of x.entry ∷ signed_of y.entry ∷ []) (m ∷ n ∷ [])) result }
+    ensures does { Does (λ u. definitions_of definitions.new) (lines.stand_all (definitions_of definitions.old) (signed_of x.entry ∷ signed_of y.entry ∷ []) (m ∷ n ∷ [])) result }
+    ensures cause { IfErr result IsUncharged }
 {
     stand(definitions, x, m)?;
     stand_one(definitions, y, n)
 }
 
 /// A member with the terms ts for its names.
-#[tactic(auto, using(crate::proofs::Stands::single))]
+#[tactic(auto, using(crate::proofs::Stands::single, crate::proofs::Causes::causes))]
 fn stand_member<'a>(
     alloc: Global,
     purse: &mut Purse,
@@ -130,14 +133,16 @@ fn stand_member<'a>(
     ts: &Shared<Items<Term>>,
     m: Literal,
 ) -> Result<(), Fault>
-    ensures { Does (λ u. definitions_of definitions.new) (lines.stand (definitions_of definitions.old) (atoms.literal_of (form f.now) ts.now) m) result }
+    ensures does { Does (λ u. definitions_of definitions.new) (lines.stand (definitions_of definitions.old) (atoms.literal_of (form f.now) ts.now) m) result }
+    ensures cause { IfErr result (HasCause purse.new) }
+    ensures budget { purse.new.budget ≡ purse.old.budget }
 {
     let x = literal_of(alloc, purse, f, ts)?;
     stand(definitions, x, m)
 }
 
 /// Member number i with the terms ts for its names, by literal number i.
-#[tactic(auto, using(crate::proofs::Stands::items))]
+#[tactic(auto, using(crate::proofs::Stands::items, crate::proofs::Causes::causes))]
 fn stand_at<'a>(
     alloc: Global,
     purse: &mut Purse,
@@ -147,7 +152,9 @@ fn stand_at<'a>(
     literals: &[Literal],
     i: usize,
 ) -> Result<(), Fault>
-    ensures { Does (λ u. definitions_of definitions.new) (member_at fs.now ts.now literals.now i (definitions_of definitions.old)) result }
+    ensures does { Does (λ u. definitions_of definitions.new) (member_at fs.now ts.now literals.now i (definitions_of definitions.old)) result }
+    ensures cause { IfErr result (HasCause purse.new) }
+    ensures budget { purse.new.budget ≡ purse.old.budget }
 {
     match at(fs, i) {
         None => Err(Fault::Refused),
@@ -159,7 +166,7 @@ fn stand_at<'a>(
 }
 
 /// The members with the terms ts for their names, each by its literal.
-#[tactic(auto, using(crate::proofs::Stands::walking))]
+#[tactic(auto, using(crate::proofs::Stands::walking, crate::proofs::Causes::causes))]
 pub(crate) fn stand_members<'a>(
     alloc: Global,
     purse: &mut Purse,
@@ -168,7 +175,9 @@ pub(crate) fn stand_members<'a>(
     ts: &Shared<Items<Term>>,
     literals: &[Literal],
 ) -> Result<(), Fault>
-    ensures { Does (λ u. definitions_of definitions.new) (lines.stand_all (definitions_of definitions.old) (lines.members (forms_of fs.now) ts.now) literals.now) result }
+    ensures does { Does (λ u. definitions_of definitions.new) (lines.stand_all (definitions_of definitions.old) (lines.members (forms_of fs.now) ts.now) literals.now) result }
+    ensures cause { IfErr result (HasCause purse.new) }
+    ensures budget { purse.new.budget ≡ purse.old.budget }
 {
     for i in 0..fs.len() {
         stand_at(alloc, purse, definitions, fs, ts, literals, i)?;

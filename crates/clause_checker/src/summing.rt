@@ -7,10 +7,11 @@ ghost use Rattle.linear_term.specs.Linear as linear;
 ghost use Rattle.clause_proof.specs.Clauses as q;
 ghost use Rattle.clause_proof.specs.Atoms as atoms;
 ghost use Rattle.clause_proof.specs.Lines as lines;
-ghost use Rattle.clause_checker.specs.Answers.{Does, IsOther};
+ghost use Rattle.clause_checker.specs.Answers.{Does, HasCause, IsOther, IsUncharged};
 ghost use Rattle.clause_checker.specs.Views.{definition_of, definitions_of, signed_of, state_of};
 
 use crate::canonical::{equation_literal, inequality_literal, opposite_less_one};
+use crate::charging::{charge, coefficient};
 use crate::fault::Fault;
 use crate::opening::one;
 use crate::putting::{combine, copy};
@@ -18,19 +19,21 @@ use crate::standing::same_definition;
 use crate::state::{Definition, Signed, State};
 use base_budget::Purse;
 use clause_proof::{Factor, Literal};
-use linear_term::{Term, in_range};
+use linear_term::Term;
 use sqlite_items::{Items, at};
 use std::alloc::Global;
 
 /// What the falsity of the definition, or of its negation, says of a term: it is 0, or at least 0.
-#[tactic(auto, using(crate::proofs::Doing::doing))]
+#[tactic(auto, using(crate::proofs::Doing::doing, crate::proofs::Causes::causes))]
 fn fact_of(
     alloc: Global,
     purse: &mut Purse,
     d: &Definition,
     positive: bool,
 ) -> Result<(Term, bool), Fault>
-    ensures { Does (λ x. x) (lines.fact_of (definition_of d.now) positive) result }
+    ensures does { Does (λ x. x) (lines.fact_of (definition_of d.now) positive) result }
+    ensures cause { IfErr result (HasCause purse.new) }
+    ensures budget { purse.new.budget ≡ purse.old.budget }
 {
     match d {
         Definition::AtLeastZero(t) => {
@@ -57,14 +60,16 @@ fn fact_of(
 }
 
 /// What the falsity of the literal says.
-#[tactic(auto, using(crate::proofs::Opens::found_ones))]
+#[tactic(auto, using(crate::proofs::Opens::found_ones, crate::proofs::Causes::causes))]
 fn fact_at(
     alloc: Global,
     purse: &mut Purse,
     definitions: &[Definition],
     l: Literal,
 ) -> Result<(Term, bool), Fault>
-    ensures { Does (λ x. x) (lines.fact_at (definitions_of definitions.now) l) result }
+    ensures does { Does (λ x. x) (lines.fact_at (definitions_of definitions.now) l) result }
+    ensures cause { IfErr result (HasCause purse.new) }
+    ensures budget { purse.new.budget ≡ purse.old.budget }
 {
     match at(definitions, l.variable as usize) {
         None => Err(Fault::Refused),
@@ -73,27 +78,27 @@ fn fact_at(
 }
 
 /// u, and k times the fact. An inequality has no negative multiplier.
-#[tactic(auto, using(crate::proofs::Doing::doing))]
+#[tactic(auto, using(crate::proofs::Doing::doing, crate::proofs::Causes::causes))]
 fn with_fact(
     purse: &mut Purse,
     k: i128,
     u: &(Term, bool),
     fact: &(Term, bool),
 ) -> Result<(Term, bool), Fault>
-    ensures { Does (λ x. x) (lines.with_fact k u.now fact.now) result }
+    ensures does { Does (λ x. x) (lines.with_fact k u.now fact.now) result }
+    ensures cause { IfErr result (HasCause purse.new) }
+    ensures budget { purse.new.budget ≡ purse.old.budget }
 {
     if !fact.1 && k < 0 {
         return Err(Fault::Refused);
     }
-    if !in_range(k) {
-        return Err(Fault::Overflow);
-    }
-    let sum = combine(purse, 1, &u.0, k, &fact.0)?;
+    let by = coefficient(k)?;
+    let sum = combine(purse, 1, &u.0, by, &fact.0)?;
     Ok((sum, u.1 && fact.1))
 }
 
 /// u, and the weighted fact of the literal.
-#[tactic(auto, using(crate::proofs::Doing::doing))]
+#[tactic(auto, using(crate::proofs::Doing::doing, crate::proofs::Causes::causes))]
 fn with_factor(
     alloc: Global,
     purse: &mut Purse,
@@ -101,22 +106,26 @@ fn with_factor(
     u: &(Term, bool),
     x: Factor,
 ) -> Result<(Term, bool), Fault>
-    ensures { Does (λ x. x) (lines.found (lines.fact_at (definitions_of definitions.now) x.literal) (lines.with_fact x.by u.now)) result }
+    ensures does { Does (λ x. x) (lines.found (lines.fact_at (definitions_of definitions.now) x.literal) (lines.with_fact x.by u.now)) result }
+    ensures cause { IfErr result (HasCause purse.new) }
+    ensures budget { purse.new.budget ≡ purse.old.budget }
 {
-    purse.charge(1)?;
+    charge(purse, 1)?;
     let fact = fact_at(alloc, purse, definitions, x.literal)?;
     with_fact(purse, x.by, u, &fact)
 }
 
 /// The weighted sum of the facts.
-#[tactic(auto, using(crate::proofs::Sums::sums, crate::proofs::Doing::does_cut))]
+#[tactic(auto, using(crate::proofs::Sums::sums, crate::proofs::Doing::does_cut, crate::proofs::Causes::causes))]
 fn sum_of(
     alloc: Global,
     purse: &mut Purse,
     definitions: &[Definition],
     factors: &[Factor],
 ) -> Result<(Term, bool), Fault>
-    ensures { Does (λ x. x) (lines.sum_of (definitions_of definitions.now) factors.now (linear.number (pos 0), true)) result }
+    ensures does { Does (λ x. x) (lines.sum_of (definitions_of definitions.now) factors.now (linear.number (pos 0), true)) result }
+    ensures cause { IfErr result (HasCause purse.new) }
+    ensures budget { purse.new.budget ≡ purse.old.budget }
 {
     let mut sum = (Term::number(alloc, 0), true);
     for x in factors {
@@ -140,6 +149,8 @@ fn literal_of_fact<'a>(
 ) -> Result<Signed<'a>, Fault>
     ensures ok { IfOk result (λ x. signed_of x ≡ lines.literal_of_fact u) }
     ensures err { IfErr result IsOther }
+    ensures cause { IfErr result (HasCause purse.new) }
+    ensures budget { purse.new.budget ≡ purse.old.budget }
 {
     let (t, exact) = u;
     if exact {
@@ -153,6 +164,7 @@ fn literal_of_fact<'a>(
 fn literals(alloc: Global, factors: &[Factor]) -> Result<Items<Literal>, Fault>
     ensures ok { IfOk result (λ c. c ≡ map (λ x. x.literal) factors.now) }
     ensures err { IfErr result IsOther }
+    ensures cause { IfErr result IsUncharged }
 {
     let mut out = Items::new(alloc);
     for x in factors {
@@ -162,23 +174,26 @@ fn literals(alloc: Global, factors: &[Factor]) -> Result<Items<Literal>, Fault>
 }
 
 /// One more clause.
-#[tactic(auto, using(crate::proofs::Sums::clause_added, crate::proofs::Doing::does_cut))]
+#[tactic(auto, using(crate::proofs::Sums::clause_added, crate::proofs::Doing::does_cut, crate::proofs::Causes::causes))]
 pub(crate) fn add_clause(state: &mut State, clause: Items<Literal>) -> Result<(), Fault>
-    ensures { Does (λ u. state_of state.new) (lines.extended (state_of state.old) (lines.clauses_of (state_of state.old) (clause ∷ []))) result }
+    ensures does { Does (λ u. state_of state.new) (lines.extended (state_of state.old) (lines.clauses_of (state_of state.old) (clause ∷ []))) result }
+    ensures cause { IfErr result IsUncharged }
 {
     state.clauses.push(Some(clause))?;
     Ok(())
 }
 
 /// What a sum adds.
-#[tactic(auto, using(crate::proofs::Sums::summing))]
+#[tactic(auto, using(crate::proofs::Sums::summing, crate::proofs::Causes::causes))]
 pub(crate) fn sum(
     alloc: Global,
     purse: &mut Purse,
     state: &mut State,
     factors: &[Factor],
 ) -> Result<(), Fault>
-    ensures { Does (λ u. state_of state.new) (lines.found (lines.summed (state_of state.old) factors.now) (lines.extended (state_of state.old))) result }
+    ensures does { Does (λ u. state_of state.new) (lines.found (lines.summed (state_of state.old) factors.now) (lines.extended (state_of state.old))) result }
+    ensures cause { IfErr result (HasCause purse.new) }
+    ensures budget { purse.new.budget ≡ purse.old.budget }
 {
     let total = sum_of(alloc, purse, state.definitions.as_slice(), factors)?;
     let x = literal_of_fact(alloc, purse, total)?;

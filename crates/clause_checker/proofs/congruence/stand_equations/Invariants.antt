@@ -8,4 +8,5 @@ abbrev pub invariant-loop-i : goal.invariant-loop-i
 invariant-loop-i l = record {
   most : l.i ≤ length l.ss;
   left : StandLeft (definitions_of l.definitions) (equations (drop l.i l.ss) (drop l.i l.ts)) (drop l.i l.literals) (stand_all (definitions_of l.initial.definitions) (equations l.ss l.ts) l.literals);
+  budget : l.purse.budget ≡ l.initial.purse.budget;
 }

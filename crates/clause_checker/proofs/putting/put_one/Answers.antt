@@ -1,4 +1,4 @@
-use Rattle.std.proofs.Common.{sym, ◌∙◌, to_z-of_z}
+use Rattle.std.proofs.Common.{to_z-of_z}
 use Rattle.form_closures.proofs.Puts.{put_found}
 use mir.Syntax.{w128}
 use mir.Val.{SFits}

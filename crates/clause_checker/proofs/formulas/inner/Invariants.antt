@@ -1,0 +1,14 @@
+use Rattle.std.proofs.Common.{◌≡◌}
+use Rattle.formula.specs.Sizes.{size}
+use Rattle.formula.specs.Tree.{form}
+use Rattle.clause_proof.specs.Atoms.{inner_form}
+use Rattle.clause_checker.proofs.formulas.inner.Given as goal
+
+abbrev pub invariant-loop-g : goal.invariant-loop-g
+invariant-loop-g l = record {
+  inner : inner_form (form l.rest) ≡ inner_form (form l.f);
+  budget : l.purse.budget ≡ l.initial.purse.budget;
+}
+
+abbrev pub decreases-loop-g : goal.decreases-loop-g
+decreases-loop-g l = size (form l.rest)
