@@ -22,7 +22,8 @@ use Rattle.clause_words.specs.Reading.{Token, Read, ◌>>=◌, Gives, said, done
 use Rattle.clause_words.proofs.Lists.{word_some, word_none, done_is}
 use Rattle.clause_words.proofs.Splitting.{spelled_is, empty_word, no_value, one_value}
 use Rattle.clause_words.proofs.Spelled.{index_spelling, integer_spelling}
-use Rattle.clause_words.proofs.Exact.{Reads, IsStuck, IsFault, fault_bind, both_reads, ends_reads, field_reads, fields_reads, bind_ok, bind_err, said_some, said_value, word_is, word_not, refused}
+use Rattle.clause_words.proofs.Exact.{Reads, IsStuck, IsFault, fault_bind, both_reads, field_reads, bind_ok, bind_err, said_some, said_value, word_is, word_not, refused}
+use Rattle.clause_words.proofs.ExactLists.{ends_reads, fields_reads}
 use Rattle.clause_text.proofs.Labels.{charge_spelling, label_spelling}
 use Rattle.clause_text.proofs.SpelledLiterals.{literal_spelling}
 use Rattle.clause_text.proofs.Shapes.{word_spaced, feed_spaced, word_back, IsSpaced}

@@ -7,7 +7,8 @@ use Rattle.clause_words.specs.Spelling.{is_plain, IsSpelling}
 use Rattle.clause_words.specs.Texts.{field_text, list_text, list_to_text}
 use Rattle.clause_words.specs.Tokens.{tokens, spelled, stops, blank, line_feed, in_word, with_word}
 use Rattle.clause_words.specs.Reading.{Token, field, fields, fields_to, unless}
-use Rattle.clause_words.proofs.Exact.{Reads, both_reads, ends_reads, field_reads, fields_reads}
+use Rattle.clause_words.proofs.Exact.{Reads, both_reads, field_reads}
+use Rattle.clause_words.proofs.ExactLists.{ends_reads, fields_reads}
 use Rattle.clause_words.proofs.Unless.{IsEndWord, fields_to_reads}
 use Rattle.clause_words.proofs.Spelled.{index_spelling, integer_spelling}
 use Rattle.clause_words.proofs.Splitting.{word_before}

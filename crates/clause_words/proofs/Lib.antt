@@ -3,7 +3,9 @@ pub mod Lists
 pub mod Summing
 pub mod Written
 pub mod Exact
+pub mod ExactLists
 pub mod Unless
 pub mod Spelled
 pub mod Runs
+pub mod SpelledParts
 pub mod SpelledTerms

@@ -1,10 +1,10 @@
 -- Reading words one after another, as a loop does.
-use Rattle.std.proofs.Common.{ℕ, suc, ◌≡◌, ◌+◌, ◌==◌, Bool, true, false, cond, List, [], ◌∷◌, ◌++◌, length, Option, Some, None, Result, Ok, Err, refl, sym, ap, subst, ◌∙◌, append_assoc, append-nil, ◌⊎◌, inl, inr, arith}
+use Rattle.std.proofs.Common.{ℕ, ◌≡◌, Bool, true, false, cond, List, [], ◌∷◌, ◌++◌, Option, Some, None, Result, Ok, Err, refl, sym, ap, ◌∙◌, append_assoc, append-nil, ◌⊎◌, inl, inr}
 use Rattle.std.specs.Str.{bytes_eq}
 use Rattle.proof_tokens.specs.declared.reading.Refusal.{Refusal}
 use Rattle.proof_tokens.specs.declared.reading.Refusal.TheVariants as e
-use Rattle.clause_words.specs.Tokens.{is_separator, size, blank, line_feed}
-use Rattle.clause_words.specs.Reading.{Token, Read, done, ◌>>=◌, Fails, or_refused, said, word_as, joint, with_first, going_on, fields, blank_first}
+use Rattle.clause_words.specs.Tokens.{size, blank, line_feed}
+use Rattle.clause_words.specs.Reading.{Token, Read, done, ◌>>=◌, Fails, or_refused, said, word_as, joint, with_first, going_on, fields}
 
 -- ---- what the parts of a read say
 

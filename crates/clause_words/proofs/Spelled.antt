@@ -1,5 +1,5 @@
 -- Words that spell numbers and integers.
-use Rattle.std.proofs.Common.{ℕ, zero, suc, ◌≡◌, ◌≤◌, ◌<◌, ◌+◌, ◌^◌, ◌==◌, ◌&&◌, ◌||◌, not, ℤ, pos, negsuc, Bool, true, false, cond, List, [], ◌∷◌, ◌++◌, Option, Some, None, refl, sym, ap, subst, ◌∙◌, arith}
+use Rattle.std.proofs.Common.{ℕ, zero, suc, ◌≡◌, ◌≤◌, ◌<◌, ◌^◌, ◌==◌, ◌||◌, not, ℤ, pos, negsuc, Bool, true, false, cond, List, [], ◌∷◌, ◌++◌, Option, Some, None, refl, sym, ap, subst, ◌∙◌, arith}
 use Rattle.std.specs.Prelude.{int_lt, neg_ℤ, unsigned_abs, nat_eq}
 use Rattle.std.specs.Option.{option_map}
 use Rattle.std.specs.List.{list_all}
@@ -9,7 +9,7 @@ use Rattle.std.proofs.lemmas.Int.{ints}
 use Rattle.std.proofs.lemmas.Bool.Decides.{nat_tests}
 use Rattle.base_numerals.proofs.Tests.{left_true, right_true}
 use Rattle.linear_term.specs.Range.{InRange}
-use Rattle.proof_tokens.specs.Words.{is_empty, is_numeral, numeral_of}
+use Rattle.proof_tokens.specs.Words.{is_empty, is_numeral}
 use Rattle.proof_tokens.proofs.Numerals.{numeral_spelled, three_true}
 use Rattle.proof_tokens.proofs.Decimals.{decimal_is, numeral_back}
 use Rattle.clause_words.specs.Tokens.{in_word}

@@ -1,10 +1,9 @@
 -- The tokens of a text, and those of what stands behind the first one.
-use Rattle.std.proofs.Common.{ℕ, suc, ◌≡◌, ◌≤◌, ◌<◌, ◌+◌, ◌==◌, ◌||◌, not, Bool, true, false, cond, List, [], ◌∷◌, ◌++◌, length, take, drop, Option, Some, None, Result, Ok, Err, refl, sym, ap, subst, ◌∙◌, arith, one-add}
+use Rattle.std.proofs.Common.{ℕ, ◌≡◌, ◌+◌, ◌==◌, ◌||◌, not, Bool, true, false, cond, List, [], ◌∷◌, ◌++◌, length, take, drop, Option, Some, None, Err, refl, sym, ap, subst, ◌∙◌, arith, one-add}
 use Rattle.std.specs.List.{prefix_len, list_all}
-use Rattle.std.specs.Str.{bytes_eq}
 use Rattle.base_numerals.proofs.Tests.{left_true, right_true, front_all}
-use Rattle.clause_words.specs.Tokens.{separates, in_word, is_separator, joined, tokens, spelled, size, with_word, stops, blank, line_feed}
-use Rattle.clause_words.specs.Reading.{Token, Read, done, ◌>>=◌, or_refused, said, word_as, joint}
+use Rattle.clause_words.specs.Tokens.{separates, in_word, is_separator, joined, tokens, spelled, size, with_word, stops}
+use Rattle.clause_words.specs.Reading.{Token, done, ◌>>=◌, or_refused, word_as, joint}
 
 -- ---- how many bytes tokens have
 

@@ -1,8 +1,7 @@
 -- Reading a sum part by part.
-use Rattle.std.proofs.Common.{ℕ, suc, ◌≡◌, ◌≤◌, ◌<◌, ◌+◌, ◌==◌, ◌&&◌, not, Bool, true, false, cond, List, [], ◌∷◌, ◌++◌, length, take, drop, Option, Some, None, refl, sym, ap, subst, ◌∙◌, one-add, arith}
+use Rattle.std.proofs.Common.{ℕ, ◌≡◌, ◌+◌, ◌==◌, ◌&&◌, not, Bool, true, false, cond, List, [], ◌∷◌, length, take, drop, Option, Some, None, refl, sym, ap, ◌∙◌, one-add, arith}
 use Rattle.std.specs.List.{prefix_len}
 use Rattle.linear_term.specs.Linear.{Linear}
-use Rattle.clause_words.specs.declared.terms.Part.{Part}
 use Rattle.clause_words.specs.declared.terms.Part.TheVariants as p
 use Rattle.clause_words.specs.declared.terms.Sum.{Sum}
 use Rattle.clause_words.specs.Terms.{longer, parts, parts_behind, no_sign, part_of, with_name, ended, ended_by, sum_of}

@@ -1,5 +1,5 @@
 -- Lists that a word ends.
-use Rattle.std.proofs.Common.{ℕ, suc, ◌≡◌, ◌+◌, ◌==◌, Bool, true, false, cond, List, [], ◌∷◌, ◌++◌, length, Option, Some, None, Result, Ok, Err, refl, sym, ap, subst, ◌∙◌, append_assoc, append-nil, ◌⊎◌, inl, inr, arith}
+use Rattle.std.proofs.Common.{ℕ, ◌≡◌, Bool, true, false, cond, List, [], ◌∷◌, ◌++◌, Option, Some, None, Ok, Err, refl, sym, ap, subst, ◌∙◌, append_assoc, append-nil, inl, inr}
 use Rattle.std.specs.Str.{bytes_eq}
 use Rattle.std.specs.Option.{option_map}
 use Rattle.std.specs.List.{AllByRecursion}
@@ -9,10 +9,10 @@ use Rattle.proof_tokens.specs.declared.reading.Refusal.TheVariants as e
 use Rattle.clause_words.specs.Tokens.{is_separator, size, blank}
 use Rattle.clause_words.specs.Spelling.{IsSpelling}
 use Rattle.clause_words.specs.Texts.{list_to_text}
-use Rattle.clause_words.specs.Places.{Begins}
-use Rattle.clause_words.specs.Reading.{Token, Read, ◌>>=◌, Fails, or_refused, said, word_as, blank_first, with_first, going_on_unless, unless, fields_to, done}
+use Rattle.clause_words.specs.Reading.{Token, Read, Fails, said, word_as, blank_first, with_first, going_on_unless, unless, fields_to, done}
 use Rattle.clause_words.proofs.Lists.{word_some, word_none, with_front}
-use Rattle.clause_words.proofs.Exact.{blank_ok, blank_err, blank_is, ok_not_err, same_bytes, said_some, not_separator, with_first_ok, with_first_err, fault_bind, IsFault, IsStuck, Reads}
+use Rattle.clause_words.proofs.Exact.{blank_ok, blank_err, blank_is, ok_not_err, same_bytes, said_some, not_separator, fault_bind, IsFault, IsStuck, Reads}
+use Rattle.clause_words.proofs.ExactLists.{with_first_ok, with_first_err}
 
 -- ---- one step
 

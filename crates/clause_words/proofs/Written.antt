@@ -1,10 +1,10 @@
 -- Terms that are written in parts.
-use Rattle.std.proofs.Common.{ℕ, ◌≡◌, ◌≢◌, ℤ, pos, Bool, true, false, not, ◌&&◌, cond, List, [], ◌∷◌, ◌++◌, length, map, refl, sym, ap, ◌∙◌, append_assoc, append-nil, arith}
+use Rattle.std.proofs.Common.{ℕ, ◌≡◌, ◌≢◌, ℤ, pos, Bool, true, false, ◌&&◌, cond, List, [], ◌∷◌, ◌++◌, length, map, refl, sym, ap, ◌∙◌, append_assoc, append-nil, arith}
 use Rattle.std.specs.Prelude.{int_lt, unsigned_abs}
 use Rattle.std.specs.Ordering.{int_eq}
 use Rattle.std.specs.Fmt.{decimal}
 use Rattle.linear_term.specs.Linear.{Linear}
-use Rattle.clause_words.specs.Terms.{SignedPart, constant_parts, is_none, monomial_part, parts_text, part_text, sign_text, term_parts, term_text}
+use Rattle.clause_words.specs.Terms.{SignedPart, constant_parts, monomial_part, parts_text, part_text, sign_text, term_text}
 
 -- parts behind parts
 parts_append : (first : Bool) (ss tt : List SignedPart) → (ss ≡ [] → ⊥) → parts_text first (ss ++ tt) ≡ parts_text first ss ++ parts_text false tt

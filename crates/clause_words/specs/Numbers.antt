@@ -1,5 +1,5 @@
 -- Numbers as words: decimal digits without a leading zero, and a `-` before them.
-use Rattle.std.specs.Prelude.{ℕ, ◌+◌, ◌<◌, ◌^◌, ◌==◌, not, ℤ, pos, negsuc, neg_ℤ, Bool, true, false, List, [], ◌∷◌, Option, Some, None, cond, nat_eq}
+use Rattle.std.specs.Prelude.{ℕ, ◌^◌, ◌==◌, ℤ, pos, neg_ℤ, Bool, true, List, [], ◌∷◌, Option, Some, None, cond, nat_eq}
 use Rattle.std.specs.Option.{option_map}
 use Rattle.proof_tokens.specs.Words.{numeral_of}
 

@@ -1,6 +1,6 @@
 -- Reading tokens from left to right: a value and the tokens behind it, or how many bytes are left from the first token that
 -- cannot stand there.
-use Rattle.std.specs.Prelude.{ℕ, ◌≡◌, ◌==◌, Bool, true, false, List, [], ◌∷◌, Option, Some, None, Result, Ok, Err, cond}
+use Rattle.std.specs.Prelude.{ℕ, ◌≡◌, Bool, true, false, List, [], ◌∷◌, Option, Some, None, Result, Ok, Err, cond}
 use Rattle.std.specs.Str.{bytes_eq}
 use Rattle.std.specs.Option.{option_map}
 use Rattle.proof_tokens.specs.declared.reading.Refusal.{Refusal}

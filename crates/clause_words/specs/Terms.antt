@@ -1,6 +1,6 @@
 -- Linear terms as words, as `3*c0-c2+5`: names rise, a coefficient 1 is not written, and the constant is written where it is
 -- not 0 or stands alone.
-use Rattle.std.specs.Prelude.{ℕ, ◌+◌, ◌<◌, ◌^◌, ◌==◌, ◌||◌, ◌&&◌, not, ℤ, pos, int_lt, unsigned_abs, Bool, true, false, List, [], ◌∷◌, ◌++◌, map, take, drop, Option, Some, None, cond, nat_eq, nat_lt, nat_le}
+use Rattle.std.specs.Prelude.{ℕ, ◌+◌, ◌==◌, ◌||◌, ◌&&◌, not, ℤ, pos, int_lt, unsigned_abs, Bool, true, false, List, [], ◌∷◌, ◌++◌, map, take, drop, Option, Some, None, cond, nat_eq, nat_lt, nat_le}
 use Rattle.std.specs.Ordering.{int_eq}
 use Rattle.std.specs.Option.{option_map}
 use Rattle.std.specs.List.{prefix_len}

@@ -1,6 +1,5 @@
 -- Bytes as tokens: a blank, a line feed, or a word, which goes on to the next blank or line feed.
 use Rattle.std.specs.Prelude.{ℕ, ◌+◌, ◌==◌, ◌||◌, not, Bool, true, false, List, [], ◌∷◌, ◌++◌, length, cond}
-use Rattle.std.specs.List.{flat_map}
 
 -- a blank or a line feed
 abbrev pub separates : ℕ → Bool

@@ -1,4 +1,4 @@
-use Rattle.std.proofs.Common.{rules, ◌≡◌, Some, None, sym, ap, ◌∙◌, cond}
+use Rattle.std.proofs.Common.{rules, Some, None, sym, ap, ◌∙◌, cond}
 use Rattle.clause_words.specs.Terms.{nothing, parts, sum_of}
 use Rattle.clause_words.proofs.Summing.{none_here, constant_here, no_name_here, last_name_here, name_here}
 use Rattle.clause_words.proofs.terms.rest_of_term.Goals as goal

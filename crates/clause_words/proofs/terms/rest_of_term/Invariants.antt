@@ -1,4 +1,4 @@
-use Rattle.std.proofs.Common.{◌≡◌, length}
+use Rattle.std.proofs.Common.{length}
 use Rattle.clause_words.specs.Rising.{IsRising}
 use Rattle.clause_words.specs.Terms.{nothing, parts, sum_of}
 use Rattle.clause_words.proofs.Summing.{Goes}
