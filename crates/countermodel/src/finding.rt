@@ -8,9 +8,10 @@ ghost use Rattle.countermodel.specs.Doing.{DoesWork, found_in};
 ghost use Rattle.solve_laws.specs.Solutions.{IsGiven};
 ghost use Rattle.model_trees.specs.Walk as w;
 
-use super::clauses::{point, read};
+use super::clauses::read;
 use base_budget::{ElimFault, Purse, StepFault};
 use clause_set::{Literal, and, not};
+use model_trees::point;
 use parameter_solver::{Solved, solve};
 use sqlite_items::Items;
 use std::alloc::Global;
@@ -51,6 +52,7 @@ fn searched(
 }
 
 /// The best values of the names at which the clauses are false, the first of them v.
+#[inline(never)]
 pub fn denied(
     alloc: Global,
     names: u32,
@@ -71,6 +73,7 @@ pub fn denied(
 
 /// The values v, if the clauses are true there.
 #[tactic(auto, using(base_budget::proofs::Following::following, crate::proofs::Forgetting::finding))]
+#[inline(never)]
 pub fn affirmed(
     alloc: Global,
     names: u32,

@@ -6,7 +6,7 @@ ghost use Rattle.sequent.specs.Views.{HasRoom, sequent_of};
 ghost use Rattle.std.specs.List.{AllByRecursion};
 ghost use Rattle.base_budget.specs.Trace.{next};
 ghost use Rattle.std.specs.List.{slice_get};
-ghost use Rattle.std.specs.Prelude.{◌≡◌, ◌+◌, ◌<◌, ◌≤◌, ◌^◌, drop, length, List, map, Ok, Some, suc, ℤ};
+ghost use Rattle.std.specs.Prelude.{◌≡◌, ◌+◌, ◌<◌, ◌≤◌, ◌^◌, drop, IfOk, length, List, map, Ok, Some, suc, ℤ};
 ghost use Rattle.countermodel.specs.Doing.{DoesWork};
 ghost use Rattle.countermodel.specs.Ready.{AreWalkReady, IsWalkReady};
 ghost use Rattle.countermodel.specs.Stopped.{stopped};
@@ -20,6 +20,7 @@ ghost use Rattle.model_trees.specs.Walk as w;
 
 use super::finding::{affirmed, denied};
 use base_budget::{Purse, StepFault};
+use linear_term::Memory;
 use proof_tree::Node;
 use sequent::{Member, Pick, Sequent, premise};
 use sqlite_items::{Items, at};
@@ -89,6 +90,16 @@ pub fn walk(
     }
 }
 
+/// Premise number i. Its work takes no room in the frames of the walk.
+#[inline(never)]
+fn premise_apart(alloc: Global, s: &Sequent, rule: Pick, i: u32) -> Result<Sequent, Memory>
+    requires room { HasRoom s.now }
+    requires within { i < length (calculus.premises_of (sequent_of s.now) rule) }
+    ensures { IfOk result (λ t. slice_get (calculus.premises_of (sequent_of s.now) rule) i ≡ Some (sequent_of t)) }
+{
+    premise(alloc, s, rule, i)
+}
+
 /// The walk from child number i.
 #[cycle(walk)]
 fn step(
@@ -109,7 +120,7 @@ fn step(
 {
     match at(children, i as usize) {
         Some(child) => {
-            let t = premise(alloc, s, rule, i)?;
+            let t = premise_apart(alloc, s, rule, i)?;
             walk(alloc, t, child, left, values, purse)
         }
         None => Ok(None),

@@ -16,8 +16,8 @@ use Rattle.quant_elim.proofs.Budgets.{below_budget}
 use Rattle.countermodel.proofs.walking.+walk.Goals as goal
 
 -- ---- one child
-pub step-premise-requires-clause-within : goal.step-premise-requires-clause-within
-step-premise-requires-clause-within t c =
+pub step-premise_apart-requires-clause-within : goal.step-premise_apart-requires-clause-within
+step-premise_apart-requires-clause-within t c =
     let ss = premises_of (sequent_of c.args.s.now) c.args.rule in
     let r = ready_child c.args.left ss c.args.children.now c.args.i c.in-Some.child.now c.args.values (sym c.in-Some.ensures) c.requires.ready in
     slice_get_within ss c.args.i r.premise r.is
