@@ -22,7 +22,7 @@ use Rattle.base_answers.specs.Answer.{Answer, answer_of}
 use Rattle.base_answers.specs.declared.output.Output.{Output}
 use Rattle.pri_lines.specs.Constraint.{IsTextOf}
 use Rattle.pri_problem.specs.Encoded.{IsEncoded}
-use Rattle.job_check.specs.Checked.{AnswersProof, Judged, syntax, deep, node, range, cost, closed, valid, invalid}
+use Rattle.job_check.specs.Checked.{AnswersTree, Judged, syntax, deep, node, range, cost, closed, valid, invalid}
 use Rattle.job_check.specs.Told.{HasValues, IsFitting, IsCheckedValid, TellsFault, TellsVerdict, alone, lines}
 use Rattle.job_check.proofs.Meaning.{accepted_over, accepted_values}
 
@@ -47,25 +47,25 @@ fitting p e h proof k t =
     values Invalid j = tt
 
 -- the answer to an accepted proof
-accepted_told : (p : Problem) (e : Encoded) → IsEncoded p e → (proof : List ℕ) (k : Checked) → ChecksText (form e.root) e.constants proof (Ok k) → (a : Answer) → TellsVerdict p k.constraint k.verdict a → AnswersProof proof p a
+accepted_told : (p : Problem) (e : Encoded) → IsEncoded p e → (proof : List ℕ) (k : Checked) → ChecksText (form e.root) e.constants proof (Ok k) → (a : Answer) → TellsVerdict p k.constraint k.verdict a → AnswersTree proof p a
 accepted_told p e h proof k t a told = by k.verdict (judged p e h proof t.1 t.2 t.0 (accepted k.verdict) t.3 t.4.0) told
   where
-    told_valid : (vs : List ℤ) → Judged p proof t.1 t.2 t.0 (accepted (Valid vs)) → IsCheckedValid p k.constraint vs a → AnswersProof proof p a
+    told_valid : (vs : List ℤ) → Judged p proof t.1 t.2 t.0 (accepted (Valid vs)) → IsCheckedValid p k.constraint vs a → AnswersTree proof p a
     told_valid vs j (alone none is) = closed t.1 t.2 t.0 vs j none is
     told_valid vs j (lines text some ls is) =
         valid t.1 t.2 t.0 vs ls.0 j some (subst (λ d. IsTextOf p d ls.0) t.4.1 ls.1) (is ∙ ap (λ x. record { status = 0; text = x }) ls.2)
 
-    by : (v : Verdict) → Judged p proof t.1 t.2 t.0 (accepted v) → TellsVerdict p k.constraint v a → AnswersProof proof p a
+    by : (v : Verdict) → Judged p proof t.1 t.2 t.0 (accepted v) → TellsVerdict p k.constraint v a → AnswersTree proof p a
     by (Valid vs) j told = told_valid vs j told
     by Invalid j told = invalid t.1 t.2 t.0 j told
 
 pub accepted_so : (p : Problem) (e : Encoded) → IsEncoded p e → (proof : List ℕ) (k : Checked) → ChecksText (form e.root) e.constants proof (Ok k) → (r : Result Output Memory)
-    → IfOk r (λ out. TellsVerdict p k.constraint k.verdict (answer_of out)) → IfOk r (λ out. AnswersProof proof p (answer_of out))
+    → IfOk r (λ out. TellsVerdict p k.constraint k.verdict (answer_of out)) → IfOk r (λ out. AnswersTree proof p (answer_of out))
 accepted_so p e h proof k t (Ok out) told = accepted_told p e h proof k t (answer_of out) told
 accepted_so p e h proof k t (Err m) told = tt
 
 -- the answer to a proof that is refused
-refused_told : (p : Problem) (e : Encoded) → IsEncoded p e → (proof : List ℕ) (f : TextFault) → ChecksText (form e.root) e.constants proof (Err f) → (a : Answer) → TellsFault f a → AnswersProof proof p a
+refused_told : (p : Problem) (e : Encoded) → IsEncoded p e → (proof : List ℕ) (f : TextFault) → ChecksText (form e.root) e.constants proof (Err f) → (a : Answer) → TellsFault f a → AnswersTree proof p a
 refused_told p e h proof (fault.Syntax at) t a is = syntax at t is
 refused_told p e h proof (fault.Deep at) t a is = deep at t is
 refused_told p e h proof (fault.Node m) t a is = node t.1 t.2 t.0 m (judged p e h proof t.1 t.2 t.0 _ t.3 t.4) is
@@ -74,6 +74,6 @@ refused_told p e h proof (fault.Cost m) t a is = cost t.1 t.2 t.0 m (judged p e 
 refused_told p e h proof fault.Memory t a is = absurd is
 
 pub refused_so : (p : Problem) (e : Encoded) → IsEncoded p e → (proof : List ℕ) (f : TextFault) → ChecksText (form e.root) e.constants proof (Err f) → (r : Result Output Memory)
-    → IfOk r (λ out. TellsFault f (answer_of out)) → IfOk r (λ out. AnswersProof proof p (answer_of out))
+    → IfOk r (λ out. TellsFault f (answer_of out)) → IfOk r (λ out. AnswersTree proof p (answer_of out))
 refused_so p e h proof f t (Ok out) told = refused_told p e h proof f t (answer_of out) told
 refused_so p e h proof f t (Err m) told = tt

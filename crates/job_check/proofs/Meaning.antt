@@ -33,9 +33,13 @@ use Rattle.pri_problem.specs.Encoded.{large, leaves, runs}
 use Rattle.pri_problem.proofs.Bytes.{reads_formed}
 use Rattle.pri_problem.proofs.Reduced.{problem_reduced}
 use Rattle.job_check.specs.Checked as row
-use Rattle.job_check.specs.Checked.{AnswersProof, IsChecked, Judged}
+use Rattle.job_check.specs.Checked.{AnswersProof, AnswersTree, IsChecked, Judged, clauses, tree}
+use Rattle.job_check.specs.Clauses as clause
+use Rattle.job_check.specs.Clauses.{AnswersClauses, Shows}
+use Rattle.model_trees.specs.Walk.{point}
 use Rattle.job_check.specs.Meaning as says
 use Rattle.job_check.specs.Meaning.{CheckMeans}
+use Rattle.job_check.proofs.Shown.{shown_covers}
 
 -- an accepted proof proves
 pub proves : (p : Problem) (proof : List ℕ) (x : Proof) (c : Conclusion) (charges : ℕ) (v : Verdict) → Judged p proof x c charges (accepted v) → Proves (problem_root p).value (length p.existentials) x c charges v
@@ -91,27 +95,27 @@ invalid_pure f n r (Nothing log) d e = first_true (is_pure f) (is_root_rule r) (
 silent : (w : Meaning) (bytes : List ℕ) (a : Answer) (s : ℕ) → a.status ≡ s → s ≢ 0 → CheckMeans w bytes a
 silent w bytes a s e not_zero = record { accepted = λ z. absurd (not_zero (sym e ∙ z)) }
 
-row_means : (w : Meaning) (proof bytes : List ℕ) (p : Problem) (a : Answer) → Poses bytes p → AnswersProof proof p a → CheckMeans w bytes a
-row_means w proof bytes p a poses (row.syntax at r e) = silent w bytes a 4 (ap (λ b. b.status) e) (λ z. cc)
-row_means w proof bytes p a poses (row.deep at r e) = silent w bytes a 4 (ap (λ b. b.status) e) (λ z. cc)
-row_means w proof bytes p a poses (row.node x c charges m j e) = silent w bytes a 4 (ap (λ b. b.status) e) (λ z. cc)
-row_means w proof bytes p a poses (row.range x c charges m numbers j e) = silent w bytes a 4 (ap (λ b. b.status) e) (λ z. cc)
-row_means w proof bytes p a poses (row.cost x c charges m j e) = silent w bytes a 4 (ap (λ b. b.status) e) (λ z. cc)
-row_means w proof bytes p a poses (row.closed x c charges vs j none e) = record {
+tree_means : (w : Meaning) (proof bytes : List ℕ) (p : Problem) (a : Answer) → Poses bytes p → AnswersTree proof p a → CheckMeans w bytes a
+tree_means w proof bytes p a poses (row.syntax at r e) = silent w bytes a 4 (ap (λ b. b.status) e) (λ z. cc)
+tree_means w proof bytes p a poses (row.deep at r e) = silent w bytes a 4 (ap (λ b. b.status) e) (λ z. cc)
+tree_means w proof bytes p a poses (row.node x c charges m j e) = silent w bytes a 4 (ap (λ b. b.status) e) (λ z. cc)
+tree_means w proof bytes p a poses (row.range x c charges m numbers j e) = silent w bytes a 4 (ap (λ b. b.status) e) (λ z. cc)
+tree_means w proof bytes p a poses (row.cost x c charges m j e) = silent w bytes a 4 (ap (λ b. b.status) e) (λ z. cc)
+tree_means w proof bytes p a poses (row.closed x c charges vs j none e) = record {
   accepted = λ z. record {
     problem = p;
     reads = poses.reads;
     says = says.closed none (ap (λ b. b.text) e) (closed_holds w p (given x) vs (reads_formed bytes p poses.reads) (covers p (root_over p (reads_formed bytes p poses.reads)) proof x c charges vs j) none);
   };
 }
-row_means w proof bytes p a poses (row.valid x c charges vs text j some printed e) = record {
+tree_means w proof bytes p a poses (row.valid x c charges vs text j some printed e) = record {
   accepted = λ z. record {
     problem = p;
     reads = poses.reads;
     says = says.supported text vs some (ap (λ b. b.text) e) (supports w p (given x) vs text (reads_formed bytes p poses.reads) (covers p (root_over p (reads_formed bytes p poses.reads)) proof x c charges vs j) printed);
   };
 }
-row_means w proof bytes p a poses (row.invalid x c charges j e) =
+tree_means w proof bytes p a poses (row.invalid x c charges j e) =
     let h = proves p proof x c charges Invalid j in
     record {
       accepted = λ z. record {
@@ -123,6 +127,31 @@ row_means w proof bytes p a poses (row.invalid x c charges j e) =
       };
     }
 
+-- a clause proof shows the problem at its values
+clauses_means : (w : Meaning) (proof bytes : List ℕ) (p : Problem) (a : Answer) → Poses bytes p → AnswersClauses proof p a → CheckMeans w bytes a
+clauses_means w proof bytes p a poses (clause.syntax at r e) = silent w bytes a 4 (ap (λ b. b.status) e) (λ z. cc)
+clauses_means w proof bytes p a poses (clause.wrong at h e) = silent w bytes a 4 (ap (λ b. b.status) e) (λ z. cc)
+clauses_means w proof bytes p a poses (clause.range at h e) = silent w bytes a 4 (ap (λ b. b.status) e) (λ z. cc)
+clauses_means w proof bytes p a poses (clause.cost at h e) = silent w bytes a 4 (ap (λ b. b.status) e) (λ z. cc)
+clauses_means w proof bytes p a poses (clause.closed vs h none e) = record {
+  accepted = λ z. record {
+    problem = p;
+    reads = poses.reads;
+    says = says.closed none (ap (λ b. b.text) e) (closed_holds w p (point vs) vs (reads_formed bytes p poses.reads) (shown_covers p (root_over p (reads_formed bytes p poses.reads)) proof vs h) none);
+  };
+}
+clauses_means w proof bytes p a poses (clause.valid vs text h some printed e) = record {
+  accepted = λ z. record {
+    problem = p;
+    reads = poses.reads;
+    says = says.supported text vs some (ap (λ b. b.text) e) (supports w p (point vs) vs text (reads_formed bytes p poses.reads) (shown_covers p (root_over p (reads_formed bytes p poses.reads)) proof vs h) printed);
+  };
+}
+
+row_means : (w : Meaning) (proof bytes : List ℕ) (p : Problem) (a : Answer) → Poses bytes p → AnswersProof proof p a → CheckMeans w bytes a
+row_means w proof bytes p a poses (tree other k) = tree_means w proof bytes p a poses k
+row_means w proof bytes p a poses (clauses is k) = clauses_means w proof bytes p a poses k
+
 pub means : (w : Meaning) (proof bytes : List ℕ) (a : Answer) → IsChecked proof bytes a → CheckMeans w bytes a
 means w proof bytes a (refused r h e) = silent w bytes a 3 (ap (λ b. b.status) e) (λ z. cc)
 means w proof bytes a (posed p h (large l e)) = silent w bytes a 3 (ap (λ b. b.status) e) (λ z. cc)
@@ -130,15 +159,27 @@ means w proof bytes a (posed p h (leaves l e)) = silent w bytes a 2 (ap (λ b. b
 means w proof bytes a (posed p h (runs f k)) = row_means w proof bytes p a h k
 
 -- ---- their statuses
+tree_status : (proof : List ℕ) (p : Problem) (a : Answer) → AnswersTree proof p a → IsAnswerStatus a.status
+tree_status proof p a (row.syntax at r e) = subst (λ b. IsAnswerStatus b.status) (sym e) refl
+tree_status proof p a (row.deep at r e) = subst (λ b. IsAnswerStatus b.status) (sym e) refl
+tree_status proof p a (row.node x c charges m j e) = subst (λ b. IsAnswerStatus b.status) (sym e) refl
+tree_status proof p a (row.range x c charges m numbers j e) = subst (λ b. IsAnswerStatus b.status) (sym e) refl
+tree_status proof p a (row.cost x c charges m j e) = subst (λ b. IsAnswerStatus b.status) (sym e) refl
+tree_status proof p a (row.closed x c charges vs j none e) = subst (λ b. IsAnswerStatus b.status) (sym e) refl
+tree_status proof p a (row.valid x c charges vs text j some printed e) = subst (λ b. IsAnswerStatus b.status) (sym e) refl
+tree_status proof p a (row.invalid x c charges j e) = subst (λ b. IsAnswerStatus b.status) (sym e) refl
+
+clauses_status : (proof : List ℕ) (p : Problem) (a : Answer) → AnswersClauses proof p a → IsAnswerStatus a.status
+clauses_status proof p a (clause.syntax at r e) = subst (λ b. IsAnswerStatus b.status) (sym e) refl
+clauses_status proof p a (clause.wrong at h e) = subst (λ b. IsAnswerStatus b.status) (sym e) refl
+clauses_status proof p a (clause.range at h e) = subst (λ b. IsAnswerStatus b.status) (sym e) refl
+clauses_status proof p a (clause.cost at h e) = subst (λ b. IsAnswerStatus b.status) (sym e) refl
+clauses_status proof p a (clause.closed vs h none e) = subst (λ b. IsAnswerStatus b.status) (sym e) refl
+clauses_status proof p a (clause.valid vs text h some printed e) = subst (λ b. IsAnswerStatus b.status) (sym e) refl
+
 row_status : (proof : List ℕ) (p : Problem) (a : Answer) → AnswersProof proof p a → IsAnswerStatus a.status
-row_status proof p a (row.syntax at r e) = subst (λ b. IsAnswerStatus b.status) (sym e) refl
-row_status proof p a (row.deep at r e) = subst (λ b. IsAnswerStatus b.status) (sym e) refl
-row_status proof p a (row.node x c charges m j e) = subst (λ b. IsAnswerStatus b.status) (sym e) refl
-row_status proof p a (row.range x c charges m numbers j e) = subst (λ b. IsAnswerStatus b.status) (sym e) refl
-row_status proof p a (row.cost x c charges m j e) = subst (λ b. IsAnswerStatus b.status) (sym e) refl
-row_status proof p a (row.closed x c charges vs j none e) = subst (λ b. IsAnswerStatus b.status) (sym e) refl
-row_status proof p a (row.valid x c charges vs text j some printed e) = subst (λ b. IsAnswerStatus b.status) (sym e) refl
-row_status proof p a (row.invalid x c charges j e) = subst (λ b. IsAnswerStatus b.status) (sym e) refl
+row_status proof p a (tree other k) = tree_status proof p a k
+row_status proof p a (clauses is k) = clauses_status proof p a k
 
 pub checked_status : (proof bytes : List ℕ) (a : Answer) → IsChecked proof bytes a → IsAnswerStatus a.status
 checked_status proof bytes a (refused r h e) = subst (λ b. IsAnswerStatus b.status) (sym e) refl

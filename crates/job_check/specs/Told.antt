@@ -5,6 +5,8 @@ use Rattle.clause_set.specs.declared.literal.Literal.{Literal}
 use Rattle.elim_laws.specs.Whole.{AreOver}
 use Rattle.proof_tree.specs.declared.run.Verdict.{Verdict}
 use Rattle.proof_tree.specs.declared.run.Verdict.TheVariants.{Valid, Invalid}
+use Rattle.clause_file.specs.declared.fault.ClauseFault.{ClauseFault}
+use Rattle.clause_file.specs.declared.fault.ClauseFault.TheVariants as clause
 use Rattle.tree_checker.specs.declared.checking.Checked.{Checked}
 use Rattle.tree_checker.specs.declared.text.TextFault.{TextFault}
 use Rattle.tree_checker.specs.declared.text.TextFault.TheVariants as text
@@ -39,3 +41,11 @@ TellsFault (text.Node n) answer = answer ≡ refused_proof_answer (codes "node "
 TellsFault (text.Range n place) answer = answer ≡ refused_proof_answer (codes "range " ++ decimal n)
 TellsFault (text.Cost n) answer = answer ≡ refused_proof_answer (codes "cost " ++ decimal n)
 TellsFault text.Memory answer = ⊥
+
+-- the answer says why the clause proof is refused; none tells want of memory
+abbrev pub TellsClauseFault : ClauseFault → Answer → Type 0
+TellsClauseFault (clause.Syntax at) answer = answer ≡ refused_proof_answer (codes "Syntax at " ++ decimal at)
+TellsClauseFault (clause.Line n) answer = answer ≡ refused_proof_answer (codes "line " ++ decimal n)
+TellsClauseFault (clause.Range n) answer = answer ≡ refused_proof_answer (codes "range " ++ decimal n)
+TellsClauseFault (clause.Cost n) answer = answer ≡ refused_proof_answer (codes "cost " ++ decimal n)
+TellsClauseFault clause.Memory answer = ⊥

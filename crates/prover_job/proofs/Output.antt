@@ -128,7 +128,7 @@ whole_accepted : (form : ProofForm) (bytes text part : List ℕ) (v : Verdict) �
 whole_accepted form bytes text part v lines h b is =
     let printed = h.prints in
     let same : body (text ++ part) ≡ printed.text = ap (λ t. body (text ++ t)) printed.line ∙ part_after text printed.text lines in
-    (decided (text ++ part) bytes b h.problem is h.poses h.fits).accepts.1 (record {
+    (decided (text ++ part) bytes b h.problem is h.poses h.fits).tree (record {
       tree = h.tree;
       conclusion = h.conclusion;
       charges = h.charges;

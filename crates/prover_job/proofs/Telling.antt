@@ -21,6 +21,8 @@ use Rattle.job_check.specs.Checked.{IsChecked}
 use Rattle.job_check.specs.Meaning.{CheckMeans}
 use Rattle.job_check.specs.Causes as check_causes
 use Rattle.job_check.proofs.Causing as check_causing
+use Rattle.job_smt.specs.Causes.{SmtCauses}
+use Rattle.job_smt.proofs.Causing as smt_causing
 use Rattle.job_check.proofs.Exactly.{accepted_text}
 use Rattle.job_check.proofs.Meaning as check_meaning
 use Rattle.proof_tree.specs.declared.run.Verdict.{Verdict}
@@ -322,6 +324,10 @@ pub least_caused : (w : Meaning) (term : List ℕ) (budget : ℕ) (told : Option
     → Meets (AnswersSource most_of_file (IsLeastCaused w term budget) told) ends before after
 least_caused w term budget told ends before after met = meets_more _ _ ends before after (source_more most_of_file (IsLeastAnswer term budget) (IsLeastCaused w term budget)
     (λ bytes a is. record { causes = least_causing.causes term budget bytes a is; decides = λ p x decided. least_deciding.decides w term budget bytes a p x is decided }) told) met
+
+pub smt_caused : (budget : ℕ) (told : Option (List ℕ)) (ends : ℕ) (before after : Option (List ℕ)) → Meets (AnswersSource most_of_file (IsSmtAnswer budget) told) ends before after
+    → Meets (AnswersSource most_of_file (SmtCauses budget) told) ends before after
+smt_caused budget told ends before after met = meets_more _ _ ends before after (source_more most_of_file (IsSmtAnswer budget) (SmtCauses budget) (smt_causing.causes budget) told) met
 
 pub check_caused : (proof told : Option (List ℕ)) (ends : ℕ) (before after : Option (List ℕ)) → Meets (AnswersSource most_of_file (AnswersWithProof proof) told) ends before after
     → Meets (AnswersSource most_of_file (IsCheckCaused proof) told) ends before after

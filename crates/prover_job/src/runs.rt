@@ -4,6 +4,7 @@ ghost use Rattle.base_answers.specs.Answer.{IsStatus, words_answer};
 ghost use Rattle.base_answers.specs.Outside.{Meets};
 ghost use Rattle.base_answers.specs.declared.form.ProofForm.{ProofForm};
 ghost use Rattle.job_words.specs.Jobs.{Task, check, drill, eliminate, files_of, minimise, run_script, solve, task_of};
+ghost use Rattle.job_smt.specs.Causes.{SmtCauses};
 ghost use Rattle.prover_io.specs.Outside.{BeginsFront, GrowsAtMost, Rose};
 ghost use Rattle.prover_job.specs.Runs.{AnswersTask, AreBegun, AskFor, AskForNoFile, AskForNothing, BrokeAt, IsCheckCaused, IsDrillCaused, IsElimCaused, IsJobFile, IsLeastCaused, IsSolveCausedAs, IsSmallTask, MeetsFile, SaysChecked, SaysConstraint, SaysLeast, SaysNowhere, SaysRefuted, SaysScript, SaysValid, most_moved};
 ghost use Rattle.std.specs.Prelude.{◌≡◌, ◌≢◌, ◌⊎◌, ℕ, List, [], Option};
@@ -67,6 +68,9 @@ pub fn run<S: Source, K: Sink, W: World>(
         result (K.taken sink.old) (K.taken sink.new) }
     ensures check_causes { (file proof : List ℕ) → AskFor words.now (check file proof)
         → MeetsFile (IsCheckCaused (S.bytes_of source.old proof)) (S.bytes_of source.old file)
+        result (K.taken sink.old) (K.taken sink.new) }
+    ensures smt_causes { (file : List ℕ) (budget : ℕ) → AskFor words.now (run_script file budget)
+        → MeetsFile (SmtCauses budget) (S.bytes_of source.old file)
         result (K.taken sink.old) (K.taken sink.new) }
     ensures drilled { (count budget : ℕ) → AskFor words.now (drill count budget)
         → Meets (IsDrillCaused (W.meaning world.now) budget count) result (K.taken sink.old) (K.taken sink.new) }

@@ -1,15 +1,6 @@
-use Rattle.pri_problem.proofs.Sizes.{searchable}
-use Rattle.job_check.proofs.Judging.{accepted_so, fitting, refused_so}
+use Rattle.std.proofs.Common.{sym, ◌∙◌}
+use Rattle.job_check.proofs.Proving.{tree_so}
 use Rattle.job_check.proofs.checking.proof_answer.Goals as goal
 
-pub check_text-requires : goal.check_text-requires
-check_text-requires c = searchable c.args.problem.now c.args.encoded.now c.requires.well_formed c.requires.encoded
-
-pub tell_accepted-requires-clause-fitting : goal.tell_accepted-requires-clause-fitting
-tell_accepted-requires-clause-fitting c = fitting c.args.problem.now c.args.encoded.now c.requires.encoded c.args.proof.now c.in-Ok.checked c.in-Ok.ensures
-
-pub returns-in-Ok : goal.returns-in-Ok
-returns-in-Ok c = accepted_so c.args.problem.now c.args.encoded.now c.requires.encoded c.args.proof.now c.in-Ok.checked c.in-Ok.ensures _ c.tell_accepted.ensures
-
-pub returns-in-Err : goal.returns-in-Err
-returns-in-Err c = refused_so c.args.problem.now c.args.encoded.now c.requires.encoded c.args.proof.now c.in-Err.fault c.in-Err.ensures _ c.tell_refused.ensures
+pub returns : goal.returns
+returns c = tree_so c.args.problem.now c.args.proof.now (sym c.is_clause_text.ensures ∙ c.if-is_clause_text.false) _ c.tree_answer.ensures

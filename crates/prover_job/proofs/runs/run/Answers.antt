@@ -1,6 +1,6 @@
 -- What is answered of the job that was read is answered of each job that the words name.
 use Rattle.job_words.specs.Jobs.{check, drill, eliminate, minimise, run_script, solve, task_of}
-use Rattle.prover_job.proofs.Telling.{named_within, met_as, says_checked, says_valid, says_refuted, says_constraint, says_script, says_least, says_nowhere, solve_caused, elim_caused, least_caused, check_caused, drill_caused}
+use Rattle.prover_job.proofs.Telling.{named_within, met_as, says_checked, says_valid, says_refuted, says_constraint, says_script, smt_caused, says_least, says_nowhere, solve_caused, elim_caused, least_caused, check_caused, drill_caused}
 use Rattle.prover_job.proofs.runs.run.Goals as goal
 
 pub do_job-requires : goal.do_job-requires
@@ -49,6 +49,10 @@ returns-in-Ok-clause-least_causes g c = λ file term budget names. least_caused 
 pub returns-in-Ok-clause-check_causes : goal.returns-in-Ok-clause-check_causes
 returns-in-Ok-clause-check_causes g c = λ file proof names. check_caused (g.S.Source.bytes_of c.args.source.now proof) (g.S.Source.bytes_of c.args.source.now file) _ _ _
     (met_as (g.S.Source.bytes_of c.args.source.now) _ (task_of c.in-Ok.job) (check file proof) _ _ _ c.words_law.ensures c.in-Ok.ensures.named names c.do_job.ensures.answered)
+
+pub returns-in-Ok-clause-smt_causes : goal.returns-in-Ok-clause-smt_causes
+returns-in-Ok-clause-smt_causes g c = λ file budget names. smt_caused budget (g.S.Source.bytes_of c.args.source.now file) _ _ _
+    (met_as (g.S.Source.bytes_of c.args.source.now) _ (task_of c.in-Ok.job) (run_script file budget) _ _ _ c.words_law.ensures c.in-Ok.ensures.named names c.do_job.ensures.answered)
 
 pub returns-in-Ok-clause-drilled : goal.returns-in-Ok-clause-drilled
 returns-in-Ok-clause-drilled g c = λ count budget names. drill_caused _ budget count _ _ _
