@@ -2,9 +2,10 @@
 """Checks a proof of a problem, apart from the prover: `check_proof.py FILE PROOF` prints what `princess check FILE PROOF` prints.
 
 Written from docs/LANGUAGE.md (the problem's file), docs/CALCULUS.md (its encoding, the rules, the eliminations, the charges) and
-docs/PROOFS.md (both formats of a proof and its check), with the standard library of Python alone. Nothing is searched here: each rule
+docs/PROOFS.md (the formats of a proof and their checks), with the standard library of Python alone. Nothing is searched here: each rule
 and each elimination that the proof names is performed, and the constraint that it leaves is compared with the one in the text.
-proof_problem.py reads and encodes the problem, proof_elimination.py has the normal forms and the eliminations.
+proof_problem.py reads and encodes the problem, proof_elimination.py has the normal forms and the eliminations, proof_clauses.py checks
+the third format, and proof_preparation.py prepares its root.
 
     status 0   CHECKED VALID (with the lines of constraint and solution), CHECKED INVALID
     status 2   UNKNOWN: overflow    a number of the encoded problem leaves the range
@@ -25,9 +26,10 @@ import threading
 from dataclasses import dataclass, field, replace
 from typing import NamedTuple
 
+from proof_clauses import check_clauses, is_clause_text
 from proof_elimination import DIVIDES, EQUATION, FALSE, INEQUALITY, NOT_DIVIDES, TRUE, Elimination, Entry, Literal, Purse, clauses_of, \
     coefficient, require, tidied, without
-from proof_problem import MOST, MOST_LEVELS, MOST_SYMBOLS, Fault, Formula, Refusal, Term, combine, in_range, joined, number_term, \
+from proof_problem import MOST, MOST_LEVELS, MOST_SYMBOLS, Fault, Formula, Refusal, Term, combine, in_range, joined, number_term, raised, \
     read_problem
 
 MOST_CHARGES, MOST_FILE, MOST_PROOF = 1_000_000_000, 1_048_576, 67_108_864
@@ -276,21 +278,6 @@ class Member(NamedTuple):
     count: int
 
 
-def raised_term(term, least, by):
-    """The term with names from `least` on raised."""
-    return Term(tuple((name + by if name >= least else name, factor) for name, factor in term.monomials), term.constant)
-
-
-def raised(formula, least, by):
-    """The formula with all names from `least` on raised."""
-    if by == 0:
-        return formula
-    term = formula.term and raised_term(formula.term, least, by)
-    arguments = tuple(raised_term(argument, least, by) for argument in formula.arguments)
-    members = tuple(raised(member, least, by) for member in formula.members)
-    return replace(formula, term=term, arguments=arguments, members=members)
-
-
 PRINCIPALS = {'trivial': 'true', 'alpha': 'or', 'beta': 'and', 'delta': 'all', 'gamma': 'some'}
 
 
@@ -451,14 +438,18 @@ def printed_constraint(clauses, names, quotient):
     return ' | '.join(texts) or 'false'
 
 
-def answer(problem, proof, constraint):
-    if proof.values is None:
-        return 'CHECKED INVALID\n'
+def values_constraint(values):
+    """The constraint that says that the existential constants have these values."""
+    return tuple(Literal(EQUATION, 0, Term(((name, 1),), -value)) for name, value in enumerate(values)),
+
+
+def valid(problem, values, constraint):
+    """The answer where the constraint and the values are shown."""
     names = [symbol.name for symbol in problem.existentials]
     if not names:
         return 'CHECKED VALID\n'
     quotient = next(f'k{number}' for number in range(MOST_SYMBOLS + 1) if f'k{number}' not in problem.symbols)
-    values = ', '.join(f'{name} = {value}' for name, value in zip(names, proof.values))
+    values = ', '.join(f'{name} = {value}' for name, value in zip(names, values))
     return f'CHECKED VALID\nconstraint: {printed_constraint(constraint, names, quotient)}\nsolution: {values}\n'
 
 
@@ -472,9 +463,13 @@ def checked(problem_text, proof_tokens):
     """The status and the text of the answer to the texts of both files."""
     try:
         problem, formula = read_problem(problem_text)
-        proof = ProofReader(proof_tokens, behind_marker(proof_tokens)).read()
+        start = behind_marker(proof_tokens)
+        if is_clause_text(proof_tokens, start):
+            values = check_clauses(problem, formula, proof_tokens, start)
+            return 0, valid(problem, values, values_constraint(values))
+        proof = ProofReader(proof_tokens, start).read()
         constraint = Checker(formula, len(problem.existentials), proof).check()
-        return 0, answer(problem, proof, constraint)
+        return 0, 'CHECKED INVALID\n' if proof.values is None else valid(problem, proof.values, constraint)
     except Refusal as refusal:
         return refusal.status, refusal.text + '\n'
 

@@ -504,6 +504,21 @@ def joined(kind, members):
     return Formula(kind, None, None, (), tuple(members), size, is_pure)
 
 
+def raised_term(term, least, by):
+    """The term with names from `least` on raised."""
+    return Term(tuple((name + by if name >= least else name, factor) for name, factor in term.monomials), term.constant)
+
+
+def raised(formula, least, by):
+    """The formula with all names from `least` on raised."""
+    if by == 0:
+        return formula
+    term = formula.term and raised_term(formula.term, least, by)
+    arguments = tuple(raised_term(argument, least, by) for argument in formula.arguments)
+    members = tuple(raised(member, least, by) for member in formula.members)
+    return replace(formula, term=term, arguments=arguments, members=members)
+
+
 # From a problem to one formula (docs/CALCULUS.md). An atom becomes a chain of steps over a stack of finished terms.
 
 class Step(NamedTuple):
