@@ -109,8 +109,16 @@ function tell_proof(    words, name, place, key, i) {
         tell_place(PROOF, place, name, sentence("proof", key))
         return
     }
+    if (L[first_line() + 1] == "princess-proof 3") { tell_clause_line(name, place); return }
     i = line_of_node(place)
     tell_place(PROOF, S[i], name " " place, sentence("proof", name == "node" && is_conclusion ? "conclusion" : name) rest_of_node(i))
+}
+
+# A line of a clause proof, by its number in the text; behind the last line the proof ends.
+function tell_clause_line(name, number,    i, key) {
+    i = first_line() + number
+    key = name == "line" && i > lines ? "end" : name == "line" && number == 4 ? "values" : name == "line" && number == 5 ? "root" : name == "cost" && number == 3 ? "preparation" : name
+    tell_place(PROOF, i <= lines ? S[i] : bytes, name " " number, sentence("proof", "clause-" key))
 }
 
 # The line behind which the proof begins: the first one that is proof:, or none.
