@@ -5,4 +5,3 @@ mod Listing
 pub mod SingleCheck
 pub mod Meaning
 pub mod Single
-mod Raising

@@ -7,5 +7,4 @@ mod Outcomes
 mod Own
 pub mod Saturated
 mod Refuted
-mod Raising
 pub mod Printing

@@ -1,4 +1,0 @@
-pub mod Body
-pub mod Judged
-pub mod Refuted
-pub mod Shapes
