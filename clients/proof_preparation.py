@@ -62,6 +62,13 @@ def miniscoped(count, formula):
     return formula
 
 
+def scoped_below(count, formula):
+    """The formula over so many names with its first for-alls as they are, and what stands below them miniscoped."""
+    if formula.kind == 'all':
+        return joined('all', [scoped_below(count + 1, formula.members[0])])
+    return miniscoped(count, formula)
+
+
 # A name for an application whose arguments have outer names alone.
 
 def is_over(count, terms):
@@ -190,5 +197,5 @@ class Preparation:
 
 
 def prepared_root(count, formula, steps):
-    """The root over so many names, miniscoped and prepared with so many steps; with 0 steps itself."""
-    return Preparation(steps).prepared(False, count, miniscoped(count, formula)) if steps else formula
+    """The root over so many names, miniscoped below its first for-alls and prepared with so many steps; with 0 steps itself."""
+    return Preparation(steps).prepared(False, count, scoped_below(count, formula)) if steps else formula

@@ -1,5 +1,5 @@
 // A use of the outer quantifier brings 150 more nodes, and some use is always left: a branch would pass 2,000 nodes.
-// $ ./princess solve examples/long_branch.pri
+// $ ./princess solve examples/long_branch.pri --calculus
 // UNKNOWN: branch
 \predicates { p(int); }
 \problem {

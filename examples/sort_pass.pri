@@ -3,8 +3,7 @@
 // $ ./princess solve examples/sort_pass.pri
 // INVALID
 // counterexample:
-// a(0) = 0
-// a(1) = 0
-// a(2) = -1
+// a(0) = 225
+// a(1) = 226
 \functions { int a(int); }
 \problem { \min(a(0), a(1)) <= \min(\max(a(0), a(1)), a(2)) }

@@ -3,15 +3,11 @@
 // $ ./princess solve examples/wrong_swap.pri
 // INVALID
 // counterexample:
-// i = 0
+// i = -1
 // j = 1
-// k = -1
-// a(-1) = 0
+// k = 0
 // a(0) = 1
-// a(1) = 0
-// b(-1) = 0
-// b(0) = 0
-// b(1) = 1
+// b(0) = 1
 \universalConstants { int i, j, k; }
 \functions { int a(int), b(int); }
 \problem {

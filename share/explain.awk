@@ -169,7 +169,7 @@ function words_key(words, count,    i, files, seen, is_over) {
             if (B in seen) return "twice"
             if ((words[i] ~ /^--budget=/ ? substr(words[i], 10) : words[++i]) !~ /^[0-9]+$/) return "budget"
         } else if (B == "--quiet") return "quiet"
-        else if (A != "solve" || B !~ /^--(proof|short)$/) return A == "least" ? "term-dash" : "option"
+        else if (A != "solve" || B !~ /^--(proof|short|calculus)$/) return A == "least" ? "term-dash" : "option"
         if (B in seen) return "twice"
         seen[B] = 1
     }

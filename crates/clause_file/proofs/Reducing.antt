@@ -8,7 +8,7 @@ use Rattle.linear_term.proofs.Totals.{by_test}
 use Rattle.formula.specs.Form.{Form, Forms, equal, unequal, at_least, holds, fails, differs, conjunction, disjunction, universal, existential, no_form, and_form}
 use Rattle.formula.specs.Reduced.{HasReducedTerms, HaveReducedTerms}
 use Rattle.form_miniscope.specs.Lowering.{has, some_has, occurs, occurs_in, lowered_name, lowered, freed, all_freed}
-use Rattle.form_miniscope.specs.Miniscope.{bound, outer, beside, over_name, every, all_every, some, all_some, miniscoped, all_miniscoped}
+use Rattle.form_miniscope.specs.Miniscope.{bound, outer, beside, over_name, every, all_every, some, all_some, miniscoped, all_miniscoped, scoped_below}
 use Rattle.form_miniscope.proofs.Lowering.{neither}
 
 -- ---- terms
@@ -136,7 +136,7 @@ mutual
 -- ---- the whole formula
 
 mutual
-  pub miniscoped_reduced : (n : ℕ) (f : Form) → HasReducedTerms f → HasReducedTerms (miniscoped n f)
+  miniscoped_reduced : (n : ℕ) (f : Form) → HasReducedTerms f → HasReducedTerms (miniscoped n f)
   miniscoped_reduced n (equal t) h = h
   miniscoped_reduced n (unequal t) h = h
   miniscoped_reduced n (at_least t) h = h
@@ -151,3 +151,7 @@ mutual
   all_miniscoped_reduced : (n : ℕ) (fs : Forms) → HaveReducedTerms fs → HaveReducedTerms (all_miniscoped n fs)
   all_miniscoped_reduced n no_form h = tt
   all_miniscoped_reduced n (and_form f fs) h = (miniscoped_reduced n f h.0, all_miniscoped_reduced n fs h.1)
+
+pub scoped_below_reduced : (n : ℕ) (f : Form) → HasReducedTerms f → HasReducedTerms (scoped_below n f)
+scoped_below_reduced n (universal f) h = scoped_below_reduced (suc n) f h
+scoped_below_reduced n f h = miniscoped_reduced n f h

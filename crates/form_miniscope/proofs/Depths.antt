@@ -4,7 +4,7 @@ use Rattle.linear_term.proofs.Totals.{by_test}
 use Rattle.formula.specs.Form.{Form, Forms, equal, unequal, at_least, holds, fails, differs, conjunction, disjunction, universal, existential, no_form, and_form}
 use Rattle.formula.specs.Sizes.{depth, depths}
 use Rattle.form_miniscope.specs.Lowering.{occurs, occurs_in, freed, all_freed}
-use Rattle.form_miniscope.specs.Miniscope.{bound, outer, beside, over_name, every, all_every, some, all_some, miniscoped, all_miniscoped}
+use Rattle.form_miniscope.specs.Miniscope.{bound, outer, beside, over_name, every, all_every, some, all_some, miniscoped, all_miniscoped, scoped_below}
 
 mutual
   freed_depth : (n : ℕ) (f : Form) → depth (freed n f) ≡ depth f
@@ -130,3 +130,7 @@ mutual
   miniscoped_depths : (n : ℕ) (fs : Forms) → depths (all_miniscoped n fs) ≤ 2 * depths fs
   miniscoped_depths n no_form = omega arith
   miniscoped_depths n (and_form f fs) = twice (depth (miniscoped n f)) (depths (all_miniscoped n fs)) (depth f) (depths fs) (miniscoped_depth n f) (miniscoped_depths n fs)
+
+pub scoped_below_depth : (n : ℕ) (f : Form) → depth (scoped_below n f) ≤ 2 * depth f
+scoped_below_depth n (universal f) = omega (arith, scoped_below_depth (suc n) f)
+scoped_below_depth n f = miniscoped_depth n f

@@ -5,7 +5,7 @@ use Rattle.form_typed.specs.Truth.{Meaning}
 use Rattle.formula.specs.Form.{Form, Forms, equal, unequal, at_least, holds, fails, differs, conjunction, disjunction, universal, existential, no_form, and_form, FormTruth, AreFormsTrue, AreFormsFalse}
 use Rattle.formula.proofs.Stability.{form_stable, forms_stable}
 use Rattle.form_miniscope.specs.Lowering.{occurs, occurs_in, freed}
-use Rattle.form_miniscope.specs.Miniscope.{bound, outer, beside, over_name, every, all_every, some, all_some, miniscoped, all_miniscoped}
+use Rattle.form_miniscope.specs.Miniscope.{bound, outer, beside, over_name, every, all_every, some, all_some, miniscoped, all_miniscoped, scoped_below}
 use Rattle.form_miniscope.proofs.Lowering.{freed_is}
 
 through : {A B C : Type 0} → A ↔ B → B ↔ C → A ↔ C
@@ -166,3 +166,10 @@ mutual
         (λ h. (i.0 h.0, j.0.0 h.1), λ h. (i.1 h.0, j.0.1 h.1)),
         (λ h. (λ t. h.0 (i.1 t), j.1.0 h.1), λ h. (λ t. h.0 (i.0 t), j.1.1 h.1)),
       )
+
+-- ---- below the first for-alls
+
+pub scoped_below_is : (w : Meaning) (n : ℕ) (f : Form) (e : List ℤ) → length e ≡ n → FormTruth w (scoped_below n f) e ↔ FormTruth w f e
+scoped_below_is w n (universal f) e len =
+    (λ h v. (scoped_below_is w (suc n) f (e ++ v ∷ []) (one_more e v n len)).0 (h v), λ h v. (scoped_below_is w (suc n) f (e ++ v ∷ []) (one_more e v n len)).1 (h v))
+scoped_below_is w n f e len = miniscoped_is w n f e len

@@ -7,7 +7,7 @@ use Rattle.linear_term.specs.Linear.{Linear, IsOver}
 use Rattle.linear_term.proofs.Totals.{by_test}
 use Rattle.formula.specs.Form.{Form, Forms, equal, unequal, at_least, holds, fails, differs, conjunction, disjunction, universal, existential, no_form, and_form, IsFormOver, AreFormsOver}
 use Rattle.form_miniscope.specs.Lowering.{has, some_has, occurs, occurs_in, lowered_name, lowered, freed, all_freed}
-use Rattle.form_miniscope.specs.Miniscope.{bound, outer, beside, over_name, every, all_every, some, all_some, miniscoped, all_miniscoped}
+use Rattle.form_miniscope.specs.Miniscope.{bound, outer, beside, over_name, every, all_every, some, all_some, miniscoped, all_miniscoped, scoped_below}
 use Rattle.form_miniscope.proofs.Lowering.{neither}
 
 name_over : (n m x : ℕ) → n ≤ m → nat_eq x n ≡ false → x < suc m → lowered_name n x < m
@@ -123,3 +123,7 @@ mutual
   all_miniscoped_over : (n : ℕ) (fs : Forms) → AreFormsOver n fs → AreFormsOver n (all_miniscoped n fs)
   all_miniscoped_over n no_form o = tt
   all_miniscoped_over n (and_form f fs) o = (miniscoped_over n f o.0, all_miniscoped_over n fs o.1)
+
+pub scoped_below_over : (n : ℕ) (f : Form) → IsFormOver n f → IsFormOver n (scoped_below n f)
+scoped_below_over n (universal f) o = scoped_below_over (suc n) f o
+scoped_below_over n f o = miniscoped_over n f o

@@ -75,3 +75,8 @@ abbrev mutual
   pub all_miniscoped : ℕ → Forms → Forms
   all_miniscoped n no_form = no_form
   all_miniscoped n (and_form f fs) = and_form (miniscoped n f) (all_miniscoped n fs)
+
+-- the formula over n with its first for-alls as they are, and what stands below them miniscoped
+abbrev pub scoped_below : ℕ → Form → Form
+scoped_below n (universal f) = universal (scoped_below (suc n) f)
+scoped_below n f = miniscoped n f

@@ -5,10 +5,10 @@ use Rattle.std.proofs.lemmas.List.{append_cancel_right}
 use Rattle.base_answers.specs.Answer.{Answer, refused_answer}
 use Rattle.smt_commands.specs.declared.refusal.ScriptRefusal.{ScriptRefusal}
 use Rattle.job_smt.specs.declared.checking.CheckAnswer.{CheckAnswer}
-use Rattle.job_smt.specs.Answers.{AnswersChecks, is_unknown, large, lines, lines_answer}
+use Rattle.job_smt.specs.Answers.{AllAlike, AnswersChecks, is_unknown, large, lines, lines_answer}
 use Rattle.job_smt.specs.Answered.{IsSmtAnswer, answered, refusal_name, refused}
 use Rattle.job_smt.specs.Causes.{AreAnswered, ComesOfScript, HasLargeCheck, IsSmtRefused, IsTextRefused, SmtCauses}
-use Rattle.job_smt.proofs.Single.{one_answer}
+use Rattle.job_smt.proofs.Single.{lines_alike, refused_same}
 
 abbrev status_of : Answer → ℕ
 status_of a = a.status
@@ -61,31 +61,28 @@ only_by budget bytes a (answered ps h (lines xs are x)) e is = absurd (lines_bel
 
 -- ---- from a cause to its answer
 large_there : (budget : ℕ) (bytes : List ℕ) (a : Answer) → IsSmtAnswer budget bytes a → HasLargeCheck bytes → a ≡ refused_answer (codes "Large")
-large_there budget bytes a is h = one_answer budget bytes a (refused_answer (codes "Large")) is (answered h.0 h.2 (large h.1 h.3 h.4 refl))
+large_there budget bytes a is h = refused_same budget bytes (codes "Large") a is (answered h.0 h.2 (large h.1 h.3 h.4 refl))
 
 refused_there : (budget : ℕ) (bytes : List ℕ) (a : Answer) → IsSmtAnswer budget bytes a → (e : ScriptRefusal) → IsTextRefused bytes e → a ≡ refused_answer (refusal_name e)
-refused_there budget bytes a is e h = one_answer budget bytes a (refused_answer (refusal_name e)) is (refused e h.0 h.1 refl)
+refused_there budget bytes a is e h = refused_same budget bytes (refusal_name e) a is (refused e h.0 h.1 refl)
 
-lines_there : (budget : ℕ) (bytes : List ℕ) (a : Answer) → IsSmtAnswer budget bytes a → (xs : List CheckAnswer) → AreAnswered budget bytes xs → a ≡ lines_answer xs
-lines_there budget bytes a is xs h = one_answer budget bytes a (lines_answer xs) is (answered h.0 h.1 (lines xs h.2 refl))
+lines_there : (budget : ℕ) (bytes : List ℕ) (a : Answer) → IsSmtAnswer budget bytes a → (xs : List CheckAnswer) → AreAnswered budget bytes xs → (ys : List CheckAnswer) × AreAnswered budget bytes ys × (a ≡ lines_answer ys) × AllAlike ys xs
+lines_there budget bytes a is xs h = let k = lines_alike budget bytes a is h.0 h.1 xs h.2 in (k.1, (k.0, k.2, k.3), k.4, k.5)
 
 refused_status : (budget : ℕ) (bytes : List ℕ) (a : Answer) → IsSmtAnswer budget bytes a → IsSmtRefused bytes → a.status ≡ 3
 refused_status budget bytes a is (inl h) = ap status_of (refused_there budget bytes a is h.0 h.1)
 refused_status budget bytes a is (inr h) = ap status_of (large_there budget bytes a is h)
 
-unknown_by : (budget : ℕ) (bytes : List ℕ) (a : Answer) → IsSmtAnswer budget bytes a → a.status ≡ 2 → (xs : List CheckAnswer) × AreAnswered budget bytes xs × (list_any is_unknown xs ≡ true)
+unknown_by : (budget : ℕ) (bytes : List ℕ) (a : Answer) → IsSmtAnswer budget bytes a → a.status ≡ 2 → (xs : List CheckAnswer) × AreAnswered budget bytes xs × (a ≡ lines_answer xs) × (list_any is_unknown xs ≡ true)
 unknown_by budget bytes a is z =
     let h = answered_by budget bytes a is (inr z) in
-    (h.0, h.1, by_unknown (list_any is_unknown h.0) (sym (ap status_of h.2) ∙ z))
-
-unknown_there : (budget : ℕ) (bytes : List ℕ) (a : Answer) → IsSmtAnswer budget bytes a → (xs : List CheckAnswer) → AreAnswered budget bytes xs → list_any is_unknown xs ≡ true → a.status ≡ 2
-unknown_there budget bytes a is xs h some = ap status_of (lines_there budget bytes a is xs h) ∙ ap checked_status some
+    (h.0, h.1, h.2, by_unknown (list_any is_unknown h.0) (sym (ap status_of h.2) ∙ z))
 
 pub causes : (budget : ℕ) (bytes : List ℕ) (a : Answer) → IsSmtAnswer budget bytes a → SmtCauses budget bytes a
 causes budget bytes a is = record {
   answers = lines_there budget bytes a is;
   answered = answered_by budget bytes a is;
-  unknown = (unknown_by budget bytes a is, λ h. unknown_there budget bytes a is h.0 h.1 h.2);
+  unknown = (unknown_by budget bytes a is, λ h. ap status_of h.2 ∙ ap checked_status h.3);
   refuses = (refused_by budget bytes a is, refused_status budget bytes a is);
   refused = refused_there budget bytes a is;
   only = only_by budget bytes a is;

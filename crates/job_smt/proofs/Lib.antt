@@ -5,3 +5,4 @@ mod Listing
 pub mod SingleCheck
 pub mod Meaning
 pub mod Single
+mod Raising

@@ -38,7 +38,7 @@ means w budget cs s p Unsat f c h is = unsatisfiable cs p s c h w (unsat_holds w
 means w budget cs s p Sat f c h is = satisfiable cs p s c h (sat_refuted budget p (well_formed s p f h) is)
 means w budget cs s p Unknown f c h is = tt
 
-all_mean : (w : Meaning) (budget : ℕ) (cs : List Command) (ss : List State) (ps : List Problem) (xs : List CheckAnswer) → All IsFormedCheck ss → All (Contains (checks cs)) ss → ArePosed ss ps
+pub all_mean : (w : Meaning) (budget : ℕ) (cs : List Command) (ss : List State) (ps : List Problem) (xs : List CheckAnswer) → All IsFormedCheck ss → All (Contains (checks cs)) ss → ArePosed ss ps
     → AreCheckAnswers budget ps xs → AllMean w ss xs
 all_mean w budget cs [] [] [] f c h is = tt
 all_mean w budget cs [] [] (a ∷ xs) f c h is = absurd is
@@ -77,6 +77,15 @@ formed_all (s ∷ ss) (p ∷ ps) f h = All-cons IsWellFormed p ps (well_formed s
 pub formed_of : (bytes : List ℕ) (ps xs : List Problem) → IsScriptOf bytes ps → xs ≡ ps → All IsWellFormed xs
 formed_of bytes ps xs h is =
     subst (All IsWellFormed) (sym is) (formed_all (checks_in h.lists) ps (text_checks bytes h.lists h.said h.posed.fits) h.posed.posed)
+
+pub alone_all : (ss : List State) (ps : List Problem) → ArePosed ss ps → All (λ p. p.existentials ≡ []) ps
+alone_all [] [] h = λ i d k. absurd (omega (arith, k))
+alone_all [] (p ∷ ps) h = absurd h
+alone_all (s ∷ ss) [] h = absurd h
+alone_all (s ∷ ss) (p ∷ ps) h = All-cons (λ p. p.existentials ≡ []) p ps (h.0).existentials (alone_all ss ps h.1)
+
+pub alone_of : (bytes : List ℕ) (ps xs : List Problem) → IsScriptOf bytes ps → xs ≡ ps → All (λ p. p.existentials ≡ []) xs
+alone_of bytes ps xs h is = subst (All (λ p. p.existentials ≡ [])) (sym is) (alone_all (checks_in h.lists) ps h.posed.posed)
 
 unknown_status : (b : Bool) → IsAnswerStatus (cond b 2 0)
 unknown_status true = refl

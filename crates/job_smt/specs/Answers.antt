@@ -1,5 +1,6 @@
--- The answer to a check by the end of the canonical run on its problem (SMT-LIB 2.6, section 4.2.6).
-use Rattle.std.specs.Prelude.{◌≡◌, ℕ, Bool, true, false, cond, List, [], ◌∷◌, map, codes, Option, Some, None}
+-- The answer to a check: by the end of the canonical run on its problem, by a clause proof, or by a finite model (SMT-LIB 2.6, section
+-- 4.2.6).
+use Rattle.std.specs.Prelude.{◌≡◌, ◌⊎◌, ℕ, ℤ, Bool, true, false, cond, List, [], ◌∷◌, map, codes, Option, Some, None}
 use Rattle.std.specs.List.{Contains, concat, list_any}
 use Rattle.search.specs.declared.judge.Decided.{Decided}
 use Rattle.search.specs.declared.judge.Decided.TheVariants.{Valid, Invalid, Saturated}
@@ -10,6 +11,10 @@ use Rattle.pri_typing.specs.declared.problem.Problem.{Problem}
 use Rattle.base_answers.specs.Answer.{Answer, refused_answer}
 use Rattle.pri_problem.specs.Encoded.{Fits, IsLarge, LeavesRange}
 use Rattle.model_runs.specs.Ends.{run_end}
+use Rattle.job_clauses.specs.Judged.{IsClauseFile}
+use Rattle.job_parts.specs.Parts.{IsCutEarly}
+use Rattle.model_refuting.specs.Refuting.{IsModelCounterexample}
+use Rattle.model_table.specs.declared.model.Model.{Model}
 use Rattle.job_smt.specs.declared.checking.CheckAnswer.{CheckAnswer}
 use Rattle.job_smt.specs.declared.checking.CheckAnswer.TheVariants.{Unsat, Sat, Unknown}
 
@@ -22,15 +27,28 @@ told (ends_with run.too_long stands) = Unknown
 told (out_of_steps stands) = Unknown
 told (overflows numbers stands) = Unknown
 
--- the answer to the check with this problem, on a purse with this budget, where its encoding is not too large
+-- The answer to the check with this problem, with this budget, where its encoding is not too large. It is the end of the canonical run;
+-- or, where that is cut within the first part of the budget, Unsat, by a clause proof, or Sat, by a finite model.
 pub data IsCheckAnswer (budget : ℕ) (p : Problem) (a : CheckAnswer) : Type 0 where
   leaves : LeavesRange p → a ≡ Unknown → IsCheckAnswer budget p a
   ends : Fits p → a ≡ told (run_end budget p) → IsCheckAnswer budget p a
+  proved : Fits p → IsCutEarly budget p → (file : List ℕ) → IsClauseFile p file → a ≡ Unsat → IsCheckAnswer budget p a
+  refuted : Fits p → IsCutEarly budget p → (m : Model) (us : List ℤ) → IsModelCounterexample p [] m us → a ≡ Sat → IsCheckAnswer budget p a
 
 -- what comes of a check: no answer where its encoding is too large
 abbrev pub IsCheckOutcome : ℕ → Problem → Option CheckAnswer → Type 0
 IsCheckOutcome budget p None = IsLarge p
 IsCheckOutcome budget p (Some a) = IsCheckAnswer budget p a
+
+-- two answers to a check do not contradict each other: they are the same, or one says nothing
+abbrev pub AreAlike : CheckAnswer → CheckAnswer → Type 0
+AreAlike a b = (a ≡ b) ⊎ ((a ≡ Unknown) ⊎ (b ≡ Unknown))
+
+abbrev pub AllAlike : List CheckAnswer → List CheckAnswer → Type 0
+AllAlike [] [] = Unit {0}
+AllAlike [] (b ∷ ys) = ⊥
+AllAlike (a ∷ xs) [] = ⊥
+AllAlike (a ∷ xs) (b ∷ ys) = AreAlike a b × AllAlike xs ys
 
 -- ---- the answer to all checks
 
@@ -49,7 +67,7 @@ is_unknown Unknown = true
 abbrev pub lines_answer : List CheckAnswer → Answer
 lines_answer xs = record { status = cond (list_any is_unknown xs) 2 0; text = concat (map word xs) }
 
--- one answer to each check, each on a purse of its own with this budget
+-- an answer to each check, each with this budget
 abbrev pub AreCheckAnswers : ℕ → List Problem → List CheckAnswer → Type 0
 AreCheckAnswers budget [] [] = Unit {0}
 AreCheckAnswers budget [] (a ∷ xs) = ⊥
@@ -60,6 +78,10 @@ AreCheckAnswers budget (p ∷ ps) (a ∷ xs) = IsCheckAnswer budget p a × AreCh
 pub data AnswersChecks (budget : ℕ) (ps : List Problem) (answer : Answer) : Type 0 where
   large : (p : Problem) → Contains ps p → IsLarge p → answer ≡ refused_answer (codes "Large") → AnswersChecks budget ps answer
   lines : (xs : List CheckAnswer) → AreCheckAnswers budget ps xs → answer ≡ lines_answer xs → AnswersChecks budget ps answer
+
+-- two answers to a script are the same, or have a line for each check, and the lines of each check are alike
+abbrev pub AreOneAnswer : Answer → Answer → Type 0
+AreOneAnswer a b = (a ≡ b) ⊎ ((xs : List CheckAnswer) × (ys : List CheckAnswer) × (a ≡ lines_answer xs) × (b ≡ lines_answer ys) × AllAlike xs ys)
 
 -- ---- as the code has it
 abbrev pub told_of : Decided → CheckAnswer

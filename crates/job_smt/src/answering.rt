@@ -13,7 +13,7 @@ use smt_reader::script;
 use std::alloc::Global;
 
 /// The answer to a script of these bytes: why it is refused, or a line for each `check-sat` in order, by the canonical run on its
-/// problem, each with this budget: `unsat`, `sat` or `unknown`. The one error is want of memory.
+/// problem, or the clause search, each with this budget: `unsat`, `sat` or `unknown`. The one error is want of memory.
 pub fn answer(alloc: Global, bytes: &[u8], budget: u64) -> Result<Output, Memory>
     requires { budget ≤ most_budget }
     ensures { IfOk result (λ output. IsSmtAnswer budget bytes.now (answer_of output)) }

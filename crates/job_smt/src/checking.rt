@@ -3,12 +3,14 @@
 ghost use Rattle.base_limits.specs.Limits.{most_budget};
 ghost use Rattle.pri_typing.specs.WellFormed.{IsWellFormed};
 ghost use Rattle.pri_problem.specs.Encoded.{IsEncoded};
-ghost use Rattle.job_smt.specs.Answers.{IsCheckOutcome, told, told_of};
+ghost use Rattle.job_smt.specs.Answers.{IsCheckAnswer, IsCheckOutcome, told, told_of};
 ghost use Rattle.model_runs.specs.Ends.{run_end};
-ghost use Rattle.std.specs.Prelude.{◌≡◌, ◌≤◌, IfOk};
+ghost use Rattle.std.specs.Prelude.{◌≡◌, ◌≤◌, [], IfOk};
 
 use base_budget::Purse;
 use function_encoding::{EncodeRefusal, Encoded};
+use job_clauses::{Judged, search_judged};
+use job_parts::first_part;
 use linear_term::Memory;
 use pri_problem::encode_problem;
 use pri_typing::Problem;
@@ -22,20 +24,22 @@ pub enum CheckAnswer {
     Unsat,
     /// Something satisfies them.
     Sat,
-    /// The run was cut, or a number of the encoding leaves the range.
+    /// The canonical run was cut, or a number of the encoding leaves the range.
     Unknown,
 }
 
-/// The answer to the check whose problem this is: that of a run with this budget, on a purse of its own. None comes exactly where
-/// the encoding of the problem has more than 1,000,000 nodes or more than 2,000 levels. The one error is want of memory.
+/// The answer to the check whose problem this is, without existential constants, with this budget: by the canonical run, and where that
+/// is cut within the first part of the budget, by the clause search, if its proof or model is accepted. None comes exactly where the encoding of
+/// the problem has more than 1,000,000 nodes or more than 2,000 levels. The one error is want of memory.
 pub fn check(alloc: Global, p: &Problem, budget: u64) -> Result<Option<CheckAnswer>, Memory>
     requires formed { IsWellFormed p.now }
+    requires alone { p.now.existentials ≡ [] }
     requires budget { budget ≤ most_budget }
     ensures { IfOk result (IsCheckOutcome budget p.now) }
 {
     match encode_problem(alloc, p) {
         Ok(encoded) => {
-            let answer = run(alloc, p, &encoded, budget)?;
+            let answer = encoded_answer(alloc, p, &encoded, budget)?;
             Ok(Some(answer))
         }
         Err(EncodeRefusal::Large) => Ok(None),
@@ -45,6 +49,30 @@ pub fn check(alloc: Global, p: &Problem, budget: u64) -> Result<Option<CheckAnsw
 }
 
 // The answer to the check whose encoded problem this is.
+fn encoded_answer(
+    alloc: Global,
+    p: &Problem,
+    encoded: &Encoded,
+    budget: u64,
+) -> Result<CheckAnswer, Memory>
+    requires formed { IsWellFormed p.now }
+    requires alone { p.now.existentials ≡ [] }
+    requires encoded { IsEncoded p.now encoded.now }
+    requires budget { budget ≤ most_budget }
+    ensures { IfOk result (IsCheckAnswer budget p.now) }
+{
+    match run(alloc, p, encoded, first_part(budget))? {
+        CheckAnswer::Unsat => Ok(CheckAnswer::Unsat),
+        CheckAnswer::Sat => Ok(CheckAnswer::Sat),
+        CheckAnswer::Unknown => match search_judged(alloc, p, encoded, budget)? {
+            Judged::Proof(_) => Ok(CheckAnswer::Unsat),
+            Judged::Refuted { .. } => Ok(CheckAnswer::Sat),
+            Judged::Nothing => run(alloc, p, encoded, budget),
+        },
+    }
+}
+
+// What the canonical run with this budget answers to the check whose encoded problem this is.
 fn run(alloc: Global, p: &Problem, encoded: &Encoded, budget: u64) -> Result<CheckAnswer, Memory>
     requires formed { IsWellFormed p.now }
     requires encoded { IsEncoded p.now encoded.now }

@@ -2,6 +2,7 @@
 
 ghost use Rattle.base_answers.specs.Answer.{Answer};
 ghost use Rattle.job_smt.specs.Answered.{IsSmtAnswer};
+ghost use Rattle.job_smt.specs.Answers.{AreOneAnswer};
 ghost use Rattle.job_smt.specs.Causes.{SmtCauses};
 ghost use Rattle.job_smt.specs.Meaning.{Scripted};
 ghost use Rattle.std.specs.Prelude.{◌≡◌, ◌⊎◌, ℕ, List};
@@ -13,9 +14,9 @@ pub fn meaning_law()
     ensures { (w : Meaning) (budget : ℕ) (bytes : List ℕ) (a : Answer) → IsSmtAnswer budget bytes a → (a.status ≡ 0) ⊎ (a.status ≡ 2) → Scripted w bytes a.text }
 {}
 
-/// A script has one answer at most: so each answer comes exactly where its row says.
+/// Two answers to a script are the same, or have a line for each check, and where those of a check differ, one is `unknown`.
 pub fn one_answer_law()
-    ensures { (budget : ℕ) (bytes : List ℕ) (a b : Answer) → IsSmtAnswer budget bytes a → IsSmtAnswer budget bytes b → a ≡ b }
+    ensures { (budget : ℕ) (bytes : List ℕ) (a b : Answer) → IsSmtAnswer budget bytes a → IsSmtAnswer budget bytes b → AreOneAnswer a b }
 {}
 
 /// Each answer comes exactly where its row of the table of answers says.

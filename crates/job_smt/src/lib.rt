@@ -1,4 +1,4 @@
-// The job `smt`: the answers to the checks of a script, each by the canonical run on its problem, and their lines.
+// The job `smt`: the answers to the checks of a script, each by the canonical run on its problem or the clause search, and their lines.
 #![tactic(auto)]
 
 mod answering;

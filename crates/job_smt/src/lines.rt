@@ -6,7 +6,7 @@ ghost use Rattle.pri_typing.specs.WellFormed.{IsWellFormed};
 ghost use Rattle.job_smt.specs.Answers.{AnswersChecks, word};
 ghost use Rattle.job_smt.specs.Lines.{AreCheckLines, raised};
 ghost use Rattle.std.specs.List.{All};
-ghost use Rattle.std.specs.Prelude.{◌≡◌, ◌≤◌, IfOk};
+ghost use Rattle.std.specs.Prelude.{◌≡◌, ◌≤◌, [], IfOk};
 
 use crate::checking::{CheckAnswer, check};
 use base_answers::status::{UNKNOWN, VALID};
@@ -19,6 +19,7 @@ use std::alloc::Global;
 /// `unknown` and 0 elsewhere; `refused: Large` where the encoding of one is too large. The one error is want of memory.
 pub fn answer_checks(alloc: Global, problems: &[Problem], budget: u64) -> Result<Output, Memory>
     requires formed { All IsWellFormed problems.now }
+    requires alone { All (λ p. p.existentials ≡ []) problems.now }
     requires budget { budget ≤ most_budget }
     ensures { IfOk result (λ output. AnswersChecks budget problems.now (answer_of output)) }
 {
@@ -31,6 +32,7 @@ pub fn answer_checks(alloc: Global, problems: &[Problem], budget: u64) -> Result
 // The lines of the checks with these problems, if the encoding of none is too large.
 fn lines(alloc: Global, problems: &[Problem], budget: u64) -> Result<Option<Output>, Memory>
     requires formed { All IsWellFormed problems.now }
+    requires alone { All (λ p. p.existentials ≡ []) problems.now }
     requires budget { budget ≤ most_budget }
     ensures { IfOk result (AreCheckLines budget problems.now) }
 {

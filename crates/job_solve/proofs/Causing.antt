@@ -22,7 +22,8 @@ use Rattle.itp_lines.specs.Blocks.{AreBlockLines}
 use Rattle.itp_lines.proofs.Listing.{blocks_caused}
 use Rattle.job_solve.specs.Solved.{AnswersEnd, closed, valid, invalid, saturated, branch, steps, overflow, run_end, IsSolved}
 use Rattle.pri_problem.specs.Refused.{ComesOf, IsRefused, first, too_large}
-use Rattle.job_solve.specs.Causes.{SolveEnds, EndsSaturated, IsValid, IsInvalid, IsTooLong, TellsBlocks, SolveCauses, SolveDecides, IsDecidedOrCut}
+use Rattle.job_solve.specs.Causes.{SolveEnds, EndsSaturated, IsValid, IsInvalid, TellsBlocks, SolveCauses, SolveDecides, IsDecidedOrCut}
+use Rattle.job_parts.specs.Parts.{IsTooLong}
 use Rattle.job_solve.specs.Explained.{AnswersSaturated, IsCutByRange, IsCutBySteps, IsWalked, explained, nowhere, past, short}
 use Rattle.job_solve.proofs.Saturated.{cut_by_range, cut_by_steps, no_branch, one_or_two, range_answer, saturated_answer, steps_answer, walked, walked_status}
 use Rattle.job_solve.proofs.Exactly.{by_end, end_answer, found_answer, one_answer, run_answered}

@@ -7,4 +7,5 @@ mod Outcomes
 mod Own
 pub mod Saturated
 mod Refuted
+mod Raising
 pub mod Printing

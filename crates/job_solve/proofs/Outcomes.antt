@@ -33,6 +33,7 @@ use Rattle.pri_lines.proofs.Supporting.{closed_holds}
 use Rattle.proof_tree.specs.Proof.{given}
 use Rattle.job_solve.specs.Solved.{closed, valid, invalid, saturated, branch, steps, overflow, run_end, AnswersRun}
 use Rattle.job_solve.specs.Explained.{AnswersSaturated}
+use Rattle.job_parts.specs.Parts.{IsCutBy}
 use Rattle.job_solve.specs.Told.{IsValidTold, alone, cause_text, lines}
 use Rattle.job_solve.proofs.Meaning.{covers, tells}
 
@@ -104,11 +105,16 @@ pub saturated_told : (budget : ℕ) (p : Problem) (e : Encoded) → IsEncoded p 
     → AnswersSaturated p (proof_of t.root) new a → AnswersRun budget p a
 saturated_told budget p e h d t new a k told = let s = saturated_end budget p e h d t new k in saturated s.0 (proof_of t.root) (at new s.1) s.2 told
 
-pub unknown_told : (budget : ℕ) (p : Problem) (e : Encoded) → IsEncoded p e → (y : Why) (r : Run) (new : Funds) (a : Answer) → EndsAs (form e.root) e.constants (start budget) (Ok (Unknown y r)) new
-    → a ≡ unknown_answer (cause_text y) → AnswersRun budget p a
-unknown_told budget p e h why.Branch r new a k is = branch (at new k.0) (sym (run_is budget p e h) ∙ k.1) is
-unknown_told budget p e h why.Steps r new a k is = steps (at new k.0) (sym (run_is budget p e h) ∙ k.1) is
-unknown_told budget p e h (why.Overflow place) r new a k is = overflow k.1 (at new k.0) (sym (run_is budget p e h) ∙ k.2) is
+-- the reason of a run that is cut
+pub cut_by : (budget : ℕ) (p : Problem) (e : Encoded) → IsEncoded p e → (y : Why) (r : Run) (new : Funds) → EndsAs (form e.root) e.constants (start budget) (Ok (Unknown y r)) new → IsCutBy y (run_end budget p)
+cut_by budget p e h why.Branch r new k = (at new k.0, sym (run_is budget p e h) ∙ k.1)
+cut_by budget p e h why.Steps r new k = (at new k.0, sym (run_is budget p e h) ∙ k.1)
+cut_by budget p e h (why.Overflow place) r new k = (k.1, at new k.0, sym (run_is budget p e h) ∙ k.2)
+
+pub unknown_told : (budget : ℕ) (p : Problem) (y : Why) (a : Answer) → IsCutBy y (run_end budget p) → a ≡ unknown_answer (cause_text y) → AnswersRun budget p a
+unknown_told budget p why.Branch a k is = branch k.0 k.1 is
+unknown_told budget p why.Steps a k is = steps k.0 k.1 is
+unknown_told budget p (why.Overflow place) a k is = overflow k.0 k.1 k.2 is
 
 -- ---- the budget behind a run
 
@@ -123,17 +129,19 @@ last_is a (done s) = refl
 last_is a (refused s) = refl
 last_is a (out_of_range numbers s) = refl
 
-end_below : (f : Form) (k budget n : ℕ) (e : Ending run.RunAnswer) → ending (canonical_run f k budget) (at (start budget) []) ≡ e → budget < n → (last e).funds.budget < n
-end_below f k budget n e is lt =
+end_budget : (f : Form) (k budget : ℕ) (e : Ending run.RunAnswer) → ending (canonical_run f k budget) (at (start budget) []) ≡ e → (last e).funds.budget ≡ budget
+end_budget f k budget e is =
     let work = canonical_run f k budget in
-    let same : (last e).funds.budget ≡ budget =
-    ap (λ x. (last x).funds.budget) (sym is) ∙ ap (λ (s : At). s.funds.budget) (last_is work.value (cut work.events (at (start budget) []))) ∙ cut_budget work.events (at (start budget) []) in
-    subst (λ m. m < n) (sym same) lt
+    ap (λ x. (last x).funds.budget) (sym is) ∙ ap (λ (s : At). s.funds.budget) (last_is work.value (cut work.events (at (start budget) []))) ∙ cut_budget work.events (at (start budget) [])
+
+-- a run keeps the budget
+pub run_budget : (f : Form) (k budget : ℕ) (o : Outcome) (new : Funds) → EndsAs f k (start budget) (Ok o) new → new.budget ≡ budget
+run_budget f k budget (Valid d vs t) new h = end_budget f k budget _ h.2
+run_budget f k budget (Invalid d t) new h = end_budget f k budget _ h.3
+run_budget f k budget (Saturated d t) new h = end_budget f k budget _ h.3
+run_budget f k budget (Unknown why.Branch r) new h = end_budget f k budget _ h.1
+run_budget f k budget (Unknown why.Steps r) new h = end_budget f k budget _ h.1
+run_budget f k budget (Unknown (why.Overflow place) r) new h = end_budget f k budget _ h.2
 
 pub run_below : (f : Form) (k budget n : ℕ) (o : Outcome) (new : Funds) → EndsAs f k (start budget) (Ok o) new → budget < n → new.budget < n
-run_below f k budget n (Valid d vs t) new h lt = end_below f k budget n _ h.2 lt
-run_below f k budget n (Invalid d t) new h lt = end_below f k budget n _ h.3 lt
-run_below f k budget n (Saturated d t) new h lt = end_below f k budget n _ h.3 lt
-run_below f k budget n (Unknown why.Branch r) new h lt = end_below f k budget n _ h.1 lt
-run_below f k budget n (Unknown why.Steps r) new h lt = end_below f k budget n _ h.1 lt
-run_below f k budget n (Unknown (why.Overflow place) r) new h lt = end_below f k budget n _ h.2 lt
+run_below f k budget n o new h lt = let same : new.budget ≡ budget = run_budget f k budget o new h in subst (λ m. m < n) (sym same) lt

@@ -39,6 +39,7 @@ use Rattle.pri_problem.specs.Encoded.{Fits, IsEncoded, large, leaves, runs}
 use Rattle.job_solve.specs.Proved.{AnswersRunAs, IsProofPart, IsParted, IsProofTold, IsSolvedAs, PrintsAsked, PrintsEnd, PrintsProof, PrintsProofOf, PrintsTree, ProvesInvalid, ProvesValid, charges_of, extended, form_text}
 use Rattle.base_answers.specs.declared.form.ProofForm.{ProofForm}
 use Rattle.job_solve.specs.Solved.{AnswersEnd, AnswersRun, IsSolved, branch, closed, invalid, overflow, run_end, saturated, steps, valid}
+use Rattle.job_parts.specs.Parts.{IsCutBy}
 use Rattle.job_solve.specs.Shaping.{IsPrintable}
 use Rattle.proof_canonical.proofs.Printed.{invalid_outcome, valid_outcome}
 use Rattle.pri_problem.proofs.Bytes.{reads_formed}
@@ -117,12 +118,11 @@ pub saturated_part : (asked : Option ProofForm) (budget : ℕ) (p : Problem) (e 
 saturated_part None budget p e h d t new k = refl
 saturated_part (Some wanted) budget p e h d t new k = subst (λ end. PrintsEnd wanted p end []) (sym k.3 ∙ run_is budget p e h) refl
 
-pub unknown_part : (asked : Option ProofForm) (budget : ℕ) (p : Problem) (e : Encoded) → IsEncoded p e → (y : Why) (r : Run) (new : Funds) → EndsAs (form e.root) e.constants (start budget) (Ok (Unknown y r)) new
-    → IsProofPart asked p (run_end budget p) []
-unknown_part None budget p e h y r new k = refl
-unknown_part (Some wanted) budget p e h why.Branch r new k = subst (λ end. PrintsEnd wanted p end []) (sym k.1 ∙ run_is budget p e h) refl
-unknown_part (Some wanted) budget p e h why.Steps r new k = subst (λ end. PrintsEnd wanted p end []) (sym k.1 ∙ run_is budget p e h) refl
-unknown_part (Some wanted) budget p e h (why.Overflow place) r new k = subst (λ end. PrintsEnd wanted p end []) (sym k.2 ∙ run_is budget p e h) refl
+pub unknown_part : (asked : Option ProofForm) (budget : ℕ) (p : Problem) (y : Why) → IsCutBy y (run_end budget p) → IsProofPart asked p (run_end budget p) []
+unknown_part None budget p y k = refl
+unknown_part (Some wanted) budget p why.Branch k = subst (λ end. PrintsEnd wanted p end []) (sym k.1) refl
+unknown_part (Some wanted) budget p why.Steps k = subst (λ end. PrintsEnd wanted p end []) (sym k.1) refl
+unknown_part (Some wanted) budget p (why.Overflow place) k = subst (λ end. PrintsEnd wanted p end []) (sym k.2) refl
 
 -- ---- the whole answer
 -- an answer without a part behind it

@@ -17,6 +17,7 @@ use Rattle.pri_problem.specs.Answers.{Poses, PosesOne}
 use Rattle.pri_problem.specs.Encoded.{Fits, IsLarge, LeavesRange}
 use Rattle.pri_problem.specs.Refused.{ComesOf, IsRefused}
 use Rattle.itp_lines.specs.Causes.{AreBlocksCaused}
+use Rattle.job_parts.specs.Parts.{IsTooLong}
 use Rattle.job_solve.specs.Explained.{IsCutByRange, IsCutBySteps, IsWalked}
 use Rattle.job_solve.specs.Solved.{run_end}
 
@@ -26,9 +27,6 @@ IsValid end = (vs : List ℤ) × (x : Proof) × (stands : At) × (end ≡ ends_w
 
 abbrev pub IsInvalid : Ending run.RunAnswer → Type 0
 IsInvalid end = (log : List Entry) × (x : Proof) × (stands : At) × (end ≡ ends_with (run.invalid log x) stands)
-
-abbrev pub IsTooLong : Ending run.RunAnswer → Type 0
-IsTooLong end = (stands : At) × (end ≡ ends_with run.too_long stands)
 
 -- the bytes pose a problem whose encoding fits and whose canonical run with this budget ends so
 abbrev pub SolveEnds : ℕ → List ℕ → (Ending run.RunAnswer → Type 0) → Type 0

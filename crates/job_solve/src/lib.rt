@@ -6,9 +6,12 @@ mod drilling;
 mod laws;
 mod proving;
 mod refuting;
+mod running;
 mod solving;
 mod telling;
 
 pub use drilling::drilled;
 pub use laws::{causes_law, decided_law, enough_law, headline_law, one_answer_law};
-pub use solving::answer;
+pub use running::{Course, run_within};
+pub use solving::{answer, run_answer};
+pub use telling::closed;

@@ -1,4 +1,4 @@
-// The answer to a problem's file.
+// The answer to a problem's file, by the canonical run.
 
 ghost use Rattle.base_answers.specs.Answer.{answer_of};
 ghost use Rattle.base_limits.specs.Limits.{most_budget};
@@ -6,19 +6,15 @@ ghost use Rattle.pri_typing.specs.WellFormed.{HasDistinctNames, HasIdentifiers, 
 ghost use Rattle.pri_problem.specs.Encoded.{AnswersEncoded, IsEncoded};
 ghost use Rattle.pri_problem.specs.Cuttable.{IsCuttable};
 ghost use Rattle.job_solve.specs.Proved.{AnswersRunAs, IsSolvedAs};
-ghost use Rattle.std.specs.Prelude.{◌≤◌, ◌<◌, ◌^◌, length, IfOk, Some, None};
+ghost use Rattle.std.specs.Prelude.{◌≤◌, ◌<◌, ◌^◌, length, IfOk};
 
-use crate::proving::with_proof;
-use crate::refuting::refuted;
-use crate::telling::{cause, valid};
-use base_answers::status::INVALID;
-use base_answers::{Output, ProofForm, say, unknown};
-use base_budget::Purse;
+use crate::running::{Course, run_within};
+use crate::telling::cause;
+use base_answers::{Output, ProofForm, unknown};
 use function_encoding::Encoded;
 use linear_term::Memory;
 use pri_problem::{encode_problem, read_problem, refuse, refuse_encoding};
 use pri_typing::Problem;
-use search::{Decided, Outcome, decide, prove};
 use std::alloc::Global;
 
 /// The answer of `solve` with a budget to a problem's file of these bytes, with the proof behind it in the form that is asked for, if
@@ -59,8 +55,9 @@ fn problem_answer(
     }
 }
 
-// The answer to an encoded problem: it tells how the search ends that has this budget. Trees are kept where a proof is asked for.
-fn run_answer(
+/// The answer to an encoded problem: it tells how the canonical run ends that has this budget. Trees are kept where a proof is asked
+/// for.
+pub fn run_answer(
     alloc: Global,
     problem: &Problem,
     encoded: &Encoded,
@@ -75,79 +72,8 @@ fn run_answer(
     requires budget { budget ≤ most_budget }
     ensures { IfOk result (λ output. AnswersRunAs asked budget problem.now (answer_of output)) }
 {
-    match asked {
-        Some(_) => with_tree(alloc, problem, encoded, budget, asked),
-        None => without_tree(alloc, problem, encoded, budget),
-    }
-}
-
-// The answer by a search that keeps its tree, with the proof behind it in the form that is asked for, if one is.
-fn with_tree(
-    alloc: Global,
-    problem: &Problem,
-    encoded: &Encoded,
-    budget: u64,
-    asked: Option<ProofForm>,
-) -> Result<Output, Memory>
-    requires well_formed { IsWellFormed problem.now }
-    requires distinct { HasDistinctNames problem.now }
-    requires identifiers { HasIdentifiers problem.now }
-    requires cuts { IsCuttable problem.now }
-    requires encoded { IsEncoded problem.now encoded.now }
-    requires budget { budget ≤ most_budget }
-    ensures { IfOk result (λ output. AnswersRunAs asked budget problem.now (answer_of output)) }
-{
-    let mut purse = Purse::new(budget);
-    let outcome = prove(alloc, &encoded.root, encoded.constants, &mut purse)?;
-    match outcome {
-        Outcome::Valid {
-            constraint,
-            solution,
-            tree,
-        } => {
-            let plain = valid(alloc, problem, &constraint, solution.as_slice(), &mut purse)?;
-            with_proof(alloc, plain, &tree, asked)
-        }
-        Outcome::Invalid {
-            constraint: _,
-            tree,
-        } => {
-            let plain = say(alloc, INVALID, b"INVALID")?;
-            with_proof(alloc, plain, &tree, asked)
-        }
-        Outcome::Saturated {
-            constraint: _,
-            tree,
-        } => refuted(alloc, problem, encoded, &tree, &mut purse),
-        Outcome::Unknown { why, run: _ } => unknown(alloc, cause(&why)),
-    }
-}
-
-// The answer without a proof. Where the run ends saturated it is made once more, with its tree kept: a counterexample is read off
-// the tree.
-fn without_tree(
-    alloc: Global,
-    problem: &Problem,
-    encoded: &Encoded,
-    budget: u64,
-) -> Result<Output, Memory>
-    requires well_formed { IsWellFormed problem.now }
-    requires distinct { HasDistinctNames problem.now }
-    requires identifiers { HasIdentifiers problem.now }
-    requires cuts { IsCuttable problem.now }
-    requires encoded { IsEncoded problem.now encoded.now }
-    requires budget { budget ≤ most_budget }
-    ensures { IfOk result (λ output. AnswersRunAs None budget problem.now (answer_of output)) }
-{
-    let mut purse = Purse::new(budget);
-    let decided = decide(alloc, &encoded.root, encoded.constants, &mut purse)?;
-    match decided {
-        Decided::Valid {
-            constraint,
-            solution,
-        } => valid(alloc, problem, &constraint, solution.as_slice(), &mut purse),
-        Decided::Invalid { constraint: _ } => say(alloc, INVALID, b"INVALID"),
-        Decided::Saturated { constraint: _ } => { with_tree(alloc, problem, encoded, budget, None) }
-        Decided::Unknown { why, run: _ } => unknown(alloc, cause(&why)),
+    match run_within(alloc, problem, encoded, budget, budget, asked)? {
+        Course::Told(output) => Ok(output),
+        Course::Cut(why) => unknown(alloc, cause(&why)),
     }
 }

@@ -62,8 +62,9 @@ pub fn valid(
     })
 }
 
-// The answer that a problem without existential constants is valid, with the lines of its `\interpolant` blocks.
-fn closed(alloc: Global, problem: &Problem, purse: &mut Purse) -> Result<Output, Memory>
+/// The answer that a problem without existential constants is valid, with the lines of its `\interpolant` blocks, which have the rest
+/// of the purse.
+pub fn closed(alloc: Global, problem: &Problem, purse: &mut Purse) -> Result<Output, Memory>
     requires well_formed { IsWellFormed problem.now }
     requires distinct { HasDistinctNames problem.now }
     requires identifiers { HasIdentifiers problem.now }

@@ -1,7 +1,7 @@
 // The commands as `clap` reads them: their operands and options, without help and version.
 
 ghost use Rattle.clap.specs.Words.{app_of, fault_of, found_of, is_simple_and_free, matches_of, rows_of};
-ghost use Rattle.job_words.specs.Jobs.{budget_option, solve_options};
+ghost use Rattle.job_words.specs.Jobs.{budget_option, proof_options, solve_options};
 ghost use Rattle.job_words.specs.Shapes.{command_app};
 ghost use Rattle.std.specs.Prelude.{◌≡◌, ◌≢◌, [], ◌∷◌, codes, map, string_bytes, true, IfOk, IfErr};
 
@@ -10,9 +10,20 @@ use clap::error::ErrorKind;
 use clap::{Arg, ArgAction, ArgMatches, Command};
 use std::alloc::{AllocError, Global};
 
-// `solve FILE [--budget N] [--proof] [--short]`; `clap` lets both flags through.
+// `solve FILE [--budget N] [--proof] [--short] [--calculus]`; `clap` lets the first two flags through together.
 pub(crate) fn solve_command<'a>(alloc: Global) -> Result<Command<'a>, AllocError>
     ensures { IfOk result (λ c. app_of c ≡ command_app (codes "solve") (codes "FILE" ∷ []) solve_options) }
+{
+    let command = command_with_proofs(alloc)?;
+    let calculus = Arg::new(alloc, "calculus")
+        .long("calculus")
+        .action(ArgAction::SetTrue);
+    command.arg(calculus)
+}
+
+// `solve FILE [--budget N] [--proof] [--short]`
+fn command_with_proofs<'a>(alloc: Global) -> Result<Command<'a>, AllocError>
+    ensures { IfOk result (λ c. app_of c ≡ command_app (codes "solve") (codes "FILE" ∷ []) proof_options) }
 {
     let file = Arg::new(alloc, "FILE").required(true);
     let budget = Arg::new(alloc, "budget").long("budget");

@@ -8,11 +8,13 @@ use std::alloc::AllocError;
 /// A job that words name.
 #[derive(Debug, Drop)]
 pub enum Job {
-    /// To say whether the problem in this file is valid, within a budget, and with its proof in a form, where one is asked for.
+    /// To say whether the problem in this file is valid, within a budget, and with its proof in a form, where one is asked for; by the
+    /// canonical run of the calculus alone, where that is asked for.
     Solve {
         file: String,
         budget: u64,
         asked: Option<ProofForm>,
+        calculus: bool,
     },
     /// To give the constraint of the problem in this file, within a budget.
     Elim {

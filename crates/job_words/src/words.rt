@@ -44,7 +44,7 @@ pub fn words_law()
     ensures { (words : List Text) (a : Task) (b : Task) → NamesJob words a → NamesJob words b → a ≡ b }
 {}
 
-// `solve FILE [--budget N] [--proof] [--short]`, with one of the two flags at most
+// `solve FILE [--budget N] [--proof] [--short] [--calculus]`, with one of the first two flags at most
 fn solve_job(alloc: Global, line: &[String]) -> Result<Job, WordsFault>
     ensures named { IfOk result (λ job. NamesJob (codes "solve" ∷ map string_bytes line.now) (task_of job)) }
     ensures refused { IfErr result (λ e. e ≡ WordsFault.Words → (task : Task) → NamesJob (codes "solve" ∷ map string_bytes line.now) task → ⊥) }
@@ -55,10 +55,12 @@ fn solve_job(alloc: Global, line: &[String]) -> Result<Job, WordsFault>
     let whole = matches.get_flag("proof");
     let short = matches.get_flag("short");
     let asked = asked_form(whole, short)?;
+    let calculus = matches.get_flag("calculus");
     Ok(Job::Solve {
         file,
         budget,
         asked,
+        calculus,
     })
 }
 

@@ -14,7 +14,7 @@ use sqlite_items::Items;
 use std::alloc::Global;
 
 /// Puts an integer behind a text.
-fn put_integer(alloc: Global, value: &i128, out: &mut Vec<u8>) -> Result<(), Memory>
+pub fn put_integer(alloc: Global, value: &i128, out: &mut Vec<u8>) -> Result<(), Memory>
     ensures { OnOk result (out.new.items ≡ out.old.items ++ signed_decimal value.now) }
 {
     let digits = value.to_string(alloc)?;
@@ -34,7 +34,7 @@ fn put_later(alloc: Global, values: &[i128], out: &mut Vec<u8>) -> Result<(), Me
 }
 
 /// Puts a symbol at these integers behind a text.
-fn put_applied(alloc: Global, name: &[u8], at: &[i128], out: &mut Vec<u8>) -> Result<(), Memory>
+pub fn put_applied(alloc: Global, name: &[u8], at: &[i128], out: &mut Vec<u8>) -> Result<(), Memory>
     ensures { OnOk result (out.new.items ≡ out.old.items ++ applied_text name.now at.now) }
 {
     out.extend_from_slice(name)?;
@@ -49,7 +49,7 @@ fn put_applied(alloc: Global, name: &[u8], at: &[i128], out: &mut Vec<u8>) -> Re
 }
 
 /// Puts a line for each constant with its value behind a text.
-fn put_constants(
+pub fn put_constants(
     alloc: Global,
     names: &[Items<u8>],
     values: &[i128],

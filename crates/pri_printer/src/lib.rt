@@ -11,7 +11,7 @@ mod solution;
 mod term;
 
 pub use constraint::{know_clauses, print_dnf};
-pub use counterexample::print_counterexample;
+pub use counterexample::{print_counterexample, put_applied, put_constants, put_integer};
 pub use laws::{constraint_law, quotient_law};
 pub use quotient::is_taken;
 pub use solution::print_solution;

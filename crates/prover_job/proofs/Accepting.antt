@@ -1,13 +1,13 @@
 -- What is put for a file with its proof, as a proof's file.
-use Rattle.std.proofs.Common.{ℕ, ◌≡◌, ◌≤◌, ◌∙◌, ◌⊎◌, inl, inr, Some, List, length, sym, ap, subst, arith}
+use Rattle.std.proofs.Common.{ℕ, ◌≡◌, ◌≤◌, ◌∙◌, ◌⊎◌, inl, inr, Some, Bool, false, List, length, sym, ap, subst, arith}
 use Rattle.base_answers.specs.Answer.{Answer}
 use Rattle.base_answers.specs.Files.{AnswersBytes, AnswersSource, most_of_file, most_of_proof, too_long, within}
 use Rattle.base_answers.specs.declared.form.ProofForm.{ProofForm}
 use Rattle.job_check.specs.Checked.{IsChecked}
-use Rattle.job_solve.specs.Proved.{IsImpure, IsSolvedAs}
-use Rattle.pri_problem.specs.Answers.{PosesOne}
-use Rattle.prover_job.specs.Runs.{AnswersWithProof}
-use Rattle.prover_job.proofs.Output.{output_accepted}
+use Rattle.job_check.specs.Exactly.{IsCut}
+use Rattle.job_decide.specs.Decided.{IsDecidedAs}
+use Rattle.prover_job.specs.Runs.{AnswersWithProof, HasProof}
+use Rattle.prover_job.proofs.Output.{decided_output}
 
 abbrev status_of : Answer → ℕ
 status_of a = a.status
@@ -24,13 +24,13 @@ checked_there proof file b small few s = by_file s.bytes s.whole s.is
     by_file bytes is (too_long l e) = absurd (omega (arith, l, small, ap length is))
     by_file bytes is (within l k) = by_proof k.bytes bytes k.whole is k.is
 
-pub accepted : (form : ProofForm) (budget : ℕ) (file : List ℕ) (a b : Answer) → AnswersSource most_of_file (IsSolvedAs (Some form) budget) (Some file) a
-    → (a.status ≡ 0) ⊎ ((a.status ≡ 1) × ¬ (PosesOne file IsImpure)) → length a.text ≤ most_of_proof → AnswersSource most_of_file (AnswersWithProof (Some a.text)) (Some file) b → b.status ≡ 0
-accepted form budget file a b solved known short checked = by_size solved.bytes solved.whole solved.is known
+pub accepted : (form : ProofForm) (calculus : Bool) (budget : ℕ) (file : List ℕ) (a b : Answer) → AnswersSource most_of_file (IsDecidedAs calculus (Some form) budget) (Some file) a
+    → HasProof calculus budget file a → length a.text ≤ most_of_proof → AnswersSource most_of_file (AnswersWithProof (Some a.text)) (Some file) b → (b.status ≡ 0) ⊎ ((calculus ≡ false) × IsCut b)
+accepted form calculus budget file a b solved known short checked = by_size solved.bytes solved.whole solved.is known
   where
-    by_size : (bytes : List ℕ) → bytes ≡ file → AnswersBytes most_of_file (IsSolvedAs (Some form) budget) bytes a → (a.status ≡ 0) ⊎ ((a.status ≡ 1) × ¬ (PosesOne file IsImpure)) → b.status ≡ 0
+    by_size : (bytes : List ℕ) → bytes ≡ file → AnswersBytes most_of_file (IsDecidedAs calculus (Some form) budget) bytes a → HasProof calculus budget file a → (b.status ≡ 0) ⊎ ((calculus ≡ false) × IsCut b)
     by_size bytes is (too_long l e) (inl z) = let bad = sym z ∙ ap status_of e in absurd cc
     by_size bytes is (too_long l e) (inr z) = let bad = sym z.0 ∙ ap status_of e in absurd cc
     by_size bytes is (within l h) so =
         let small : length file ≤ most_of_file = subst (λ z. length z ≤ most_of_file) is l in
-        output_accepted form budget file a b (subst (λ z. IsSolvedAs (Some form) budget z a) is h) so (checked_there a.text file b small short checked)
+        decided_output form calculus budget file a b (subst (λ z. IsDecidedAs calculus (Some form) budget z a) is h) so (checked_there a.text file b small short checked)

@@ -1,5 +1,5 @@
 -- The whole output of `solve --proof` and of `solve --short` is accepted as a proof's file.
-use Rattle.std.proofs.Common.{ℕ, ℤ, ◌≡◌, ◌≢◌, ◌∙◌, ◌⊎◌, inl, inr, Some, List, [], ◌∷◌, ◌++◌, refl, sym, ap, subst, codes}
+use Rattle.std.proofs.Common.{ℕ, ℤ, ◌≡◌, ◌≢◌, ◌∙◌, ◌⊎◌, inl, inr, Some, Bool, true, false, List, [], ◌∷◌, ◌++◌, length, refl, sym, ap, subst, codes}
 use Rattle.std.specs.List.{concat}
 use Rattle.base_budget.specs.declared.log.Entry.{Entry}
 use Rattle.base_budget.specs.Trace.{At, Funds}
@@ -16,21 +16,28 @@ use Rattle.pri_lines.specs.Constraint.{IsTextOf}
 use Rattle.pri_lines.specs.Lines.{solution_line, valued_lines}
 use Rattle.pri_printer.specs.Printed.{solution_text}
 use Rattle.itp_sides.specs.Sides.{Case, arithmetic, first_itself, second_denied, none}
-use Rattle.job_solve.specs.Blocks.{AreLines, IsSeamLine, IsTextBy, found, unknown}
+use Rattle.job_solve.specs.Blocks.{AreLines, IsBlocksText, IsSeamLine, IsTextBy, found, unknown}
 use Rattle.job_solve.specs.Ends.{Cause, steps as steps_cause, overflow as overflow_cause, symbols, branch as branch_cause, large as large_cause, plain, cause_text, formula_by, seam_case, seam_run}
 use Rattle.job_solve.specs.Seams.{Seam, seams}
 use Rattle.pri_problem.specs.Answers.{Poses, PosesOne, refused, posed}
-use Rattle.pri_problem.specs.Encoded.{large, leaves, runs}
+use Rattle.pri_problem.specs.Encoded.{Fits, large, leaves, runs}
 use Rattle.pri_problem.proofs.Bytes.{reads_identifiers}
 use Rattle.search.specs.Run as run
 use Rattle.base_budget.specs.Ending.{ends_with}
 use Rattle.job_solve.specs.Explained.{AnswersSaturated}
+use Rattle.clause_file.specs.Verdicts.{HoldsClauseProof}
+use Rattle.form_encoding.specs.Problems.{problem_root}
+use Rattle.job_clauses.specs.Judged.{IsClauseFile}
+use Rattle.job_decide.specs.Causes.{IsRefutedEarly}
+use Rattle.job_decide.specs.Decided.{AnswersProved, IsDecidedAs, canonical, proved as by_clauses, refuted as by_model}
+use Rattle.prover_job.specs.Runs as words
 use Rattle.job_solve.specs.Proved.{IsImpure, IsParted, IsSolvedAs, PrintsProofOf, ProvesInvalid}
 use Rattle.base_answers.specs.declared.form.ProofForm.{ProofForm}
-use Rattle.job_solve.specs.Solved.{AnswersEnd, IsSolved, closed, valid, invalid, saturated, branch, steps as cut_by_steps, overflow as out_of_range, run_end}
+use Rattle.job_solve.specs.Solved.{AnswersEnd, IsSolved, closed, closed_answer, valid, invalid, saturated, branch, steps as cut_by_steps, overflow as out_of_range, run_end}
 use Rattle.job_solve.proofs.Printing.{impure_is, parted}
 use Rattle.job_solve.proofs.Saturated.{one_or_two}
 use Rattle.job_check.specs.Checked.{IsChecked}
+use Rattle.job_check.specs.Exactly.{IsCut}
 use Rattle.job_check.proofs.Exactly.{decided}
 use Rattle.prover_job.proofs.Lines.{AreInner, IsOfLines, IsPassed, inner_append, inner_word, no_lines, one_alone, one_more, part_after}
 use Rattle.prover_job.proofs.Printed.{dnf_inner, solution_inner}
@@ -90,6 +97,12 @@ neither : (bytes : List ℕ) (a : Answer) (s : ℕ) → a.status ≡ s → s ≢
 neither bytes a s e zero one (inl h) = zero (sym e ∙ h)
 neither bytes a s e zero one (inr h) = one (sym e ∙ h.0)
 
+-- the lines of a valid problem without existential constants
+closed_lines : (bytes : List ℕ) (p : Problem) (left : Funds) (blocks : List ℕ) → Poses bytes p → IsBlocksText p left blocks → IsOfLines (closed_answer blocks).text
+closed_lines bytes p left blocks poses told =
+    one_more (codes "VALID") blocks (record { inner = inner_word (codes "VALID") refl; other = refl })
+    (subst IsOfLines (sym told.whole) (seam_lines p (seams p.cuts) left told.lines (reads_identifiers bytes p poses.reads) told.are))
+
 -- that of a saturated run has none
 no_proof : (budget : ℕ) (bytes : List ℕ) (p : Problem) (log : List Entry) (x : Proof) (stands : At) (a : Answer) → Poses bytes p → run_end budget p ≡ ends_with (run.saturated log x) stands → AnswersSaturated p x stands.funds a → HasProof bytes a → ⊥
 no_proof budget bytes p log x stands a poses is told (inl z) = not_valid (one_or_two p x stands.funds a told) z
@@ -101,9 +114,7 @@ no_proof budget bytes p log x stands a poses is told (inr h) = h.1 (p, poses, im
 
 end_lines : (budget : ℕ) (bytes : List ℕ) (p : Problem) (a : Answer) → Poses bytes p → AnswersEnd p (run_end budget p) a → HasProof bytes a → IsOfLines a.text
 end_lines budget bytes p a poses (closed vs x stands lines is empty told e) good =
-    subst IsOfLines (sym (ap text_of e))
-    (one_more (codes "VALID") lines (record { inner = inner_word (codes "VALID") refl; other = refl })
-    (subst IsOfLines (sym told.whole) (seam_lines p (seams p.cuts) stands.funds told.lines (reads_identifiers bytes p poses.reads) told.are)))
+    subst IsOfLines (sym (ap text_of e)) (closed_lines bytes p stands.funds lines poses told)
 end_lines budget bytes p a poses (valid vs x stands text is some printed e) good =
     let h = reads_identifiers bytes p poses.reads in
     subst IsOfLines (sym (ap text_of e))
@@ -157,3 +168,52 @@ accepted_by form budget bytes a b q is good = by good
 
 pub output_accepted : (form : ProofForm) (budget : ℕ) (bytes : List ℕ) (a b : Answer) → IsSolvedAs (Some form) budget bytes a → HasProof bytes a → IsChecked a.text bytes b → b.status ≡ 0
 output_accepted form budget bytes a b solved good is = accepted_by form budget bytes a b (parted (Some form) budget bytes a solved) is good
+
+-- ---- a clause proof behind them
+
+-- behind such lines, the file that is printed is the part that holds the proof
+clauses_accepted : (bytes : List ℕ) (p : Problem) (text file : List ℕ) → Poses bytes p → Fits p → p.existentials ≡ [] → IsOfLines text → IsClauseFile p file → (b : Answer)
+    → IsChecked (text ++ (codes "proof:\n" ++ file)) bytes b → (b.status ≡ 0) ⊎ IsCut b
+clauses_accepted bytes p text file poses fits alone lines h b is =
+    let whole = text ++ (codes "proof:\n" ++ file) in
+    let same : body whole ≡ body file = part_after text file lines ∙ sym h.own in
+    let held : HoldsClauseProof (problem_root p).value 0 whole [] = record {
+      head = h.holds.head;
+      lines = h.holds.lines;
+      is_text = h.holds.is_text;
+      is = same ∙ h.holds.is;
+      values = h.holds.values;
+      count = h.holds.count;
+      proves = h.holds.proves;
+    } in
+    (decided whole bytes b p is poses fits).clauses (record { values = []; holds = subst (λ n. HoldsClauseProof (problem_root p).value n whole []) (sym (ap length alone)) held })
+
+proved_accepted : (form : ProofForm) (budget : ℕ) (bytes : List ℕ) (p : Problem) (a b : Answer) → Poses bytes p → Fits p → AnswersProved (Some form) budget p a → IsChecked a.text bytes b → (b.status ≡ 0) ⊎ IsCut b
+proved_accepted form budget bytes p a b poses fits h is =
+    clauses_accepted bytes p (closed_answer h.blocks).text h.file poses fits h.early.alone (closed_lines bytes p _ h.blocks poses h.lines) h.proof b
+    (subst (λ t. IsChecked t bytes b) (ap text_of h.whole) is)
+
+so_or_cut : {n : ℕ} {C K : Type 0} → K → (n ≡ 0) ⊎ C → (n ≡ 0) ⊎ (K × C)
+so_or_cut k (inl z) = inl z
+so_or_cut k (inr c) = inr (k, c)
+
+-- an answer of the canonical run has its proof
+has_proof : (calculus : Bool) (budget : ℕ) (bytes : List ℕ) (a : Answer) → words.HasProof calculus budget bytes a → HasProof bytes a
+has_proof calculus budget bytes a (inl z) = inl z
+has_proof calculus budget bytes a (inr h) = inr (h.0, h.1)
+
+-- one by a model has none
+no_model : (calculus : Bool) (budget : ℕ) (bytes : List ℕ) (a : Answer) → calculus ≡ false → a.status ≡ 1 → IsRefutedEarly budget bytes → words.HasProof calculus budget bytes a → ⊥
+no_model calculus budget bytes a off one early (inl z) = let bad : 0 ≡ 1 = sym z ∙ one in cc
+no_model calculus budget bytes a off one early (inr (h, pure, inl on)) = let bad : true ≡ false = sym on ∙ off in cc
+no_model calculus budget bytes a off one early (inr (h, pure, inr never)) = never early
+
+pub decided_output : (form : ProofForm) (calculus : Bool) (budget : ℕ) (bytes : List ℕ) (a b : Answer) → IsDecidedAs calculus (Some form) budget bytes a → words.HasProof calculus budget bytes a → IsChecked a.text bytes b
+    → (b.status ≡ 0) ⊎ ((calculus ≡ false) × IsCut b)
+decided_output form calculus budget bytes a b (refused r h e) good is = inl (output_accepted form budget bytes a b (refused r h e) (has_proof calculus budget bytes a good) is)
+decided_output form calculus budget bytes a b (posed p h (large l e)) good is = inl (output_accepted form budget bytes a b (posed p h (large l e)) (has_proof calculus budget bytes a good) is)
+decided_output form calculus budget bytes a b (posed p h (leaves l e)) good is = inl (output_accepted form budget bytes a b (posed p h (leaves l e)) (has_proof calculus budget bytes a good) is)
+decided_output form calculus budget bytes a b (posed p h (runs f (canonical k))) good is = inl (output_accepted form budget bytes a b (posed p h (runs f k)) (has_proof calculus budget bytes a good) is)
+decided_output form calculus budget bytes a b (posed p h (runs f (by_clauses off k))) good is = so_or_cut off (proved_accepted form budget bytes p a b h f k is)
+decided_output form calculus budget bytes a b (posed p h (runs f (by_model off k))) good is =
+    absurd (no_model calculus budget bytes a off (ap status_of k.whole) (p, h, (f, k.early, (k.model, k.universals, k.is))) good)

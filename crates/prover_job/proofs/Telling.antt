@@ -12,10 +12,15 @@ use Rattle.base_answers.specs.Files.{AnswersBytes, AnswersSource, most_of_file, 
 use Rattle.base_answers.proofs.Meeting.{long_answered, meets_more, whole_answered}
 use Rattle.job_words.specs.Jobs.{Task, solve, eliminate, run_script, minimise, check, drill, IsBudget, NamesJob}
 use Rattle.problem_gen.specs.Drills.{drill_text}
-use Rattle.job_solve.specs.Proved.{IsSolvedAs, PrintsProofOf, ProvesInvalid, ProvesValid}
+use Rattle.job_decide.specs.Causes.{IsCausedAs}
+use Rattle.job_solve.specs.Proved.{PrintsProofOf}
+use Rattle.job_decide.specs.Decided.{IsDecidedAs}
+use Rattle.job_decide.specs.Meaning.{Means}
+use Rattle.job_decide.proofs.Causing.{decided_status, solve_so}
+use Rattle.job_decide.proofs.Causing as decide_causing
+use Rattle.job_decide.proofs.Means as decide_meaning
 use Rattle.base_answers.specs.declared.form.ProofForm.{ProofForm}
 use Rattle.job_solve.specs.Solved.{IsSolved}
-use Rattle.job_solve.proofs.Printing.{parted}
 use Rattle.pri_lines.proofs.Losing.{no_table}
 use Rattle.job_check.specs.Checked.{IsChecked}
 use Rattle.job_check.specs.Meaning.{CheckMeans}
@@ -28,8 +33,6 @@ use Rattle.job_check.proofs.Meaning as check_meaning
 use Rattle.proof_tree.specs.declared.run.Verdict.{Verdict}
 use Rattle.job_check.proofs.Meaning.{checked_status}
 use Rattle.job_solve.specs.Headline.{Headline}
-use Rattle.job_solve.proofs.Causing as solve_causing
-use Rattle.job_solve.proofs.Grounded.{ground_enough}
 use Rattle.job_solve.proofs.Exactly.{solved_status}
 use Rattle.job_solve.proofs.Meaning.{headline}
 use Rattle.job_solve.specs.Drilled.{IsDrilled}
@@ -48,7 +51,7 @@ use Rattle.job_least.proofs.Deciding as least_deciding
 use Rattle.job_least.proofs.Exactly.{least_status}
 use Rattle.job_least.proofs.Meaning as least_meaning
 use Rattle.prover_job.specs.declared.tasks.Stop.{Stop}
-use Rattle.prover_job.specs.Runs.{AnswersTask, AnswersWithProof, IsSmallTask, SaysChecked, SaysConstraint, SaysLeast, SaysNowhere, SaysScript, SaysValid, SaysRefuted, IsSolveCaused, IsSolveCausedAs, IsElimCaused, IsLeastCaused, IsCheckCaused, IsDrillCaused}
+use Rattle.prover_job.specs.Runs.{AnswersTask, AnswersWithProof, IsSmallTask, SaysChecked, SaysConstraint, SaysLeast, SaysNowhere, SaysScript, SaysValid, SaysRefuted, IsElimCaused, IsLeastCaused, IsCheckCaused, IsDrillCaused}
 
 -- ---- files
 
@@ -82,15 +85,12 @@ bytes_status : (most : ℕ) (P : List ℕ → Answer → Type 0) → ((bytes : L
 bytes_status most P known bytes a (too_long l e) = subst (λ b. IsAnswerStatus b.status) (sym e) refl
 bytes_status most P known bytes a (within l is) = known bytes a is
 
-solved_as_status : (asked : Option ProofForm) (budget : ℕ) (bytes : List ℕ) (a : Answer) → IsSolvedAs asked budget bytes a → IsAnswerStatus a.status
-solved_as_status asked budget bytes a h = let s = parted asked budget bytes a h in subst (λ b. IsAnswerStatus b.status) (sym s.whole) (solved_status budget bytes s.plain s.solved)
-
 with_proof_status : (told : Option (List ℕ)) (bytes : List ℕ) (a : Answer) → AnswersWithProof told bytes a → IsAnswerStatus a.status
 with_proof_status told bytes a h = bytes_status most_of_proof (λ proof. IsChecked proof bytes) (λ proof b is. checked_status proof bytes b is) h.bytes a h.is
 
 -- each answer has a status of answers
 pub task_status : (bytes_of : List ℕ → Option (List ℕ)) (task : Task) (a : Answer) → AnswersTask bytes_of task a → IsAnswerStatus a.status
-task_status bytes_of (solve file budget asked) a h = bytes_status most_of_file (IsSolvedAs asked budget) (solved_as_status asked budget) h.bytes a h.is
+task_status bytes_of (solve file budget asked calculus) a h = bytes_status most_of_file (IsDecidedAs calculus asked budget) (decided_status calculus asked budget) h.bytes a h.is
 task_status bytes_of (eliminate file budget) a h = bytes_status most_of_file (IsEliminated budget) (eliminated_status budget) h.bytes a h.is
 task_status bytes_of (run_script file budget) a h = bytes_status most_of_file (IsSmtAnswer budget) (smt_status budget) h.bytes a h.is
 task_status bytes_of (minimise file term budget) a h = bytes_status most_of_file (IsLeastAnswer term budget) (least_status term budget) h.bytes a h.is
@@ -130,40 +130,18 @@ meets_answer P a b ends before after is same met = meets_more (λ answer. answer
 -- ---- what a run's end means
 
 -- the answer to the bytes of a file means what answers to shorter ones do, where a long file's means nothing
-record Means (w : Meaning) (asked : Option ProofForm) (bytes : List ℕ) (a : Answer) : Type 0 where
-  text : List ℕ
-  part : List ℕ
-  whole : a.text ≡ text ++ part
-  none : asked ≡ None → part ≡ []
-  headline : Headline w bytes (record { status = a.status; text = text })
-  valid : (form : ProofForm) → asked ≡ Some form → a.status ≡ 0 → ProvesValid form bytes text part
-  invalid : (form : ProofForm) → asked ≡ Some form → a.status ≡ 1 → ProvesInvalid form bytes part
-
-bytes_headline : (w : Meaning) (asked : Option ProofForm) (budget : ℕ) (bytes : List ℕ) (a : Answer) → AnswersBytes most_of_file (IsSolvedAs asked budget) bytes a → Means w asked bytes a
-bytes_headline w asked budget bytes a (too_long l e) = record {
+bytes_decided : (w : Meaning) (calculus : Bool) (asked : Option ProofForm) (budget : ℕ) (bytes : List ℕ) (a : Answer) → AnswersBytes most_of_file (IsDecidedAs calculus asked budget) bytes a → Means w asked bytes a
+bytes_decided w calculus asked budget bytes a (too_long l e) = record {
   text = a.text;
   part = [];
   whole = sym (append-nil a.text);
   none = λ off. refl;
-  headline = record {
-    valid = λ z. let bad = sym z ∙ ap (λ b. b.status) e in absurd cc;
-    invalid = λ z. let bad = sym z ∙ ap (λ b. b.status) e in absurd cc;
-  };
-  valid = λ form on z. let bad = sym z ∙ ap (λ b. b.status) e in absurd cc;
-  invalid = λ form on z. let bad = sym z ∙ ap (λ b. b.status) e in absurd cc;
+  valid = λ z. let bad = sym z ∙ ap (λ b. b.status) e in absurd cc;
+  invalid = λ z. let bad = sym z ∙ ap (λ b. b.status) e in absurd cc;
+  proved = λ form on z. let bad = sym z ∙ ap (λ b. b.status) e in absurd cc;
+  disproved = λ form on z. let bad = sym z ∙ ap (λ b. b.status) e in absurd cc;
 }
-bytes_headline w asked budget bytes a (within l is) =
-    let s = parted asked budget bytes a is in
-    let status : a.status ≡ (s.plain).status = ap (λ b. b.status) s.whole in
-    record {
-      text = (s.plain).text;
-      part = s.part;
-      whole = ap (λ b. b.text) s.whole;
-      none = s.none;
-      headline = subst (λ n. Headline w bytes (record { status = n; text = (s.plain).text })) (sym status) (headline w budget bytes s.plain s.solved);
-      valid = λ form on z. s.valid form on (sym status ∙ z);
-      invalid = λ form on z. s.invalid form on (sym status ∙ z);
-    }
+bytes_decided w calculus asked budget bytes a (within l is) = decide_meaning.means w calculus asked budget bytes a is
 
 bytes_means : (w : Meaning) (budget : ℕ) (bytes : List ℕ) (a : Answer) → AnswersBytes most_of_file (IsEliminated budget) bytes a → ElimMeans w bytes a
 bytes_means w budget bytes a (too_long l e) = λ z. let bad = sym z ∙ ap (λ b. b.status) e in absurd cc
@@ -174,37 +152,37 @@ given_to : (P : Answer → Type 0) (ends n : ℕ) (before after : Option (List �
 given_to P ends n before after met e six seven eight = met.whole (λ z. six (sym e ∙ z)) (λ z. seven (sym e ∙ z)) (λ z. eight (sym e ∙ z))
 
 -- at status 0 a text says of the problem that it is valid
-pub says_valid : (w : Meaning) (asked : Option ProofForm) (budget : ℕ) (told : Option (List ℕ)) (ends : ℕ) (before after : Option (List ℕ)) → Meets (AnswersSource most_of_file (IsSolvedAs asked budget) told) ends before after
+pub says_valid : (w : Meaning) (calculus : Bool) (asked : Option ProofForm) (budget : ℕ) (told : Option (List ℕ)) (ends : ℕ) (before after : Option (List ℕ)) → Meets (AnswersSource most_of_file (IsDecidedAs calculus asked budget) told) ends before after
     → ends ≡ 0 → SaysValid w asked told before after
-says_valid w asked budget told ends before after met z =
+says_valid w calculus asked budget told ends before after met z =
     let given = given_to _ ends 0 before after met z (λ e. cc) (λ e. cc) (λ e. cc) in
-    let m = bytes_headline w asked budget (given.is).bytes given.answer (given.is).is in
+    let m = bytes_decided w calculus asked budget (given.is).bytes given.answer (given.is).is in
     record {
       bytes = (given.is).bytes;
       whole = (given.is).whole;
       text = m.text;
       part = m.part;
       put = subst (PutsAll before after) m.whole given.put;
-      valid = (m.headline).valid (sym given.status ∙ z);
+      valid = m.valid (sym given.status ∙ z);
       none = m.none;
-      proved = λ form on. m.valid form on (sym given.status ∙ z);
+      proved = λ form on. m.proved form on (sym given.status ∙ z);
     }
 
 -- at status 1 the problem is refuted
-pub says_refuted : (asked : Option ProofForm) (budget : ℕ) (told : Option (List ℕ)) (ends : ℕ) (before after : Option (List ℕ)) → Meets (AnswersSource most_of_file (IsSolvedAs asked budget) told) ends before after → ends ≡ 1
+pub says_refuted : (calculus : Bool) (asked : Option ProofForm) (budget : ℕ) (told : Option (List ℕ)) (ends : ℕ) (before after : Option (List ℕ)) → Meets (AnswersSource most_of_file (IsDecidedAs calculus asked budget) told) ends before after → ends ≡ 1
     → SaysRefuted asked told before after
-says_refuted asked budget told ends before after met z =
+says_refuted calculus asked budget told ends before after met z =
     let given = given_to _ ends 1 before after met z (λ e. cc) (λ e. cc) (λ e. cc) in
-    let m = bytes_headline (meaning_of no_table) asked budget (given.is).bytes given.answer (given.is).is in
+    let m = bytes_decided (meaning_of no_table) calculus asked budget (given.is).bytes given.answer (given.is).is in
     record {
       bytes = (given.is).bytes;
       whole = (given.is).whole;
       text = m.text;
       part = m.part;
       put = subst (PutsAll before after) m.whole given.put;
-      refuted = (m.headline).invalid (sym given.status ∙ z);
+      refuted = m.invalid (sym given.status ∙ z);
       none = m.none;
-      proved = λ form on. m.invalid form on (sym given.status ∙ z);
+      proved = λ form on. m.disproved form on (sym given.status ∙ z);
     }
 
 -- at status 0 of `check` a text says of the problem what is so
@@ -302,18 +280,10 @@ says_nowhere w term budget told ends before after met z =
     }
 
 -- the answer comes exactly where its row says
-solve_so : (budget : ℕ) (bytes : List ℕ) (a : Answer) → IsSolved budget bytes a → IsSolveCaused budget bytes a
-solve_so budget bytes a is = record { causes = solve_causing.causes budget bytes a is; decides = solve_causing.decides budget bytes a is; enough = ground_enough budget bytes }
-
-solve_as_so : (asked : Option ProofForm) (budget : ℕ) (bytes : List ℕ) (a : Answer) → IsSolvedAs asked budget bytes a → IsSolveCausedAs asked budget bytes a
-solve_as_so asked budget bytes a is =
-    let s = parted asked budget bytes a is in
-    record { plain = s.plain; part = s.part; whole = s.whole; none = s.none; caused = solve_so budget bytes s.plain s.solved }
-
-pub solve_caused : (asked : Option ProofForm) (budget : ℕ) (told : Option (List ℕ)) (ends : ℕ) (before after : Option (List ℕ)) → Meets (AnswersSource most_of_file (IsSolvedAs asked budget) told) ends before after
-    → Meets (AnswersSource most_of_file (IsSolveCausedAs asked budget) told) ends before after
-solve_caused asked budget told ends before after met =
-    meets_more _ _ ends before after (source_more most_of_file (IsSolvedAs asked budget) (IsSolveCausedAs asked budget) (solve_as_so asked budget) told) met
+pub solve_caused : (calculus : Bool) (asked : Option ProofForm) (budget : ℕ) (told : Option (List ℕ)) (ends : ℕ) (before after : Option (List ℕ)) → Meets (AnswersSource most_of_file (IsDecidedAs calculus asked budget) told) ends before after
+    → Meets (AnswersSource most_of_file (IsCausedAs calculus asked budget) told) ends before after
+solve_caused calculus asked budget told ends before after met =
+    meets_more _ _ ends before after (source_more most_of_file (IsDecidedAs calculus asked budget) (IsCausedAs calculus asked budget) (decide_causing.causes calculus asked budget) told) met
 
 pub elim_caused : (budget : ℕ) (told : Option (List ℕ)) (ends : ℕ) (before after : Option (List ℕ)) → Meets (AnswersSource most_of_file (IsEliminated budget) told) ends before after
     → Meets (AnswersSource most_of_file (IsElimCaused budget) told) ends before after
@@ -352,7 +322,7 @@ budget_small (text ∷ more ∷ rest) n h = absurd h
 -- the numbers of a job that words name are small enough
 pub named_within : (words : List (List ℕ)) (task : Task) → NamesJob words task → IsSmallTask task
 named_within [] task h = absurd h
-named_within (command ∷ line) (solve file budget asked) h = budget_small _ budget h.1.budget_is
+named_within (command ∷ line) (solve file budget asked calculus) h = budget_small _ budget h.1.budget_is
 named_within (command ∷ line) (eliminate file budget) h = let small = budget_small _ budget h.1.budget_is in omega (arith, small)
 named_within (command ∷ line) (run_script file budget) h = budget_small _ budget h.1.budget_is
 named_within (command ∷ line) (minimise file term budget) h = let small = budget_small _ budget h.1.budget_is in omega (arith, small)

@@ -1,5 +1,5 @@
 -- What a run answers to its words over a source of named bytes, and what its end means.
-use Rattle.std.specs.Prelude.{◌≡◌, ◌⊎◌, ◌+◌, ◌≤◌, ◌<◌, ◌^◌, ℕ, Bool, List, [], ◌∷◌, ◌++◌, length, map, Option, Some, None, Contains, String, string_bytes}
+use Rattle.std.specs.Prelude.{◌≡◌, ◌⊎◌, ◌+◌, ◌≤◌, ◌<◌, ◌^◌, ℕ, Bool, true, List, [], ◌∷◌, ◌++◌, length, map, Option, Some, None, Contains, String, string_bytes}
 use Rattle.std.specs.declared.alloc.Global.{Global}
 use Rattle.base_limits.specs.Limits.{most_budget, most_count}
 use Rattle.form_typed.specs.Truth.{Meaning}
@@ -10,15 +10,17 @@ use Rattle.base_answers.specs.Answer.{Answer}
 use Rattle.base_answers.specs.Files.{AnswersSource, most_of_file, most_of_proof}
 use Rattle.base_answers.specs.Outside.{Meets, PutsAll}
 use Rattle.job_words.specs.Jobs.{Task, solve, eliminate, run_script, minimise, check, drill, files_of, NamesJob}
-use Rattle.job_solve.specs.Proved.{IsSolvedAs, ProvesInvalid, ProvesValid, extended}
+use Rattle.job_decide.specs.Causes.{IsRefutedEarly, IsSolveCaused}
+use Rattle.job_solve.specs.Proved.{IsImpure}
+use Rattle.pri_problem.specs.Answers.{PosesOne}
+use Rattle.job_decide.specs.Decided.{IsDecidedAs}
+use Rattle.job_decide.specs.Meaning.{ProvesInvalidBy, ProvesValidBy, RefutesBy}
 use Rattle.base_answers.specs.declared.form.ProofForm.{ProofForm}
 use Rattle.job_check.specs.Checked.{IsChecked}
 use Rattle.job_check.specs.Meaning.{Confirms}
 use Rattle.job_check.specs.Causes as check_causes
-use Rattle.job_solve.specs.Causes as solve_causes
 use Rattle.problem_gen.specs.Drills.{drill_text}
-use Rattle.job_solve.specs.Headline.{Headline, Validates, Refutes}
-use Rattle.job_solve.specs.Ground.{IsEnough}
+use Rattle.job_solve.specs.Headline.{Headline, Validates}
 use Rattle.job_solve.specs.Drilled.{IsDrilled, drill_answer}
 use Rattle.job_elim.specs.Eliminated.{IsEliminated}
 use Rattle.job_elim.specs.Causes as elim_causes
@@ -48,7 +50,7 @@ MeetsFile P told = Meets (AnswersSource most_of_file P told)
 
 -- the numbers of a job are small enough for its work
 abbrev pub IsSmallTask : Task → Type 0
-IsSmallTask (solve file budget asked) = budget ≤ most_budget
+IsSmallTask (solve file budget asked calculus) = budget ≤ most_budget
 IsSmallTask (eliminate file budget) = budget < 2 ^ 32
 IsSmallTask (run_script file budget) = budget ≤ most_budget
 IsSmallTask (minimise file term budget) = budget < 2 ^ 32
@@ -61,7 +63,7 @@ AnswersWithProof told bytes = AnswersSource most_of_proof (λ proof. IsChecked p
 
 -- the answer of each job
 abbrev pub AnswersTask : (List ℕ → Option (List ℕ)) → Task → Answer → Type 0
-AnswersTask bytes_of (solve file budget asked) = AnswersSource most_of_file (IsSolvedAs asked budget) (bytes_of file)
+AnswersTask bytes_of (solve file budget asked calculus) = AnswersSource most_of_file (IsDecidedAs calculus asked budget) (bytes_of file)
 AnswersTask bytes_of (eliminate file budget) = AnswersSource most_of_file (IsEliminated budget) (bytes_of file)
 AnswersTask bytes_of (run_script file budget) = AnswersSource most_of_file (IsSmtAnswer budget) (bytes_of file)
 AnswersTask bytes_of (minimise file term budget) = AnswersSource most_of_file (IsLeastAnswer term budget) (bytes_of file)
@@ -74,7 +76,7 @@ IsJobFile task name = (file : List ℕ) × Contains (files_of task) file × (nam
 
 -- how many bytes a job moves at most: of each of its files one past what such a file has at most
 abbrev pub most_moved : Task → ℕ
-most_moved (solve file budget asked) = most_of_file + 1
+most_moved (solve file budget asked calculus) = most_of_file + 1
 most_moved (eliminate file budget) = most_of_file + 1
 most_moved (run_script file budget) = most_of_file + 1
 most_moved (minimise file term budget) = most_of_file + 1
@@ -106,7 +108,7 @@ pub record SaysValid (w : Meaning) (asked : Option ProofForm) (told before after
   pub put : PutsAll before after (text ++ part)
   pub valid : Validates w bytes text
   pub none : asked ≡ None → part ≡ []
-  pub proved : (form : ProofForm) → asked ≡ Some form → ProvesValid form bytes text part
+  pub proved : (form : ProofForm) → asked ≡ Some form → ProvesValidBy form bytes text part
 
 -- the bytes of a file, where they are told, read as a problem of which the text put says what is so
 pub record SaysChecked (w : Meaning) (told before after : Option (List ℕ)) : Type 0 where
@@ -124,9 +126,9 @@ pub record SaysRefuted (asked : Option ProofForm) (told before after : Option (L
   pub text : List ℕ
   pub part : List ℕ
   pub put : PutsAll before after (text ++ part)
-  pub refuted : Refutes bytes text
+  pub refuted : RefutesBy bytes text
   pub none : asked ≡ None → part ≡ []
-  pub proved : (form : ProofForm) → asked ≡ Some form → ProvesInvalid form bytes part
+  pub proved : (form : ProofForm) → asked ≡ Some form → ProvesInvalidBy form bytes text part
 
 -- the bytes of a file, where they are told, read as a problem, and the text put is a constraint that is true exactly where it holds
 pub record SaysConstraint (w : Meaning) (told before after : Option (List ℕ)) : Type 0 where
@@ -158,22 +160,7 @@ pub record SaysScript (w : Meaning) (told before after : Option (List ℕ)) : Ty
   pub put : PutsAll before after text
   pub scripted : Scripted w bytes text
 
--- an answer of `solve` that comes exactly where its row says, and decides what it has to, with seven steps a node where
--- a problem is one of numbers
-pub record IsSolveCaused (budget : ℕ) (bytes : List ℕ) (answer : Answer) : Type 0 where
-  pub causes : solve_causes.SolveCauses budget bytes answer
-  pub decides : solve_causes.SolveDecides budget bytes answer
-  pub enough : IsEnough budget bytes
-
--- such an answer with the proof behind it, where that is asked for
-pub record IsSolveCausedAs (asked : Option ProofForm) (budget : ℕ) (bytes : List ℕ) (answer : Answer) : Type 0 where
-  pub plain : Answer
-  pub part : List ℕ
-  pub whole : answer ≡ extended plain part
-  pub none : asked ≡ None → part ≡ []
-  pub caused : IsSolveCaused budget bytes plain
-
--- the same of `elim`
+-- an answer of `elim` that comes exactly where its row says, and decides what it has to
 pub record IsElimCaused (budget : ℕ) (bytes : List ℕ) (answer : Answer) : Type 0 where
   pub causes : elim_causes.ElimCauses budget bytes answer
   pub decides : elim_causes.ElimDecides budget bytes answer
@@ -194,3 +181,8 @@ pub record IsDrillCaused (w : Meaning) (budget count : ℕ) (answer : Answer) : 
   pub drilled : answer ≡ drill_answer count solved
   pub means : Headline w (drill_text count) solved
   pub caused : IsSolveCaused budget (drill_text count) solved
+
+-- A proof is printed with the answer, where one is asked for. The problem is valid, or it is invalid and has neither predicates nor
+-- functions. It is not one that a model may refute where the canonical run is cut early, unless the calculus alone is asked for.
+abbrev pub HasProof : Bool → ℕ → List ℕ → Answer → Type 0
+HasProof calculus budget bytes a = (a.status ≡ 0) ⊎ ((a.status ≡ 1) × ¬ (PosesOne bytes IsImpure) × ((calculus ≡ true) ⊎ ¬ (IsRefutedEarly budget bytes)))

@@ -4,10 +4,11 @@ ghost use Rattle.base_answers.specs.Answer.{IsStatus, words_answer};
 ghost use Rattle.base_answers.specs.Outside.{Meets};
 ghost use Rattle.base_answers.specs.declared.form.ProofForm.{ProofForm};
 ghost use Rattle.job_words.specs.Jobs.{Task, check, drill, eliminate, files_of, minimise, run_script, solve, task_of};
+ghost use Rattle.job_decide.specs.Causes.{IsCausedAs};
 ghost use Rattle.job_smt.specs.Causes.{SmtCauses};
 ghost use Rattle.prover_io.specs.Outside.{BeginsFront, GrowsAtMost, Rose};
-ghost use Rattle.prover_job.specs.Runs.{AnswersTask, AreBegun, AskFor, AskForNoFile, AskForNothing, BrokeAt, IsCheckCaused, IsDrillCaused, IsElimCaused, IsJobFile, IsLeastCaused, IsSolveCausedAs, IsSmallTask, MeetsFile, SaysChecked, SaysConstraint, SaysLeast, SaysNowhere, SaysRefuted, SaysScript, SaysValid, most_moved};
-ghost use Rattle.std.specs.Prelude.{◌≡◌, ◌≢◌, ◌⊎◌, ℕ, List, [], Option};
+ghost use Rattle.prover_job.specs.Runs.{AnswersTask, AreBegun, AskFor, AskForNoFile, AskForNothing, BrokeAt, IsCheckCaused, IsDrillCaused, IsElimCaused, IsJobFile, IsLeastCaused, IsSmallTask, MeetsFile, SaysChecked, SaysConstraint, SaysLeast, SaysNowhere, SaysRefuted, SaysScript, SaysValid, most_moved};
+ghost use Rattle.std.specs.Prelude.{◌≡◌, ◌≢◌, ◌⊎◌, ℕ, Bool, List, [], Option};
 
 use crate::tasks::{Stop, job_output};
 use base_answers::put_answer;
@@ -38,12 +39,12 @@ pub fn run<S: Source, K: Sink, W: World>(
     ensures no_job { AskForNothing words.now
         → Meets (λ answer. answer ≡ words_answer) result (K.taken sink.old) (K.taken sink.new) }
     ensures words_refused { result ≡ 5 → AskForNothing words.now }
-    ensures valid { (file : List ℕ) (budget : ℕ) (asked : Option ProofForm)
-        → AskFor words.now (solve file budget asked)
+    ensures valid { (file : List ℕ) (budget : ℕ) (asked : Option ProofForm) (calculus : Bool)
+        → AskFor words.now (solve file budget asked calculus)
         → result ≡ 0
         → SaysValid (W.meaning world.now) asked (S.bytes_of source.old file) (K.taken sink.old) (K.taken sink.new) }
-    ensures refuted { (file : List ℕ) (budget : ℕ) (asked : Option ProofForm)
-        → AskFor words.now (solve file budget asked)
+    ensures refuted { (file : List ℕ) (budget : ℕ) (asked : Option ProofForm) (calculus : Bool)
+        → AskFor words.now (solve file budget asked calculus)
         → result ≡ 1 → SaysRefuted asked (S.bytes_of source.old file) (K.taken sink.old) (K.taken sink.new) }
     ensures checked { (file proof : List ℕ) → AskFor words.now (check file proof) → result ≡ 0
         → SaysChecked (W.meaning world.now) (S.bytes_of source.old file) (K.taken sink.old) (K.taken sink.new) }
@@ -56,9 +57,9 @@ pub fn run<S: Source, K: Sink, W: World>(
         → SaysLeast (W.meaning world.now) term (S.bytes_of source.old file) (K.taken sink.old) (K.taken sink.new) }
     ensures nowhere { (file term : List ℕ) (budget : ℕ) → AskFor words.now (minimise file term budget) → result ≡ 1
         → SaysNowhere (W.meaning world.now) (S.bytes_of source.old file) }
-    ensures solve_causes { (file : List ℕ) (budget : ℕ) (asked : Option ProofForm)
-        → AskFor words.now (solve file budget asked)
-        → MeetsFile (IsSolveCausedAs asked budget) (S.bytes_of source.old file)
+    ensures solve_causes { (file : List ℕ) (budget : ℕ) (asked : Option ProofForm) (calculus : Bool)
+        → AskFor words.now (solve file budget asked calculus)
+        → MeetsFile (IsCausedAs calculus asked budget) (S.bytes_of source.old file)
         result (K.taken sink.old) (K.taken sink.new) }
     ensures elim_causes { (file : List ℕ) (budget : ℕ) → AskFor words.now (eliminate file budget)
         → MeetsFile (IsElimCaused budget) (S.bytes_of source.old file)

@@ -11,7 +11,7 @@ ghost use Rattle.prover_io.specs.declared.whole.ReadFault.{ReadFault};
 ghost use Rattle.prover_job.specs.Runs.{AnswersTask, AnswersWithProof, AreBegun, BrokeAt, IsJobFile, IsSmallTask, most_moved};
 ghost use Rattle.prover_job.specs.declared.tasks.Stop.{Stop};
 ghost use Rattle.job_smt.specs.Answered.{IsSmtAnswer};
-ghost use Rattle.job_solve.specs.Proved.{IsSolvedAs};
+ghost use Rattle.job_decide.specs.Decided.{IsDecidedAs};
 ghost use Rattle.std.specs.Prelude.{◌≡◌, ◌≢◌, ◌+◌, ◌<◌, ◌≤◌, ◌^◌, ◌++◌, length, IfOk, IsErrOf, OnOk, Some, [], ◌∷◌};
 
 use base_answers::status::FILE_TOO_LONG;
@@ -66,7 +66,8 @@ pub(crate) fn job_output<S: Source>(
             file,
             budget,
             asked,
-        } => solve_output(alloc, source, file.as_str(), *budget, *asked),
+            calculus,
+        } => solve_output(alloc, source, file.as_str(), *budget, *asked, *calculus),
         Job::Check { file, proof } => check_output(alloc, source, file.as_str(), proof.as_str()),
         Job::Elim { file, budget } => elim_output(alloc, source, file.as_str(), *budget),
         Job::Smt { file, budget } => smt_output(alloc, source, file.as_str(), *budget),
@@ -88,9 +89,10 @@ fn solve_output<S: Source>(
     file: &str,
     budget: u64,
     asked: Option<ProofForm>,
+    calculus: bool,
 ) -> Result<Output, Stop>
     requires { budget ≤ most_budget }
-    ensures answered { IfOk result (λ output. AnswersSource most_of_file (IsSolvedAs asked budget) (S.bytes_of source.old file.now) (answer_of output)) }
+    ensures answered { IfOk result (λ output. AnswersSource most_of_file (IsDecidedAs calculus asked budget) (S.bytes_of source.old file.now) (answer_of output)) }
     ensures rose { IsErrOf result Stop.Source → Rose (S.faults source.old) (S.faults source.new) }
     ensures broke { IsErrOf result Stop.Source → Broke (Some file.now) (S.at source.new) (S.broken source.new) }
     ensures begun { ¬ (IsErrOf result Stop.Memory) → S.at source.new ≡ Some file.now }
@@ -99,7 +101,7 @@ fn solve_output<S: Source>(
     ensures moved { GrowsAtMost (S.moved source.old) (S.moved source.new) (most_of_file + 1) }
 {
     match read_all(alloc, source, file, FILE) {
-        Ok(bytes) => Ok(job_solve::answer(alloc, bytes.as_slice(), budget, asked)?),
+        Ok(bytes) => Ok(job_decide::answer(alloc, bytes.as_slice(), budget, asked, calculus)?),
         Err(fault) => unread(alloc, fault),
     }
 }

@@ -18,8 +18,9 @@ fn named(alloc: Global, words: &[&str]) -> Result<String, Fail> {
                 file,
                 budget,
                 asked,
+                calculus,
             },
-        ) => Ok(format!(in alloc; "solve {file} {budget} {}", form(asked))?),
+        ) => Ok(format!(in alloc; "solve {file} {budget} {}{}", form(asked), way(calculus))?),
         Ok(Job::Elim { file, budget }) => Ok(format!(in alloc; "elim {file} {budget}")?),
         Ok(Job::Least { file, term, budget }) => Ok(format!(in alloc;
             "least {file} {term} {budget}"
@@ -41,6 +42,11 @@ fn form(asked: Option<ProofForm>) -> &'static str {
     }
 }
 
+// Whether the calculus alone is asked for.
+fn way(calculus: bool) -> &'static str {
+    if calculus { " calculus" } else { "" }
+}
+
 fn check(rt: &impl Abort, alloc: Global, rows: &[(&[&str], &str)]) -> Result<(), Fail> {
     for (words, expected) in rows {
         let answer = named(alloc, words)?;
@@ -51,7 +57,7 @@ fn check(rt: &impl Abort, alloc: Global, rows: &[(&[&str], &str)]) -> Result<(),
 
 #[test]
 fn words_name_jobs(rt: HostRuntime) -> Result<(), Fail> {
-    let rows: [(&[&str], &str); 36] = [
+    let rows: [(&[&str], &str); 39] = [
         (&["solve", "f"], "solve f 50000000 plain"),
         (&["elim", "f"], "elim f 50000000"),
         (&["solve", "f", "--budget", "1"], "solve f 1 plain"),
@@ -82,6 +88,18 @@ fn words_name_jobs(rt: HostRuntime) -> Result<(), Fail> {
         (&["solve", "--short", "f"], "solve f 50000000 short"),
         (&["solve", "f", "--short", "--budget=5"], "solve f 5 short"),
         (&["solve", "--", "--short"], "solve --short 50000000 plain"),
+        (
+            &["solve", "--calculus", "f"],
+            "solve f 50000000 plain calculus",
+        ),
+        (
+            &["solve", "f", "--proof", "--calculus"],
+            "solve f 50000000 whole calculus",
+        ),
+        (
+            &["solve", "--", "--calculus"],
+            "solve --calculus 50000000 plain",
+        ),
         (&["least", "f", "a + 2*b"], "least f a + 2*b 50000000"),
         (&["least", "f", "--", "-a"], "least f -a 50000000"),
         (&["least", "--", "f", "-a"], "least f -a 50000000"),
@@ -106,7 +124,7 @@ fn words_name_jobs(rt: HostRuntime) -> Result<(), Fail> {
 
 #[test]
 fn words_name_none(rt: HostRuntime) -> Result<(), Fail> {
-    let rows: [&[&str]; 68] = [
+    let rows: [&[&str]; 70] = [
         &[],
         &["f"],
         &["f", "solve"],
@@ -124,6 +142,8 @@ fn words_name_none(rt: HostRuntime) -> Result<(), Fail> {
         &["solve", "f", "--help"],
         &["solve", "f", "-ä"],
         &["solve", "f", "--steps"],
+        &["elim", "f", "--calculus"],
+        &["solve", "f", "--calculus", "--calculus"],
         &["solve", "f", "--budg", "1"],
         &["solve", "f", "--=1"],
         &["solve", "f", "--budget"],

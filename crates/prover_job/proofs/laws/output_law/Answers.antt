@@ -1,5 +1,5 @@
-use Rattle.prover_job.proofs.Output.{output_accepted}
+use Rattle.prover_job.proofs.Output.{decided_output}
 use Rattle.prover_job.proofs.laws.output_law.Goals as goal
 
 pub returns : goal.returns
-returns c = output_accepted
+returns c = decided_output

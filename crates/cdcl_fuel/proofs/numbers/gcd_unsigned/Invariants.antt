@@ -1,0 +1,4 @@
+use Rattle.cdcl_fuel.proofs.numbers.gcd_unsigned.Given as goal
+
+abbrev pub decreases-loop-b : goal.decreases-loop-b
+decreases-loop-b l = l.b

@@ -1,0 +1,168 @@
+// The search: its state, and its loop.
+
+use crate::advisor::Advisor;
+use crate::answer::{Answer, Cause};
+use crate::deciding;
+use crate::finish::Final;
+use crate::restart::{Limits, Restart};
+use cdcl_forms::{TRUE, Vocabulary, negated};
+use cdcl_fuel::{Fault, Fuel};
+use cdcl_state::{Pending, State};
+use cdcl_steps::write_proof;
+use formula::Core;
+use std::alloc::Global;
+
+/// A search for a proof that a closed root is true, or for a model in which it is false.
+#[derive(Drop)]
+pub struct Search<Q> {
+    pub(crate) state: State,
+    pub(crate) advisor: Q,
+    restart: Restart,
+    limits: Limits,
+    /// How often all clauses were true.
+    pub finals: u64,
+    /// How many instances were made.
+    pub instances: u64,
+}
+
+/// What a round of the loop finds.
+enum Round {
+    Again,
+    Proved,
+    Model,
+    Stuck,
+}
+
+impl<Q: Advisor + Drop> Search<Q> {
+    /// A search with a budget of steps. The root has no names of its own.
+    pub fn new(alloc: Global, root: &Core, advisor: Q, budget: u64) -> Result<Search<Q>, Fault> {
+        let words = Vocabulary::new(alloc, root, 0)?;
+        let state = State::new(alloc, words, budget)?;
+        Ok(Search {
+            state,
+            advisor,
+            restart: Restart::new(),
+            limits: Limits::new(),
+            finals: 0,
+            instances: 0,
+        })
+    }
+
+    /// How many conflicts there were.
+    pub fn conflicts(&self) -> u64 {
+        self.state.sat.conflicts
+    }
+
+    /// The advisor, which knows the model of the last answer.
+    pub fn into_advisor(self) -> Q {
+        let Search { advisor, .. } = self;
+        advisor
+    }
+
+    /// What is left of the budget.
+    pub fn left(&self) -> u64 {
+        self.state.fuel.left()
+    }
+
+    /// Searches until there is an answer, or a fault ends the search.
+    pub fn run(&mut self) -> Result<Answer, Fault> {
+        begin(&mut self.state)?;
+        self.register_all()?;
+        for _ in 0..u64::MAX {
+            self.state.fuel.spend(1)?;
+            match self.round()? {
+                Round::Again => {}
+                Round::Proved => return proof(&self.state),
+                Round::Model => return Ok(Answer::Model),
+                Round::Stuck => return Ok(Answer::GaveUp(Cause::Quantifiers)),
+            }
+        }
+        Err(Fault::Steps)
+    }
+
+    fn round(&mut self) -> Result<Round, Fault> {
+        if let Some(round) = settled(&mut self.state, &mut self.restart)? {
+            return Ok(round);
+        }
+        self.limits.keep(&mut self.state)?;
+        if deciding::branch(&mut self.state)? {
+            return Ok(Round::Again);
+        }
+        if deciding::decide_next(&mut self.state)? {
+            return Ok(Round::Again);
+        }
+        self.state.fuel.spend(10)?;
+        self.finals = self.finals.saturating_add(1);
+        match self.final_check()? {
+            Final::Again => {
+                self.state.open_all()?;
+                self.register_all()?;
+                Ok(Round::Again)
+            }
+            Final::Model => Ok(Round::Model),
+            Final::Stuck => Ok(Round::Stuck),
+        }
+    }
+}
+
+/// The answer of a search whose last clause is empty.
+fn proof(state: &State) -> Result<Answer, Fault> {
+    let mut fuel = Fuel::new(u64::MAX);
+    let proof = write_proof(&state.knowledge.log, &state.knowledge.words, &mut fuel)?;
+    Ok(Answer::Proof(proof))
+}
+
+/// The root is false.
+fn begin(state: &mut State) -> Result<(), Fault> {
+    let root = state.knowledge.words.tree.root;
+    let x = state.knowledge.words.formula(root, 0)?;
+    let l = state.literal(x)?;
+    let id = state.knowledge.log.root(l)?;
+    state.input(&[TRUE], id)?;
+    state.input(&[negated(l)], id.saturating_add(1))?;
+    state.open_all()
+}
+
+/// What has to be done before a decision: conflicts, new clauses, propagation, restarts. None where there is nothing.
+fn settled(state: &mut State, restart: &mut Restart) -> Result<Option<Round>, Fault> {
+    state.bound_equations()?;
+    if state.sat.turned {
+        state.sat.again(&mut state.fuel)?;
+    }
+    if let Some(c) = state.pending.take() {
+        return learn(state, c);
+    }
+    if let Some(p) = state.queue.pop_front() {
+        return attach(state, &p);
+    }
+    if let Some(c) = state.propagate()? {
+        return learn(state, c);
+    }
+    if restart.is_due(state.sat.conflicts) {
+        restart.advance(state.sat.conflicts);
+        state.sat.cancel(&mut state.knowledge, 0)?;
+        state.knowledge.simplex.sweep()?;
+        return Ok(Some(Round::Again));
+    }
+    Ok(None)
+}
+
+/// Takes a clause in.
+fn attach(state: &mut State, p: &Pending) -> Result<Option<Round>, Fault> {
+    state.fuel.spend(p.lits.len() as u64)?;
+    let found = state
+        .sat
+        .attach(&mut state.knowledge, p.lits.as_slice(), p.id, p.is_input)?;
+    match found {
+        Some(c) => learn(state, c),
+        None => Ok(Some(Round::Again)),
+    }
+}
+
+/// Learns from a false clause.
+fn learn(state: &mut State, conflict: u32) -> Result<Option<Round>, Fault> {
+    let more = state
+        .sat
+        .learn(&mut state.knowledge, conflict, &mut state.fuel)?;
+    Ok(Some(if more { Round::Again } else { Round::Proved }))
+}

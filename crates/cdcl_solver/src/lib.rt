@@ -1,0 +1,12 @@
+// The clause search of a closed formula, from its root to the text of a proof or to a model.
+#![tactic(auto)]
+
+mod advising;
+mod charging;
+mod modelling;
+mod shrinking;
+mod solving;
+mod stopping;
+mod writing;
+
+pub use solving::{Found, search};

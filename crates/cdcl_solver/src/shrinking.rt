@@ -1,0 +1,152 @@
+// The model of a search with small numbers: each goes towards 0 while the root stays false.
+
+use crate::modelling::{Refutation, refutation_of};
+use base_budget::Purse;
+use cdcl_fuel::{Fault, Fuel};
+use cdcl_models::{Judge, Model, shrink};
+use formula::Core;
+use model_check::is_false;
+use model_formulas::Fault as Cut;
+use model_table::Model as Table;
+use std::alloc::Global;
+
+/// What stands below a for-all.
+fn below(f: &Core) -> Option<&Core> {
+    match f {
+        Core::Forall(body) => Some(body.get()),
+        _ => None,
+    }
+}
+
+/// The members of a disjunction before its last one; of another formula none.
+fn before_last(f: &Core) -> &[Core] {
+    match f {
+        Core::Or(members) => match members.as_slice().split_last() {
+            Some((_, others)) => others,
+            None => &[],
+        },
+        _ => &[],
+    }
+}
+
+/// The last member of a disjunction; another formula itself.
+fn last_of(f: &Core) -> &Core {
+    match f {
+        Core::Or(members) => match members.as_slice().last() {
+            Some(last) => last,
+            None => f,
+        },
+        _ => f,
+    }
+}
+
+/// Whether all of the formulas are false in the model at these values of their names.
+fn are_false(
+    alloc: Global,
+    purse: &mut Purse,
+    formulas: &[Core],
+    model: &Table,
+    values: &[i128],
+) -> Result<bool, Cut> {
+    for f in formulas {
+        if !is_false(alloc, purse, f, model, values)? {
+            return Ok(false);
+        }
+    }
+    Ok(true)
+}
+
+/// Whether the formula over the names before `from` is false in the model where those and the names of its first for-alls have
+/// these values. A for-all may stand in the last place of a disjunction, as that of a constant of a type with bounds does, whose
+/// other members say that a value is none of the type. True comes only where the formula is false.
+fn is_false_below(
+    alloc: Global,
+    purse: &mut Purse,
+    f: &Core,
+    model: &Table,
+    values: &[i128],
+    from: usize,
+) -> Result<bool, Cut> {
+    let around = values.get(..from).unwrap_or(values);
+    if from >= values.len() {
+        return is_false(alloc, purse, f, model, around);
+    }
+    let Some(body) = below(last_of(f)) else {
+        return is_false(alloc, purse, f, model, around);
+    };
+    if !are_false(alloc, purse, before_last(f), model, around)? {
+        return Ok(false);
+    }
+    is_false_below(alloc, purse, body, model, values, from + 1)
+}
+
+/// Judges models of a formula at values of its first for-alls, and keeps the last one at which it is false.
+#[derive(Drop)]
+struct Judgement<'a> {
+    alloc: Global,
+    root: &'a Core,
+    universals: u32,
+    best: Option<Refutation>,
+}
+
+impl Judge for Judgement<'_> {
+    fn is_false(&mut self, model: &Model, fuel: &mut Fuel) -> Result<bool, Fault> {
+        let found = refutation_of(self.alloc, model, self.universals)?;
+        let mut purse = Purse::new(fuel.left());
+        let values = found.values.as_slice();
+        let outcome = is_false_below(self.alloc, &mut purse, self.root, &found.model, values, 0);
+        fuel.spend(purse.spent())?;
+        match outcome {
+            Ok(true) => {
+                self.best = Some(found);
+                Ok(true)
+            }
+            Ok(false) => Ok(false),
+            Err(Cut::Memory) => Err(Fault::Memory),
+            Err(Cut::Steps) => Err(Fault::Steps),
+            Err(_) => Ok(false),
+        }
+    }
+}
+
+/// Judges the model, and then smaller ones.
+fn judge_all(
+    alloc: Global,
+    found: Model,
+    judgement: &mut Judgement<'_>,
+    steps: u64,
+) -> Result<(), Fault> {
+    let mut fuel = Fuel::new(steps);
+    if judgement.is_false(&found, &mut fuel)? {
+        let _smaller = shrink(alloc, found, judgement, &mut fuel)?;
+    }
+    Ok(())
+}
+
+/// The model of a search with smaller numbers, looked for in at most `steps` steps, at values of the root's first `universals`
+/// for-alls. Where the root is not seen to be false in the model, the model stays as it is.
+pub(crate) fn shrunk(
+    alloc: Global,
+    root: &Core,
+    found: Model,
+    universals: u32,
+    steps: u64,
+) -> Result<Refutation, Fault> {
+    let mut found = found;
+    found.constants.truncate(universals as usize);
+    let first = refutation_of(alloc, &found, universals)?;
+    let mut judgement = Judgement {
+        alloc,
+        root,
+        universals,
+        best: None,
+    };
+    if let Err(Fault::Memory) = judge_all(alloc, found, &mut judgement, steps) {
+        return Err(Fault::Memory);
+    }
+    let Judgement { best, .. } = judgement;
+    Ok(match best {
+        Some(smaller) => smaller,
+        None => first,
+    })
+}

@@ -1,0 +1,11 @@
+// What `solve` answers to a problem's file: by the canonical run, and where that is cut early, by the clause search, whose proofs and
+// models are judged before anything is told.
+#![tactic(auto)]
+
+mod clauses;
+mod deciding;
+mod laws;
+mod models;
+
+pub use deciding::answer;
+pub use laws::{calculus_law, causes_law, meaning_law};

@@ -1,0 +1,10 @@
+use Rattle.std.proofs.Common.{◌≡◌, ◌++◌, length}
+use Rattle.pri_printer.specs.Counterexample.{lines_text}
+use Rattle.model_printer.specs.Models.{functions_lines}
+use Rattle.model_printer.proofs.models.put_functions.Given as goal
+
+abbrev pub invariant-loop-symbol : goal.invariant-loop-symbol
+invariant-loop-symbol l = l.out.items ++ lines_text (functions_lines l.symbols l.models) ≡ l.fn.out.items ++ lines_text (functions_lines l.fn.symbols l.fn.models)
+
+abbrev pub decreases-loop-symbol : goal.decreases-loop-symbol
+decreases-loop-symbol l = length l.symbols

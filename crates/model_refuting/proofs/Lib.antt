@@ -1,0 +1,4 @@
+pub mod Body
+pub mod Judged
+pub mod Refuted
+pub mod Shapes
