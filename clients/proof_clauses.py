@@ -1,8 +1,7 @@
 """Checks clause proofs, the third format of proofs, for check_proof.py.
 
 Written from docs/PROOFS.md (Clause proofs: the third format), docs/CALCULUS.md (Clause proofs) and the definitions in clause_proof/specs,
-clause_text/specs and clause_words/specs of crates/; what is charged is as in the code of clause_checker. The text is read and checked in one
-pass: what comes first in it is the answer.
+clause_text/specs and clause_words/specs of crates/. The text is read and checked in one pass: what comes first in it is the answer.
 """
 import re
 from math import gcd
@@ -10,6 +9,7 @@ from typing import NamedTuple
 
 from proof_elimination import Purse, divided
 from proof_preparation import is_over, prepared_root
+from proof_prices import Prices, literal as literal_price
 from proof_problem import MOST, Fault, Formula, Refusal, Term, combine, name_term, number_term
 
 MOST_CHARGES, WORD_LIMIT = 1_000_000_000, 2 ** 32
@@ -213,43 +213,32 @@ def opposite(one):
 class ClauseProof:
     """What a clause proof has made so far: definitions of variables, clauses (None where deleted), applications, and how many constants.
 
-    The methods that are named like lines do them. They charge what the prover charges, in its order."""
+    The methods that are named like lines do them, after their price is paid."""
 
     def __init__(self, numbers, most):
         self.numbers, self.purse = numbers, Purse(most)
         self.definitions, self.clauses, self.applications, self.count = [ALWAYS], [(Literal(0, True),)], [], 0
+        self.prices = Prices(self.definitions, self.clauses, self.applications)
 
     def begin(self, root, values, first):
         """The root at these values is false; the literal stands for it."""
-        self.purse.pay(len(values) + 1)
+        self.purse.pay(1 + len(values) + literal_price([0] * len(values), root))
         self.stand(self.literal_of(root, tuple(map(number_term, values))), first)
         self.clauses.append((opposite(first),))
 
     def step(self, word, values):
-        self.purse.pay(1)
+        self.purse.pay(self.prices.price(word, values))
         getattr(self, 'do_' + word.replace('-', '_'))(*values)
 
     def is_ended(self):
         """Whether the last clause is empty."""
         return self.clauses[-1] == ()
 
-    # Terms, each charged by its names.
-
-    def combine(self, m, s, n, t):
-        self.purse.pay(len(s.monomials) + len(t.monomials) + 1)
-        return combine(m, s, n, t)
-
-    def copy(self, *terms):
-        for one in terms:
-            self.purse.pay(len(one.monomials) + 1)
-        return terms
-
     def put_in(self, terms, one):
         """The term with these terms for its names."""
-        self.purse.pay(1)
         total = number_term(one.constant)
         for name, number in one.monomials:
-            total = self.combine(1, total, number, terms[name] if name < len(terms) else number_term(0))
+            total = combine(1, total, number, terms[name] if name < len(terms) else number_term(0))
         return total
 
     def put_all(self, terms, ones):
@@ -263,7 +252,7 @@ class ClauseProof:
             return ALWAYS, one.constant >= 0
         one = self.divided(one)
         if one.monomials[0][1] < 0:
-            return Definition('>=', self.combine(-1, one, 1, MINUS_ONE)), False
+            return Definition('>=', combine(-1, one, 1, MINUS_ONE)), False
         return Definition('>=', one), True
 
     def equation(self, one):
@@ -271,23 +260,19 @@ class ClauseProof:
         if not one.monomials:
             return ALWAYS, one.constant == 0
         if one.constant % gcd(*(number for _, number in one.monomials)):
-            self.purse.pay(len(one.monomials))
             return ALWAYS, False
         one = self.divided(one)
         if one.monomials[0][1] < 0:
-            one = self.combine(-1, one, 0, number_term(0))
+            one = combine(-1, one, 0, number_term(0))
         return Definition('=', one), True
 
     def divided(self, one):
         """The term divided by the greatest common divisor of its coefficients, the constant rounded down."""
-        self.purse.pay(len(one.monomials))
         return divided(one, gcd(*(number for _, number in one.monomials)))
 
     def literal_of(self, formula, terms):
         """What the formula with these terms for its names stands for."""
-        self.purse.pay(1)
         while formula.kind in ('and', 'or') and len(formula.members) == 1:
-            self.purse.pay(1)
             formula = formula.members[0]
         kind = formula.kind
         if kind in ('=', '!='):
@@ -338,9 +323,7 @@ class ClauseProof:
         closure = self.known(variable, 'closure')
         formula, terms = closure.formula, closure.arguments
         require(formula.kind in ('and', 'or', 'all'))
-        self.purse.pay(len(literals) + 1 if formula.kind == 'and' else 2 * len(literals))
         if formula.kind == 'all':
-            self.copy(*terms)
             terms += (name_term(self.count),)
         makers = [lambda member=member: self.literal_of(member, terms) for member in formula.members]
         if formula.kind == 'all':
@@ -361,7 +344,7 @@ class ClauseProof:
 
     def do_apply(self, function, terms):
         require(is_over(self.count, terms))
-        self.applications.append((function, self.copy(*terms), self.new_constant()))
+        self.applications.append((function, tuple(terms), self.new_constant()))
 
     def do_read(self, variable, one, numbers):
         closure = self.known(variable, 'closure')
@@ -375,7 +358,7 @@ class ClauseProof:
             require(graph.kind == 'differs')
             made, is_outer = self.put_all(terms, graph.arguments), is_over(len(terms), graph.arguments)
             require(self.numbers[graph.symbol] == function and is_outer and made == arguments and graph.term == name_term(len(terms)))
-            terms = self.copy(*terms) + (value,)
+            terms = terms + (value,)
         self.implied_by(variable, one, formula, terms)
 
     def do_instance(self, variable, one, values):
@@ -385,14 +368,12 @@ class ClauseProof:
         for value in values:
             require(formula.kind == 'some')
             formula = formula.members[0]
-            self.copy(value)
-            terms = self.copy(*terms) + (value,)
+            terms = terms + (value,)
         self.implied_by(variable, one, formula, terms)
 
     def implied_by(self, variable, one, formula, terms):
         """The variable is true where the formula with these terms is, for which the literal stands."""
         meant = self.literal_of(formula, terms)
-        self.purse.pay(2)
         self.stand(meant, one)
         self.clauses.append((Literal(variable, True), opposite(one)))
 
@@ -400,21 +381,19 @@ class ClauseProof:
 
     def do_geq(self, one):
         require(is_over(self.count, [one]))
-        self.copy(one)
         self.definitions.append(self.inequality(one)[0])
 
     def do_eq(self, one):
         require(is_over(self.count, [one]))
-        self.copy(one)
         self.definitions.append(self.equation(one)[0])
 
     def do_pred(self, predicate, terms):
         require(is_over(self.count, terms))
-        self.definitions.append(Definition('holds', None, predicate, self.copy(*terms)))
+        self.definitions.append(Definition('holds', None, predicate, tuple(terms)))
 
     def do_split(self, variable, above, below):
-        one, = self.copy(self.known(variable, '=').term)
-        meant = [self.inequality(self.combine(sign, one, 1, MINUS_ONE)) for sign in (1, -1)]
+        one = self.known(variable, '=').term
+        meant = [self.inequality(combine(sign, one, 1, MINUS_ONE)) for sign in (1, -1)]
         self.stand(meant[0], above)
         self.stand(meant[1], below)
         self.clauses.append((Literal(variable, True), above, below))
@@ -423,24 +402,23 @@ class ClauseProof:
         """What the falsity of a literal says of a term: that it is 0 (True), or at least 0 (False)."""
         definition = self.known(one.variable, '>=', '=')
         if definition.kind == '>=' and one.positive:
-            return self.combine(-1, definition.term, 1, MINUS_ONE), False
+            return combine(-1, definition.term, 1, MINUS_ONE), False
         require(definition.kind == '>=' or not one.positive)
-        return self.copy(definition.term)[0], definition.kind == '='
+        return definition.term, definition.kind == '='
 
     def do_sum(self, factors):
         total, is_exact = number_term(0), True
         for one, by in factors:
-            self.purse.pay(1)
             fact, is_equation = self.fact(one)
             require(is_equation or by >= 0)
-            total, is_exact = self.combine(1, total, by, fact), is_exact and is_equation
+            total, is_exact = combine(1, total, by, fact), is_exact and is_equation
         require((self.equation if is_exact else self.inequality)(total) == (ALWAYS, False))
         self.clauses.append(tuple(one for one, _ in factors))
 
     def do_divide(self, divisor, one, least, most):
         require(divisor > 0 and is_over(self.count, [one]))
-        rest = self.combine(1, one, -divisor, name_term(self.count))
-        below = self.combine(-1, rest, 1, number_term(divisor - 1))
+        rest = combine(1, one, -divisor, name_term(self.count))
+        below = combine(-1, rest, 1, number_term(divisor - 1))
         meant = self.inequality(rest), self.inequality(below)
         self.stand(meant[0], least)
         self.stand(meant[1], most)
@@ -451,10 +429,9 @@ class ClauseProof:
 
     def equations(self, ones, others):
         """What makes the equations of arguments."""
-        return [lambda s=s, t=t: self.equation(self.combine(1, s, -1, t)) for s, t in zip(ones, others)]
+        return [lambda s=s, t=t: self.equation(combine(1, s, -1, t)) for s, t in zip(ones, others)]
 
     def do_pair(self, first, second, result, literals):
-        self.purse.pay(len(literals) + 1)
         one, other = self.application(first), self.application(second)
         require(one[0] == other[0] and len(one[1]) == len(other[1]))
         self.stand_all(self.equations((one[2],) + one[1], (other[2],) + other[1]), [result] + literals)
@@ -462,27 +439,20 @@ class ClauseProof:
 
     def do_pred_pair(self, first, second, literals):
         one = self.known(first, 'holds')
-        self.copy(*one.arguments)
         other = self.known(second, 'holds')
-        self.copy(*other.arguments)
         require(one.symbol == other.symbol and len(one.arguments) == len(other.arguments))
-        self.purse.pay(len(literals) + 1)
         self.stand_all(self.equations(one.arguments, other.arguments), literals)
         self.clauses.append((Literal(first, False), Literal(second, True), *map(opposite, literals)))
 
     def do_resolve(self, clause, hints):
-        self.purse.pay(len(clause) + 1)
         require(all(one.variable < len(self.definitions) for one in clause))
-        self.purse.pay(len(clause))
         require(self.clashes(set(clause), hints))
         self.clauses.append(tuple(clause))
 
     def clashes(self, false, hints):
         """Whether the clauses in turn clash with the falsity of these literals: each has one literal left, which so is true, until one has none."""
         for hint in hints:
-            self.purse.pay(1)
             require(hint < len(self.clauses) and self.clauses[hint] is not None)
-            self.purse.pay(len(self.clauses[hint]))
             left = [one for one in self.clauses[hint] if one not in false]
             if not left:
                 return True
@@ -491,7 +461,6 @@ class ClauseProof:
         return False
 
     def do_delete(self, numbers):
-        self.purse.pay(len(numbers))
         for number in numbers:
             if number < len(self.clauses):
                 self.clauses[number] = None

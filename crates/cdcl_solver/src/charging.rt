@@ -7,7 +7,8 @@ ghost use Rattle.std.specs.Prelude.{◌≢◌, ◌≤◌};
 use base_budget::Purse;
 use base_limits::MOST_BUDGET;
 use cdcl_steps::Proof;
-use clause_checker::{Fault, check};
+use clause_checker::{Fault, begin, ends_empty, step};
+use clause_marks::Marks;
 use formula::{Core, depth, size};
 use linear_term::Memory;
 use std::alloc::Global;
@@ -53,10 +54,23 @@ pub(crate) fn charges(
             return Ok(None);
         }
     }
-    let lines = proof.lines.as_slice();
-    match check(alloc, &mut purse, prepared, &[], proof.root, lines) {
+    match check(alloc, &mut purse, prepared, proof) {
         Ok(()) => Ok(u32::try_from(purse.spent()).ok()),
         Err(Fault::Memory) => Err(Memory),
         Err(_) => Ok(None),
+    }
+}
+
+/// Checks the lines of the proof, as a check of a file does.
+fn check(alloc: Global, purse: &mut Purse, root: &Core, proof: &Proof) -> Result<(), Fault> {
+    let mut marks = Marks::new(alloc);
+    let mut state = begin(alloc, purse, root, &[], proof.root)?;
+    for line in proof.lines.as_slice() {
+        step(alloc, purse, &mut marks, &mut state, line)?;
+    }
+    if ends_empty(state.clauses.as_slice()) {
+        Ok(())
+    } else {
+        Err(Fault::Refused)
     }
 }

@@ -1,8 +1,7 @@
 -- Lines and whole proofs.
 use Rattle.std.proofs.Common.{◌≡◌, ℕ, ◌<◌, ◌≤◌, ◌+◌, ◌-◌, ℤ, Bool, true, false, List, [], ◌∷◌, map, drop, length, get_or, Option, Some, None, Result, Ok, Err, IsErrAnd, IsTrue, refl, sym, ap, ◌∙◌, subst, arith}
 use Rattle.std.specs.List.{slice_get}
-use Rattle.form_typed.specs.Truth.{Meaning}
-use Rattle.formula.specs.Form.{Form, FormTruth}
+use Rattle.formula.specs.Form.{Form}
 use Rattle.linear_term.specs.Linear.{number}
 use Rattle.base_budget.proofs.Charging.{drop-item, drop_all}
 use Rattle.clause_proof.specs.declared.line.Literal.{Literal}
@@ -11,10 +10,8 @@ use Rattle.clause_proof.specs.declared.line.Line.TheVariants as line
 use Rattle.clause_proof.specs.Clauses as q
 use Rattle.clause_proof.specs.Atoms as atoms
 use Rattle.clause_proof.specs.Lines.{found, added, after, extended, without_clauses, stand_all, positive, opposite}
-use Rattle.clause_proof.specs.Proofs.{start, run, is_empty, ends_so, ends_empty, IsClauseProof}
-use Rattle.clause_proof.proofs.Sound.{proof_shows}
+use Rattle.clause_proof.specs.Proofs.{start, run, is_empty, ends_so, ends_empty}
 use Rattle.clause_checker.specs.declared.fault.Fault.{Fault}
-use Rattle.clause_checker.specs.declared.fault.Fault.TheVariants.{Refused}
 use Rattle.clause_checker.specs.declared.state.State.{State}
 use Rattle.clause_checker.specs.declared.state.Definition.{Definition}
 use Rattle.clause_checker.specs.Answers.{Does}
@@ -143,33 +140,3 @@ pub end_tested : (cs : List (Option (List Literal))) (c : List Literal) (b : Boo
 end_tested cs c b at h = end_clause cs c b at (empty_test c b h.0 h.1)
 
 pub ruleset ending = (end_none, end_clause, end_deleted, end_missing)
-
--- ---- a whole proof
-pub is_proof : (f : Form) (ks : List ℤ) (m : Literal) (ls : List Line) (s : State) (t : q.State) → Does state_of (start f ks m) (Ok s) → Does (λ (u : Unit {0}). t) (run (state_of s) ls) (Ok tt) → true ≡ ends_empty t.clauses → IsClauseProof f ks m ls
-is_proof f ks m ls s t b d ends = record { last = t; runs = ap (λ o. found o (λ x. run x ls)) (b.ok s refl) ∙ d.ok tt refl; ends = sym ends }
-
-pub is_true : (f : Form) (ks : List ℤ) (m : Literal) (ls : List Line) (w : Meaning) → IsClauseProof f ks m ls → FormTruth w f ks
-is_true f ks m ls w p = proof_shows w f ks m ls p
-
-no_proof : (f : Form) (ks : List ℤ) (m : Literal) (ls : List Line) → found (start f ks m) (λ s. run s ls) ≡ None → ¬ (IsClauseProof f ks m ls)
-no_proof f ks m ls h p = let same : None ≡ Some p.last = sym h ∙ p.runs in absurd (cc)
-
-refused_is : {A B : Type 0} (v : A → B) (r : Result (Unit {0}) Fault) (e : Fault) (o : Option B) → IsErrAnd r (λ x. x ≡ e) → Does v o (Err e) → r ≡ Err Refused → o ≡ None
-refused_is v (Ok x) e o err d is = absurd err
-refused_is v (Err y) e o err d is = let y_is : y ≡ Refused = cc in d.refused (ap Err (sym err ∙ y_is))
-
-pub not_begun : (f : Form) (ks : List ℤ) (m : Literal) (ls : List Line) (e : Fault) (r : Result (Unit {0}) Fault) → IsErrAnd r (λ x. x ≡ e) → Does state_of (start f ks m) (Err e) → r ≡ Err Refused → ¬ (IsClauseProof f ks m ls)
-not_begun f ks m ls e r err d refused = no_proof f ks m ls (ap (λ o. found o (λ s. run s ls)) (refused_is state_of r e (start f ks m) err d refused))
-
-pub not_run : (f : Form) (ks : List ℤ) (m : Literal) (ls : List Line) (s : State) (t : q.State) (e : Fault) (r : Result (Unit {0}) Fault) → Does state_of (start f ks m) (Ok s) → IsErrAnd r (λ x. x ≡ e)
-    → Does (λ (u : Unit {0}). t) (run (state_of s) ls) (Err e) → r ≡ Err Refused → ¬ (IsClauseProof f ks m ls)
-not_run f ks m ls s t e r b err d refused = no_proof f ks m ls (ap (λ o. found o (λ x. run x ls)) (b.ok s refl) ∙ refused_is (λ (u : Unit {0}). t) r e (run (state_of s) ls) err d refused)
-
-pub not_ended : (f : Form) (ks : List ℤ) (m : Literal) (ls : List Line) (s : State) (t : q.State) → Does state_of (start f ks m) (Ok s) → Does (λ (u : Unit {0}). t) (run (state_of s) ls) (Ok tt) → false ≡ ends_empty t.clauses → ¬ (IsClauseProof f ks m ls)
-not_ended f ks m ls s t b d ends p =
-    let same : Some t ≡ Some p.last = sym (ap (λ o. found o (λ x. run x ls)) (b.ok s refl) ∙ d.ok tt refl) ∙ p.runs in
-    let one : t ≡ p.last = cc in
-    let both : false ≡ true = ends ∙ ap (λ x. ends_empty x.clauses) one ∙ p.ends in
-    absurd (cc)
-
-pub ruleset checking = (is_proof, is_true, not_begun, not_run, not_ended)

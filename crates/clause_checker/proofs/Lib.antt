@@ -11,3 +11,5 @@ pub mod Checks
 pub mod Atoms
 pub mod Pairs
 pub mod Inner
+pub mod Prices
+pub mod Paying

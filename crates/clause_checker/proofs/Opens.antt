@@ -19,13 +19,13 @@ use Rattle.clause_checker.specs.declared.state.Definition.{Definition}
 use Rattle.clause_checker.specs.declared.state.State.{State}
 use Rattle.clause_checker.specs.Answers.{Does}
 use Rattle.clause_checker.specs.Views.{definition_of, definitions_of, state_of, inner_of, pair_up}
-use Rattle.clause_checker.proofs.Doing.{does_some, does_none, does_cut, does_on, does_then, does_err, does_as}
+use Rattle.clause_checker.proofs.Doing.{does_some, does_none, does_cut, does_room, does_on, does_then, does_err, does_as}
 
 -- ---- a variable by its number
-at_some : (ds : List Definition) (i : ℕ) (o : Option (Bor Definition)) (r : Bor Definition) → option_copied o ≡ slice_get ds i → o ≡ Some r → slice_get (definitions_of ds) i ≡ Some (definition_of r.now)
+pub at_some : (ds : List Definition) (i : ℕ) (o : Option (Bor Definition)) (r : Bor Definition) → option_copied o ≡ slice_get ds i → o ≡ Some r → slice_get (definitions_of ds) i ≡ Some (definition_of r.now)
 at_some ds i o r is at = slice_get-map definition_of ds i ∙ ap (option_map definition_of) (sym is ∙ ap option_copied at)
 
-at_none : (ds : List Definition) (i : ℕ) (o : Option (Bor Definition)) → option_copied o ≡ slice_get ds i → o ≡ None → slice_get (definitions_of ds) i ≡ None
+pub at_none : (ds : List Definition) (i : ℕ) (o : Option (Bor Definition)) → option_copied o ≡ slice_get ds i → o ≡ None → slice_get (definitions_of ds) i ≡ None
 at_none ds i o is at = slice_get-map definition_of ds i ∙ ap (option_map definition_of) (sym is ∙ ap option_copied at)
 
 pub found_some : {A B : Type 0} (v : A → B) (ds : List Definition) (i : ℕ) (o : Option (Bor Definition)) (d : Bor Definition) (k : q.Definition → Option B) (r : Result A Fault) → option_copied o ≡ slice_get ds i → o ≡ Some d
@@ -93,7 +93,7 @@ adds_not s t xs ms cs n D e r err d =
     does_err (λ (u : Unit {0}). definitions_of D) (λ (u : Unit {0}). state_of t) (stand_all (definitions_of s.definitions) xs ms)
     (λ l. Some (record { definitions = l; clauses = s.clauses ++ map Some cs; applications = s.applications ++ []; count = n })) e r err d
 
-pub ruleset extending = (adds_stood, adds_not, does_cut, does_on)
+pub ruleset extending = (adds_stood, adds_not, does_cut, does_room, does_on)
 
 -- ---- one literal, alone in a list
 list_one : (ms : List Literal) (m : Literal) → length ms ≡ 1 → slice_get ms 0 ≡ Some m → ms ≡ m ∷ []
@@ -144,4 +144,4 @@ applied_is s t f ts us b is yes_is same d c a k =
     (ap (λ x. found (cond x (Some (record { meant = []; literals = []; clauses = []; applications = record { function = f; terms = ts; constant = s.count } ∷ []; count = suc s.count })) None) (extended (state_of s))) (sym is ∙ yes_is)
     ∙ ap Some (λ i. record { definitions = sym (ap definitions_of d) i; clauses = (append-nil s.clauses ∙ sym c) i; applications = sym all i; count = sym one i }))
 
-pub ruleset applying = (applied_not, applied_is, does_cut)
+pub ruleset applying = (applied_not, applied_is, does_cut, does_room)

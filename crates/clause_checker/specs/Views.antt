@@ -96,3 +96,14 @@ equation_at ss ts es i ds = lines.found (slice_get ss i) (λ s. lines.found (sli
 abbrev pub predicate_of : clauses.Definition → Option (ℕ × List Linear)
 predicate_of (clauses.predicate p ts) = Some (p, ts)
 predicate_of d = None
+
+-- the formulas that formulas of the code are
+abbrev pub form_is : Bor Core → Form
+form_is f = form f.now
+
+abbrev pub pair_is : Bor Core × Bor Core → Form × Form
+pair_is x = (form x.0.now, form x.1.now)
+
+-- the formula and the terms of a closure of the code
+abbrev pub parts_are : Bor Core × Bor (List Linear) → Form × List Linear
+parts_are x = (form x.0.now, x.1.now)

@@ -4,14 +4,12 @@ ghost use Rattle.std.specs.Prelude.{◌≡◌, ◌<ℤ◌, pos, unsigned_abs, Al
 ghost use Rattle.base_integers.specs.Divides.{divides, Divides};
 ghost use Rattle.linear_term.specs.Range.{InRange};
 ghost use Rattle.clause_proof.specs.Atoms as atoms;
-ghost use Rattle.clause_checker.specs.Answers.{HasCause, IsOther};
+ghost use Rattle.clause_checker.specs.Answers.{IsCut};
 ghost use Rattle.clause_checker.specs.Views.{signed_of};
 
-use crate::charging::charge;
 use crate::fault::Fault;
 use crate::putting::combine;
 use crate::state::{Definition, Signed};
-use base_budget::Purse;
 use linear_term::{Memory, Term, floor_div, gcd};
 use std::alloc::Global;
 
@@ -96,44 +94,36 @@ fn leads_negative(pairs: &[(u32, i128)]) -> bool
 }
 
 /// t - 1.
-pub(crate) fn less_one(alloc: Global, purse: &mut Purse, t: &Term) -> Result<Term, Fault>
+pub(crate) fn less_one(alloc: Global, t: &Term) -> Result<Term, Fault>
     ensures ok { IfOk result (λ u. u ≡ atoms.less_one t.now) }
-    ensures err { IfErr result IsOther }
-    ensures cause { IfErr result (HasCause purse.new) }
-    ensures budget { purse.new.budget ≡ purse.old.budget }
+    ensures err { IfErr result IsCut }
 {
-    combine(purse, 1, t, 1, &Term::number(alloc, -1))
+    combine(1, t, 1, &Term::number(alloc, -1))
 }
 
 /// -t - 1.
-pub(crate) fn opposite_less_one(alloc: Global, purse: &mut Purse, t: &Term) -> Result<Term, Fault>
+pub(crate) fn opposite_less_one(alloc: Global, t: &Term) -> Result<Term, Fault>
     ensures ok { IfOk result (λ u. u ≡ atoms.opposite_less_one t.now) }
-    ensures err { IfErr result IsOther }
-    ensures cause { IfErr result (HasCause purse.new) }
-    ensures budget { purse.new.budget ≡ purse.old.budget }
+    ensures err { IfErr result IsCut }
 {
-    combine(purse, -1, t, 1, &Term::number(alloc, -1))
+    combine(-1, t, 1, &Term::number(alloc, -1))
 }
 
 /// -t.
-fn opposite_term(alloc: Global, purse: &mut Purse, t: &Term) -> Result<Term, Fault>
+fn opposite_term(alloc: Global, t: &Term) -> Result<Term, Fault>
     ensures ok { IfOk result (λ u. u ≡ atoms.opposite_term t.now) }
-    ensures err { IfErr result IsOther }
-    ensures cause { IfErr result (HasCause purse.new) }
-    ensures budget { purse.new.budget ≡ purse.old.budget }
+    ensures err { IfErr result IsCut }
 {
-    combine(purse, -1, t, 0, &Term::number(alloc, 0))
+    combine(-1, t, 0, &Term::number(alloc, 0))
 }
 
 /// t >= 0, by the one of both terms whose first coefficient is positive.
-fn turned_inequality<'a>(alloc: Global, purse: &mut Purse, t: Term) -> Result<Signed<'a>, Fault>
+fn turned_inequality<'a>(alloc: Global, t: Term) -> Result<Signed<'a>, Fault>
     ensures ok { IfOk result (λ x. signed_of x ≡ atoms.turned_inequality t) }
-    ensures err { IfErr result IsOther }
-    ensures cause { IfErr result (HasCause purse.new) }
-    ensures budget { purse.new.budget ≡ purse.old.budget }
+    ensures err { IfErr result IsCut }
 {
     if leads_negative(t.pairs()) {
-        let opposite = opposite_less_one(alloc, purse, &t)?;
+        let opposite = opposite_less_one(alloc, &t)?;
         return Ok(Signed {
             definition: Definition::AtLeastZero(opposite),
             positive: false,
@@ -147,35 +137,26 @@ fn turned_inequality<'a>(alloc: Global, purse: &mut Purse, t: Term) -> Result<Si
 
 /// The literal of t >= 0.
 #[tactic(auto, using(crate::proofs::Quotients::kinds, crate::proofs::Causes::causes))]
-pub(crate) fn inequality_literal<'a>(
-    alloc: Global,
-    purse: &mut Purse,
-    t: Term,
-) -> Result<Signed<'a>, Fault>
+pub(crate) fn inequality_literal<'a>(alloc: Global, t: Term) -> Result<Signed<'a>, Fault>
     ensures ok { IfOk result (λ x. signed_of x ≡ atoms.inequality_literal t) }
-    ensures err { IfErr result IsOther }
-    ensures cause { IfErr result (HasCause purse.new) }
-    ensures budget { purse.new.budget ≡ purse.old.budget }
+    ensures err { IfErr result IsCut }
 {
     if t.pairs().is_empty() {
         return Ok(known(0 <= t.constant()));
     }
-    charge(purse, t.len() as u64)?;
     let g = content(&t);
     let q = quotient(alloc, g, t)?;
-    let literal = turned_inequality(alloc, purse, q)?;
+    let literal = turned_inequality(alloc, q)?;
     Ok(literal)
 }
 
 /// t = 0, by the one of both terms whose first coefficient is positive.
-fn turned_equation<'a>(alloc: Global, purse: &mut Purse, t: Term) -> Result<Signed<'a>, Fault>
+fn turned_equation<'a>(alloc: Global, t: Term) -> Result<Signed<'a>, Fault>
     ensures ok { IfOk result (λ x. signed_of x ≡ atoms.turned_equation t) }
-    ensures err { IfErr result IsOther }
-    ensures cause { IfErr result (HasCause purse.new) }
-    ensures budget { purse.new.budget ≡ purse.old.budget }
+    ensures err { IfErr result IsCut }
 {
     if leads_negative(t.pairs()) {
-        let opposite = opposite_term(alloc, purse, &t)?;
+        let opposite = opposite_term(alloc, &t)?;
         return Ok(Signed {
             definition: Definition::IsZero(opposite),
             positive: true,
@@ -197,25 +178,18 @@ fn divides(h: i128, k: i128) -> bool
 
 /// The literal of t = 0.
 #[tactic(auto, using(crate::proofs::Quotients::kinds, crate::proofs::Causes::causes))]
-pub(crate) fn equation_literal<'a>(
-    alloc: Global,
-    purse: &mut Purse,
-    t: Term,
-) -> Result<Signed<'a>, Fault>
+pub(crate) fn equation_literal<'a>(alloc: Global, t: Term) -> Result<Signed<'a>, Fault>
     ensures ok { IfOk result (λ x. signed_of x ≡ atoms.equation_literal t) }
-    ensures err { IfErr result IsOther }
-    ensures cause { IfErr result (HasCause purse.new) }
-    ensures budget { purse.new.budget ≡ purse.old.budget }
+    ensures err { IfErr result IsCut }
 {
     if t.pairs().is_empty() {
         return Ok(known(t.constant() == 0));
     }
-    charge(purse, t.len() as u64)?;
     let g = content(&t);
     if !divides(g, t.constant()) {
         return Ok(known(false));
     }
     let q = quotient(alloc, g, t)?;
-    let literal = turned_equation(alloc, purse, q)?;
+    let literal = turned_equation(alloc, q)?;
     Ok(literal)
 }

@@ -1,26 +1,23 @@
-// What cuts a call: a charge that passes the budget, or a number that is no coefficient.
+// What a call pays, and numbers that are to be coefficients.
 
-ghost use Rattle.std.specs.Prelude.{◌≡◌, ◌+◌, ◌<◌, IfOk, IfErr, OnErr, OnOk};
+ghost use Rattle.std.specs.Prelude.{◌≡◌, ◌+◌, ◌<◌, IfErr, IfOk, OnErr, OnOk};
+ghost use Rattle.clause_checker.specs.Answers.{IsCut};
+ghost use Rattle.clause_checker.specs.declared.fault.Fault.TheVariants.{Steps};
 ghost use Rattle.linear_term.specs.Range.{InRange};
-ghost use Rattle.clause_checker.specs.Answers.{HasCause, IsOther, IsUncharged};
 
 use crate::fault::Fault;
 use base_budget::Purse;
 use linear_term::{Place, in_range};
 
-/// Spends n more steps. Where that passes the budget, what is left is spent, and the answer is Steps.
-pub(crate) fn charge(purse: &mut Purse, n: u64) -> Result<(), Fault>
-    ensures ok { OnOk result (purse.new.spent ≡ purse.old.spent + n) }
+/// Spends n more steps, or answers Steps where that passes the budget; then nothing is spent.
+pub(crate) fn pay(purse: &mut Purse, n: u64) -> Result<(), Fault>
+    ensures ok { OnOk result (purse.new ≡ record purse.old { spent = purse.old.spent + n }) }
     ensures passes { OnErr result (purse.old.budget < purse.old.spent + n) }
-    ensures err { IfErr result IsOther }
-    ensures cause { IfErr result (HasCause purse.new) }
-    ensures budget { purse.new.budget ≡ purse.old.budget }
+    ensures err { IfErr result (λ e. e ≡ Steps) }
 {
     if purse.charge(n).is_ok() {
         return Ok(());
     }
-    let left = purse.budget() - purse.spent();
-    let _ = purse.charge(left);
     Err(Fault::Steps)
 }
 
@@ -29,8 +26,7 @@ pub(crate) fn charge(purse: &mut Purse, n: u64) -> Result<(), Fault>
 pub(crate) fn coefficient(k: i128) -> Result<i128, Fault>
     ensures ok { IfOk result (λ n. n ≡ k) }
     ensures range { IfOk result InRange }
-    ensures err { IfErr result IsOther }
-    ensures cause { IfErr result IsUncharged }
+    ensures err { IfErr result IsCut }
 {
     if in_range(k) {
         return Ok(k);

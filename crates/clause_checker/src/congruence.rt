@@ -7,7 +7,7 @@ ghost use Rattle.linear_term.specs.Linear as linear;
 ghost use Rattle.linear_term.specs.Combination.{combination};
 ghost use Rattle.clause_proof.specs.Atoms as atoms;
 ghost use Rattle.clause_proof.specs.Lines as lines;
-ghost use Rattle.clause_checker.specs.Answers.{Does, HasCause};
+ghost use Rattle.clause_checker.specs.Answers.{Does, IsRefusedOrCut};
 ghost use Rattle.clause_checker.specs.Views.{definition_of, definitions_of, equation_at, predicate_of, state_of};
 
 use crate::canonical::equation_literal;
@@ -17,7 +17,6 @@ use crate::putting::{combine, copied};
 use crate::reading::application_at;
 use crate::standing::stand;
 use crate::state::{Definition, State};
-use base_budget::Purse;
 use clause_proof::{Application, Literal};
 use linear_term::Term;
 use sqlite_items::{Items, at};
@@ -27,18 +26,16 @@ use std::alloc::Global;
 #[tactic(auto, using(crate::proofs::Stands::single, crate::proofs::Causes::causes))]
 fn stand_equation<'a>(
     alloc: Global,
-    purse: &mut Purse,
     definitions: &mut Items<Definition<'a>>,
     s: &Term,
     t: &Term,
     m: Literal,
 ) -> Result<(), Fault>
     ensures does { Does (λ u. definitions_of definitions.new) (lines.stand (definitions_of definitions.old) (atoms.equation_literal (combination (pos 1) s.now (negsuc 0) t.now)) m) result }
-    ensures cause { IfErr result (HasCause purse.new) }
-    ensures budget { purse.new.budget ≡ purse.old.budget }
+    ensures cause { IfErr result IsRefusedOrCut }
 {
-    let difference = combine(purse, 1, s, -1, t)?;
-    let x = equation_literal(alloc, purse, difference)?;
+    let difference = combine(1, s, -1, t)?;
+    let x = equation_literal(alloc, difference)?;
     stand(definitions, x, m)
 }
 
@@ -46,7 +43,6 @@ fn stand_equation<'a>(
 #[tactic(auto, using(crate::proofs::Stands::items, crate::proofs::Causes::causes))]
 fn stand_equation_at<'a>(
     alloc: Global,
-    purse: &mut Purse,
     definitions: &mut Items<Definition<'a>>,
     ss: &[Term],
     ts: &[Term],
@@ -54,8 +50,7 @@ fn stand_equation_at<'a>(
     i: usize,
 ) -> Result<(), Fault>
     ensures does { Does (λ u. definitions_of definitions.new) (equation_at ss.now ts.now literals.now i (definitions_of definitions.old)) result }
-    ensures cause { IfErr result (HasCause purse.new) }
-    ensures budget { purse.new.budget ≡ purse.old.budget }
+    ensures cause { IfErr result IsRefusedOrCut }
 {
     match at(ss, i) {
         None => Err(Fault::Refused),
@@ -63,7 +58,7 @@ fn stand_equation_at<'a>(
             None => Err(Fault::Refused),
             Some(t) => match at(literals, i) {
                 None => Err(Fault::Refused),
-                Some(m) => stand_equation(alloc, purse, definitions, s, t, *m),
+                Some(m) => stand_equation(alloc, definitions, s, t, *m),
             },
         },
     }
@@ -73,7 +68,6 @@ fn stand_equation_at<'a>(
 #[tactic(auto, using(crate::proofs::Pairs::walking, crate::proofs::Causes::causes))]
 fn stand_equations<'a>(
     alloc: Global,
-    purse: &mut Purse,
     definitions: &mut Items<Definition<'a>>,
     ss: &[Term],
     ts: &[Term],
@@ -81,11 +75,10 @@ fn stand_equations<'a>(
 ) -> Result<(), Fault>
     requires { length ss.now ≡ length ts.now }
     ensures does { Does (λ u. definitions_of definitions.new) (lines.stand_all (definitions_of definitions.old) (lines.equations ss.now ts.now) literals.now) result }
-    ensures cause { IfErr result (HasCause purse.new) }
-    ensures budget { purse.new.budget ≡ purse.old.budget }
+    ensures cause { IfErr result IsRefusedOrCut }
 {
     for i in 0..ss.len() {
-        stand_equation_at(alloc, purse, definitions, ss, ts, literals, i)?;
+        stand_equation_at(alloc, definitions, ss, ts, literals, i)?;
     }
     if ss.len() < literals.len() {
         return Err(Fault::Refused);
@@ -97,7 +90,6 @@ fn stand_equations<'a>(
 #[tactic(auto, using(crate::proofs::Stands::two, crate::proofs::Causes::causes))]
 fn stand_pair<'a>(
     alloc: Global,
-    purse: &mut Purse,
     definitions: &mut Items<Definition<'a>>,
     x: &Application,
     y: &Application,
@@ -106,15 +98,13 @@ fn stand_pair<'a>(
 ) -> Result<(), Fault>
     requires { length x.now.terms ≡ length y.now.terms }
     ensures does { Does (λ u. definitions_of definitions.new) (lines.stand_all (definitions_of definitions.old) (atoms.equation_literal (combination (pos 1) (linear.name x.now.constant) (negsuc 0) (linear.name y.now.constant)) ∷ lines.equations x.now.terms y.now.terms) (r ∷ es.now)) result }
-    ensures cause { IfErr result (HasCause purse.new) }
-    ensures budget { purse.new.budget ≡ purse.old.budget }
+    ensures cause { IfErr result IsRefusedOrCut }
 {
     let c = Term::name(alloc, x.constant);
     let d = Term::name(alloc, y.constant);
-    stand_equation(alloc, purse, definitions, &c, &d, r)?;
+    stand_equation(alloc, definitions, &c, &d, r)?;
     stand_equations(
         alloc,
-        purse,
         definitions,
         x.terms.as_slice(),
         y.terms.as_slice(),
@@ -126,7 +116,6 @@ fn stand_pair<'a>(
 #[tactic(auto, using(crate::proofs::Pairs::pairs, crate::proofs::Causes::causes))]
 pub(crate) fn pair(
     alloc: Global,
-    purse: &mut Purse,
     state: &mut State,
     a: u32,
     b: u32,
@@ -134,10 +123,9 @@ pub(crate) fn pair(
     r: Literal,
 ) -> Result<(), Fault>
     ensures does { Does (λ u. state_of state.new) (lines.found (lines.found (slice_get state.old.applications a) (λ x. lines.found (slice_get state.old.applications b) (lines.paired (state_of state.old) es.now r x))) (lines.extended (state_of state.old))) result }
-    ensures cause { IfErr result (HasCause purse.new) }
-    ensures budget { purse.new.budget ≡ purse.old.budget }
+    ensures cause { IfErr result IsRefusedOrCut }
 {
-    let clauses = one(alloc, with_opposites(alloc, purse, &[r], es)?)?;
+    let clauses = one(alloc, with_opposites(alloc, &[r], es)?)?;
     let x = application_at(state.applications.as_slice(), a)?;
     let y = application_at(state.applications.as_slice(), b)?;
     if x.function != y.function {
@@ -146,25 +134,20 @@ pub(crate) fn pair(
     if x.terms.len() != y.terms.len() {
         return Err(Fault::Refused);
     }
-    stand_pair(alloc, purse, &mut state.definitions, x, y, es, r)?;
+    stand_pair(alloc, &mut state.definitions, x, y, es, r)?;
     state.clauses.append(clauses)?;
     Ok(())
 }
 
 /// The predicate and the terms of a definition.
 #[tactic(auto, using(crate::proofs::Doing::doing, crate::proofs::Causes::causes))]
-fn predicate_terms(
-    alloc: Global,
-    purse: &mut Purse,
-    d: &Definition,
-) -> Result<(u32, Items<Term>), Fault>
+fn predicate_terms(alloc: Global, d: &Definition) -> Result<(u32, Items<Term>), Fault>
     ensures does { Does (λ x. x) (predicate_of (definition_of d.now)) result }
-    ensures cause { IfErr result (HasCause purse.new) }
-    ensures budget { purse.new.budget ≡ purse.old.budget }
+    ensures cause { IfErr result IsRefusedOrCut }
 {
     match d {
         Definition::Predicate(p, ts) => {
-            let terms = copied(alloc, purse, ts.as_slice())?;
+            let terms = copied(alloc, ts.as_slice())?;
             Ok((*p, terms))
         }
         Definition::Always => Err(Fault::Refused),
@@ -178,17 +161,15 @@ fn predicate_terms(
 #[tactic(auto, using(crate::proofs::Opens::found_ones, crate::proofs::Causes::causes))]
 fn predicate_at(
     alloc: Global,
-    purse: &mut Purse,
     definitions: &[Definition],
     i: u32,
 ) -> Result<(u32, Items<Term>), Fault>
     ensures does { Does (λ x. x) (lines.found (slice_get (definitions_of definitions.now) i) predicate_of) result }
-    ensures cause { IfErr result (HasCause purse.new) }
-    ensures budget { purse.new.budget ≡ purse.old.budget }
+    ensures cause { IfErr result IsRefusedOrCut }
 {
     match at(definitions, i as usize) {
         None => Err(Fault::Refused),
-        Some(d) => predicate_terms(alloc, purse, d),
+        Some(d) => predicate_terms(alloc, d),
     }
 }
 
@@ -196,7 +177,6 @@ fn predicate_at(
 #[tactic(auto, using(crate::proofs::Opens::extending, crate::proofs::Causes::causes))]
 fn pair_terms(
     alloc: Global,
-    purse: &mut Purse,
     state: &mut State,
     i: u32,
     j: u32,
@@ -206,12 +186,11 @@ fn pair_terms(
 ) -> Result<(), Fault>
     requires { length ss.now ≡ length ts.now }
     ensures does { Does (λ u. state_of state.new) (lines.extended (state_of state.old) (lines.adding (lines.equations ss.now ts.now) es.now ((lines.negative i ∷ lines.positive j ∷ map lines.opposite es.now) ∷ []) state.old.count)) result }
-    ensures cause { IfErr result (HasCause purse.new) }
-    ensures budget { purse.new.budget ≡ purse.old.budget }
+    ensures cause { IfErr result IsRefusedOrCut }
 {
-    let clause = with_opposites(alloc, purse, &[negative(i), positive(j)], es)?;
+    let clause = with_opposites(alloc, &[negative(i), positive(j)], es)?;
     let clauses = one(alloc, clause)?;
-    stand_equations(alloc, purse, &mut state.definitions, ss, ts, es)?;
+    stand_equations(alloc, &mut state.definitions, ss, ts, es)?;
     state.clauses.append(clauses)?;
     Ok(())
 }
@@ -220,23 +199,21 @@ fn pair_terms(
 #[tactic(auto, using(crate::proofs::Pairs::predicate_pairs, crate::proofs::Causes::causes))]
 pub(crate) fn predicate_pair(
     alloc: Global,
-    purse: &mut Purse,
     state: &mut State,
     i: u32,
     j: u32,
     es: &[Literal],
 ) -> Result<(), Fault>
     ensures does { Does (λ u. state_of state.new) (lines.found (lines.found (slice_get (state_of state.old).definitions i) (λ c. lines.found (slice_get (state_of state.old).definitions j) (lines.predicates_paired (state_of state.old) i j es.now c))) (lines.extended (state_of state.old))) result }
-    ensures cause { IfErr result (HasCause purse.new) }
-    ensures budget { purse.new.budget ≡ purse.old.budget }
+    ensures cause { IfErr result IsRefusedOrCut }
 {
-    let (p, ss) = predicate_at(alloc, purse, state.definitions.as_slice(), i)?;
-    let (q, ts) = predicate_at(alloc, purse, state.definitions.as_slice(), j)?;
+    let (p, ss) = predicate_at(alloc, state.definitions.as_slice(), i)?;
+    let (q, ts) = predicate_at(alloc, state.definitions.as_slice(), j)?;
     if p != q {
         return Err(Fault::Refused);
     }
     if ss.len() != ts.len() {
         return Err(Fault::Refused);
     }
-    pair_terms(alloc, purse, state, i, j, es, ss.as_slice(), ts.as_slice())
+    pair_terms(alloc, state, i, j, es, ss.as_slice(), ts.as_slice())
 }

@@ -10,11 +10,11 @@ use std::alloc::{AllocError, AllocFailed};
 pub enum Fault {
     /// The lines are no proof.
     Refused,
-    /// A charge passes the budget, which is then spent whole.
+    /// The price of the line passes the budget.
     Steps,
     /// A number leaves the range of coefficients: this one.
     Overflow(Place),
-    /// A constant or a formula would have no number.
+    /// There are as many constants as have numbers.
     Room,
     Memory,
 }

@@ -7,15 +7,14 @@ ghost use Rattle.formula.specs.Tree.{form, forms_of};
 ghost use Rattle.clause_proof.specs.Atoms as atoms;
 ghost use Rattle.form_closures.specs.Putting as putting;
 ghost use Rattle.clause_proof.specs.Clauses as q;
-ghost use Rattle.clause_checker.specs.Answers.{HasCause, IsOther, IsUncharged};
+ghost use Rattle.clause_checker.specs.Answers.{IsCut};
+ghost use Rattle.clause_checker.specs.Prices.{IsGround, IsLevelAbove};
 ghost use Rattle.clause_checker.specs.Views.{signed_of};
 
 use crate::canonical::{equation_literal, inequality_literal, known};
-use crate::charging::charge;
 use crate::fault::Fault;
 use crate::putting::{put_all, put_in};
 use crate::state::{Definition, Signed};
-use base_budget::Purse;
 use formula::{Core, Shared};
 use linear_term::Term;
 use sqlite_items::{Items, at};
@@ -24,8 +23,7 @@ use std::alloc::Global;
 /// The closure.
 fn closure<'a>(f: &'a Core, ts: &Shared<Items<Term>>) -> Result<Signed<'a>, Fault>
     ensures ok { IfOk result (λ x. signed_of x ≡ atoms.plain (q.closure (form f.now) ts.now)) }
-    ensures err { IfErr result IsOther }
-    ensures cause { IfErr result IsUncharged }
+    ensures err { IfErr result IsCut }
 {
     Ok(Signed {
         definition: Definition::Closure(f, ts.share()?),
@@ -36,18 +34,15 @@ fn closure<'a>(f: &'a Core, ts: &Shared<Items<Term>>) -> Result<Signed<'a>, Faul
 /// The predicate at the terms, which have terms put in.
 fn predicate<'a>(
     alloc: Global,
-    purse: &mut Purse,
     p: u32,
     us: &[Term],
     ts: &[Term],
     positive: bool,
 ) -> Result<Signed<'a>, Fault>
     ensures ok { IfOk result (λ x. signed_of x ≡ record { definition = q.predicate p (map (putting.put_in ts.now) us.now); positive = positive }) }
-    ensures err { IfErr result IsOther }
-    ensures cause { IfErr result (HasCause purse.new) }
-    ensures budget { purse.new.budget ≡ purse.old.budget }
+    ensures err { IfErr result IsCut }
 {
-    let terms = put_all(alloc, purse, ts, us)?;
+    let terms = put_all(alloc, ts, us)?;
     Ok(Signed {
         definition: Definition::Predicate(p, terms),
         positive,
@@ -75,6 +70,8 @@ fn single_all<'a>(f: &Core, fs: &'a [Core]) -> Option<&'a Core>
     ensures some { IfSome result (λ g. atoms.inner_form (form f.now) ≡ atoms.inner_form (form g.now)) }
     ensures smaller { IfSome result (λ g. size (form g.now) < size (form f.now)) }
     ensures none { result ≡ None → atoms.inner_form (form f.now) ≡ form f.now }
+    ensures level { IfSome result (λ g. IsLevelAbove (form f.now) (form g.now)) }
+    ensures ground { result ≡ None → IsGround (form f.now) }
 {
     if fs.len() != 1 {
         return None;
@@ -92,6 +89,8 @@ fn single_any<'a>(f: &Core, fs: &'a [Core]) -> Option<&'a Core>
     ensures some { IfSome result (λ g. atoms.inner_form (form f.now) ≡ atoms.inner_form (form g.now)) }
     ensures smaller { IfSome result (λ g. size (form g.now) < size (form f.now)) }
     ensures none { result ≡ None → atoms.inner_form (form f.now) ≡ form f.now }
+    ensures level { IfSome result (λ g. IsLevelAbove (form f.now) (form g.now)) }
+    ensures ground { result ≡ None → IsGround (form f.now) }
 {
     if fs.len() != 1 {
         return None;
@@ -103,10 +102,12 @@ fn single_any<'a>(f: &Core, fs: &'a [Core]) -> Option<&'a Core>
 }
 
 /// The formula of which this conjunction or disjunction is the only one.
-fn single(f: &Core) -> Option<&Core>
+pub(crate) fn single(f: &Core) -> Option<&Core>
     ensures some { IfSome result (λ g. atoms.inner_form (form f.now) ≡ atoms.inner_form (form g.now)) }
     ensures smaller { IfSome result (λ g. size (form g.now) < size (form f.now)) }
     ensures none { result ≡ None → atoms.inner_form (form f.now) ≡ form f.now }
+    ensures level { IfSome result (λ g. IsLevelAbove (form f.now) (form g.now)) }
+    ensures ground { result ≡ None → IsGround (form f.now) }
 {
     match f {
         Core::And(fs) => single_all(f, fs.as_slice()),
@@ -123,19 +124,14 @@ fn single(f: &Core) -> Option<&Core>
 }
 
 /// The formula without conjunctions and disjunctions of one formula around it.
-fn inner<'a>(purse: &mut Purse, f: &'a Core) -> Result<&'a Core, Fault>
-    ensures ok { IfOk result (λ g. form g.now ≡ atoms.inner_form (form f.now)) }
-    ensures err { IfErr result IsOther }
-    ensures cause { IfErr result (HasCause purse.new) }
-    ensures budget { purse.new.budget ≡ purse.old.budget }
+fn inner(f: &Core) -> &Core
+    ensures { form result.now ≡ atoms.inner_form (form f.now) }
 {
-    charge(purse, 1)?;
     let mut rest = f;
     while let Some(g) = single(rest) {
-        charge(purse, 1)?;
         rest = g;
     }
-    Ok(rest)
+    rest
 }
 
 /// The literal of a conjunction.
@@ -143,8 +139,7 @@ fn inner<'a>(purse: &mut Purse, f: &'a Core) -> Result<&'a Core, Fault>
 fn all_of<'a>(f: &'a Core, fs: &[Core], ts: &Shared<Items<Term>>) -> Result<Signed<'a>, Fault>
     requires { form f.now ≡ conjunction (forms_of fs.now) }
     ensures ok { IfOk result (λ x. signed_of x ≡ atoms.literal_by (conjunction (forms_of fs.now)) ts.now) }
-    ensures err { IfErr result IsOther }
-    ensures cause { IfErr result IsUncharged }
+    ensures err { IfErr result IsCut }
 {
     if fs.is_empty() {
         return Ok(known(true));
@@ -158,8 +153,7 @@ fn all_of<'a>(f: &'a Core, fs: &[Core], ts: &Shared<Items<Term>>) -> Result<Sign
 fn any_of<'a>(f: &'a Core, fs: &[Core], ts: &Shared<Items<Term>>) -> Result<Signed<'a>, Fault>
     requires { form f.now ≡ disjunction (forms_of fs.now) }
     ensures ok { IfOk result (λ x. signed_of x ≡ atoms.literal_by (disjunction (forms_of fs.now)) ts.now) }
-    ensures err { IfErr result IsOther }
-    ensures cause { IfErr result IsUncharged }
+    ensures err { IfErr result IsCut }
 {
     if fs.is_empty() {
         return Ok(known(false));
@@ -171,55 +165,38 @@ fn any_of<'a>(f: &'a Core, fs: &[Core], ts: &Shared<Items<Term>>) -> Result<Sign
 /// The literal of the formula with the terms ts for its names.
 pub(crate) fn literal_of<'a>(
     alloc: Global,
-    purse: &mut Purse,
     f: &'a Core,
     ts: &Shared<Items<Term>>,
 ) -> Result<Signed<'a>, Fault>
     ensures ok { IfOk result (λ x. signed_of x ≡ atoms.literal_of (form f.now) ts.now) }
-    ensures err { IfErr result IsOther }
-    ensures cause { IfErr result (HasCause purse.new) }
-    ensures budget { purse.new.budget ≡ purse.old.budget }
+    ensures err { IfErr result IsCut }
 {
-    let g = inner(purse, f)?;
-    literal_by(alloc, purse, g, ts)
+    let g = inner(f);
+    literal_by(alloc, g, ts)
 }
 
-fn literal_by<'a>(
-    alloc: Global,
-    purse: &mut Purse,
-    f: &'a Core,
-    ts: &Shared<Items<Term>>,
-) -> Result<Signed<'a>, Fault>
+fn literal_by<'a>(alloc: Global, f: &'a Core, ts: &Shared<Items<Term>>) -> Result<Signed<'a>, Fault>
     ensures ok { IfOk result (λ x. signed_of x ≡ atoms.literal_by (form f.now) ts.now) }
-    ensures err { IfErr result IsOther }
-    ensures cause { IfErr result (HasCause purse.new) }
-    ensures budget { purse.new.budget ≡ purse.old.budget }
+    ensures err { IfErr result IsCut }
 {
     match f {
         Core::Eq(t) => {
-            let u = put_in(alloc, purse, ts.get().as_slice(), t)?;
-            let literal = equation_literal(alloc, purse, u)?;
+            let u = put_in(alloc, ts.get().as_slice(), t)?;
+            let literal = equation_literal(alloc, u)?;
             Ok(literal)
         }
         Core::Neq(t) => {
-            let u = put_in(alloc, purse, ts.get().as_slice(), t)?;
-            let literal = equation_literal(alloc, purse, u)?;
+            let u = put_in(alloc, ts.get().as_slice(), t)?;
+            let literal = equation_literal(alloc, u)?;
             Ok(other(literal))
         }
         Core::Geq(t) => {
-            let u = put_in(alloc, purse, ts.get().as_slice(), t)?;
-            let literal = inequality_literal(alloc, purse, u)?;
+            let u = put_in(alloc, ts.get().as_slice(), t)?;
+            let literal = inequality_literal(alloc, u)?;
             Ok(literal)
         }
-        Core::Pred(p, us) => predicate(alloc, purse, *p, us.as_slice(), ts.get().as_slice(), true),
-        Core::NotPred(p, us) => predicate(
-            alloc,
-            purse,
-            *p,
-            us.as_slice(),
-            ts.get().as_slice(),
-            false,
-        ),
+        Core::Pred(p, us) => predicate(alloc, *p, us.as_slice(), ts.get().as_slice(), true),
+        Core::NotPred(p, us) => predicate(alloc, *p, us.as_slice(), ts.get().as_slice(), false),
         Core::And(fs) => all_of(f, fs.as_slice(), ts),
         Core::Or(fs) => any_of(f, fs.as_slice(), ts),
         Core::NotFun(_, _, _) => closure(f, ts),

@@ -7,7 +7,9 @@ mod charging;
 mod checking;
 mod congruence;
 mod fault;
+mod formula_prices;
 mod formulas;
+mod line_prices;
 mod opening;
 mod pairing;
 mod putting;
@@ -17,6 +19,6 @@ mod standing;
 mod state;
 mod summing;
 
-pub use checking::{begin, check, ends_empty, step};
+pub use checking::{begin, ends_empty, step};
 pub use fault::Fault;
 pub use state::{Definition, State};

@@ -9,16 +9,14 @@ ghost use Rattle.formula.specs.Form as tree;
 ghost use Rattle.formula.specs.Tree.{form, forms_of};
 ghost use Rattle.clause_proof.specs.Atoms as atoms;
 ghost use Rattle.clause_proof.specs.Lines as lines;
-ghost use Rattle.clause_checker.specs.Answers.{Does, HasCause, IsOther, IsUncharged};
+ghost use Rattle.clause_checker.specs.Answers.{Does, HasCause, IsCut, IsRefusedOrCut};
 ghost use Rattle.clause_checker.specs.Views.{definition_of, definitions_of, inner_of, pair_up, signed_of, state_of};
 
-use crate::charging::charge;
 use crate::fault::Fault;
 use crate::formulas::literal_of;
 use crate::putting::{are_over, copied};
 use crate::standing::{stand, stand_members, stand_one};
 use crate::state::{Definition, Signed, State};
-use base_budget::Purse;
 use clause_proof::{Application, Literal};
 use formula::{Core, Shared};
 use linear_term::Term;
@@ -55,16 +53,12 @@ pub(crate) fn opposite(l: Literal) -> Literal
 /// The first literals, and the opposites of the others.
 pub(crate) fn with_opposites(
     alloc: Global,
-    purse: &mut Purse,
     first: &[Literal],
     ms: &[Literal],
 ) -> Result<Items<Literal>, Fault>
     ensures ok { IfOk result (λ c. c ≡ first.now ++ map lines.opposite ms.now) }
-    ensures err { IfErr result IsOther }
-    ensures cause { IfErr result (HasCause purse.new) }
-    ensures budget { purse.new.budget ≡ purse.old.budget }
+    ensures err { IfErr result IsCut }
 {
-    charge(purse, (ms.len() as u64).saturating_add(1))?;
     let mut out = Items::from_slice(alloc, first)?;
     for m in ms {
         out.push(opposite(*m))?;
@@ -75,18 +69,14 @@ pub(crate) fn with_opposites(
 /// For each of these literals: variable number i is true, or it is false.
 pub(crate) fn each_false(
     alloc: Global,
-    purse: &mut Purse,
     i: u32,
     ms: &[Literal],
 ) -> Result<Items<Option<Items<Literal>>>, Fault>
     ensures ok { IfOk result (λ cs. cs ≡ map Some (lines.each_false i ms.now)) }
-    ensures err { IfErr result IsOther }
-    ensures cause { IfErr result (HasCause purse.new) }
-    ensures budget { purse.new.budget ≡ purse.old.budget }
+    ensures err { IfErr result IsCut }
 {
     let mut out = Items::new(alloc);
     for m in ms {
-        charge(purse, 2)?;
         let clause = Items::from_slice(alloc, &[positive(i), opposite(*m)])?;
         out.push(Some(clause))?;
     }
@@ -99,8 +89,7 @@ pub(crate) fn one(
     clause: Items<Literal>,
 ) -> Result<Items<Option<Items<Literal>>>, Fault>
     ensures ok { IfOk result (λ cs. cs ≡ Some clause ∷ []) }
-    ensures err { IfErr result IsOther }
-    ensures cause { IfErr result IsUncharged }
+    ensures err { IfErr result IsCut }
 {
     let mut out = Items::new(alloc);
     out.push(Some(clause))?;
@@ -111,7 +100,7 @@ pub(crate) fn one(
 #[tactic(auto, using(crate::proofs::Doing::doing, crate::proofs::Causes::causes))]
 fn as_closure<'a>(d: &Definition<'a>) -> Result<(&'a Core, Shared<Items<Term>>), Fault>
     ensures does { Does inner_of (lines.as_closure (definition_of d.now) pair_up) result }
-    ensures cause { IfErr result IsUncharged }
+    ensures cause { IfErr result IsRefusedOrCut }
 {
     match d {
         Definition::Closure(f, ts) => {
@@ -132,7 +121,7 @@ pub(crate) fn closure_at<'a>(
     i: u32,
 ) -> Result<(&'a Core, Shared<Items<Term>>), Fault>
     ensures does { Does inner_of (lines.found (slice_get (definitions_of definitions.now) i) (λ d. lines.as_closure d pair_up)) result }
-    ensures cause { IfErr result IsUncharged }
+    ensures cause { IfErr result IsRefusedOrCut }
 {
     match at(definitions, i as usize) {
         None => Err(Fault::Refused),
@@ -144,7 +133,6 @@ pub(crate) fn closure_at<'a>(
 #[tactic(auto, using(crate::proofs::Opens::extending, crate::proofs::Causes::causes))]
 fn open_all<'a>(
     alloc: Global,
-    purse: &mut Purse,
     state: &mut State<'a>,
     i: u32,
     fs: &'a [Core],
@@ -152,12 +140,11 @@ fn open_all<'a>(
     ms: &[Literal],
 ) -> Result<(), Fault>
     ensures does { Does (λ u. state_of state.new) (lines.extended (state_of state.old) (lines.adding (lines.members (forms_of fs.now) ts.now) ms.now (lines.some_false i ms.now ∷ []) state.old.count)) result }
-    ensures cause { IfErr result (HasCause purse.new) }
-    ensures budget { purse.new.budget ≡ purse.old.budget }
+    ensures cause { IfErr result IsRefusedOrCut }
 {
-    let clause = with_opposites(alloc, purse, &[positive(i)], ms)?;
+    let clause = with_opposites(alloc, &[positive(i)], ms)?;
     let clauses = one(alloc, clause)?;
-    stand_members(alloc, purse, &mut state.definitions, fs, ts, ms)?;
+    stand_members(alloc, &mut state.definitions, fs, ts, ms)?;
     state.clauses.append(clauses)?;
     Ok(())
 }
@@ -166,7 +153,6 @@ fn open_all<'a>(
 #[tactic(auto, using(crate::proofs::Opens::extending, crate::proofs::Causes::causes))]
 fn open_each<'a>(
     alloc: Global,
-    purse: &mut Purse,
     state: &mut State<'a>,
     i: u32,
     fs: &'a [Core],
@@ -174,28 +160,20 @@ fn open_each<'a>(
     ms: &[Literal],
 ) -> Result<(), Fault>
     ensures does { Does (λ u. state_of state.new) (lines.extended (state_of state.old) (lines.adding (lines.members (forms_of fs.now) ts.now) ms.now (lines.each_false i ms.now) state.old.count)) result }
-    ensures cause { IfErr result (HasCause purse.new) }
-    ensures budget { purse.new.budget ≡ purse.old.budget }
+    ensures cause { IfErr result IsRefusedOrCut }
 {
-    let clauses = each_false(alloc, purse, i, ms)?;
-    stand_members(alloc, purse, &mut state.definitions, fs, ts, ms)?;
+    let clauses = each_false(alloc, i, ms)?;
+    stand_members(alloc, &mut state.definitions, fs, ts, ms)?;
     state.clauses.append(clauses)?;
     Ok(())
 }
 
 /// The terms, and one more.
-pub(crate) fn with_term(
-    alloc: Global,
-    purse: &mut Purse,
-    ts: &[Term],
-    t: Term,
-) -> Result<Shared<Items<Term>>, Fault>
+pub(crate) fn with_term(alloc: Global, ts: &[Term], t: Term) -> Result<Shared<Items<Term>>, Fault>
     ensures ok { IfOk result (λ us. us ≡ ts.now ++ t ∷ []) }
-    ensures err { IfErr result IsOther }
-    ensures cause { IfErr result (HasCause purse.new) }
-    ensures budget { purse.new.budget ≡ purse.old.budget }
+    ensures err { IfErr result IsCut }
 {
-    let mut out = copied(alloc, purse, ts)?;
+    let mut out = copied(alloc, ts)?;
     out.push(t)?;
     Ok(Shared::new(alloc, out)?)
 }
@@ -208,7 +186,7 @@ fn stand_alone<'a>(
     ms: &[Literal],
 ) -> Result<(), Fault>
     ensures does { Does (λ u. definitions_of definitions.new) (lines.stand_all (definitions_of definitions.old) (signed_of x.entry ∷ []) ms.now) result }
-    ensures cause { IfErr result IsUncharged }
+    ensures cause { IfErr result IsRefusedOrCut }
 {
     if ms.len() != 1 {
         return Err(Fault::Refused);
@@ -223,7 +201,6 @@ fn stand_alone<'a>(
 #[tactic(auto, using(crate::proofs::Opens::extending, crate::proofs::Causes::causes))]
 fn open_body<'a>(
     alloc: Global,
-    purse: &mut Purse,
     state: &mut State<'a>,
     i: u32,
     body: &'a Core,
@@ -231,20 +208,14 @@ fn open_body<'a>(
     ms: &[Literal],
 ) -> Result<(), Fault>
     ensures does { Does (λ u. state_of state.new) (lines.extended (state_of state.old) (lines.adding (atoms.literal_of (form body.now) (ts.now ++ linear.name state.old.count ∷ []) ∷ []) ms.now (lines.each_false i ms.now) (suc state.old.count))) result }
-    ensures cause { IfErr result (HasCause purse.new) }
-    ensures budget { purse.new.budget ≡ purse.old.budget }
+    ensures cause { IfErr result (HasCause state.old.count) }
 {
     if state.count == u32::MAX {
         return Err(Fault::Room);
     }
-    let clauses = each_false(alloc, purse, i, ms)?;
-    let terms = with_term(
-        alloc,
-        purse,
-        ts.get().as_slice(),
-        Term::name(alloc, state.count),
-    )?;
-    let x = literal_of(alloc, purse, body, &terms)?;
+    let clauses = each_false(alloc, i, ms)?;
+    let terms = with_term(alloc, ts.get().as_slice(), Term::name(alloc, state.count))?;
+    let x = literal_of(alloc, body, &terms)?;
     stand_alone(&mut state.definitions, x, ms)?;
     state.clauses.append(clauses)?;
     state.count += 1;
@@ -255,7 +226,6 @@ fn open_body<'a>(
 #[tactic(auto, using(crate::proofs::Doing::doing, crate::proofs::Causes::causes))]
 fn open_closure<'a>(
     alloc: Global,
-    purse: &mut Purse,
     state: &mut State<'a>,
     i: u32,
     f: &'a Core,
@@ -263,13 +233,12 @@ fn open_closure<'a>(
     ms: &[Literal],
 ) -> Result<(), Fault>
     ensures does { Does (λ u. state_of state.new) (lines.found (lines.opened (state_of state.old) i ms.now (form f.now) ts.now) (lines.extended (state_of state.old))) result }
-    ensures cause { IfErr result (HasCause purse.new) }
-    ensures budget { purse.new.budget ≡ purse.old.budget }
+    ensures cause { IfErr result (HasCause state.old.count) }
 {
     match f {
-        Core::And(fs) => open_all(alloc, purse, state, i, fs.as_slice(), ts, ms),
-        Core::Or(fs) => open_each(alloc, purse, state, i, fs.as_slice(), ts, ms),
-        Core::Forall(g) => open_body(alloc, purse, state, i, g.get(), ts, ms),
+        Core::And(fs) => open_all(alloc, state, i, fs.as_slice(), ts, ms),
+        Core::Or(fs) => open_each(alloc, state, i, fs.as_slice(), ts, ms),
+        Core::Forall(g) => open_body(alloc, state, i, g.get(), ts, ms),
         Core::Exists(_) => Err(Fault::Refused),
         Core::Eq(_) => Err(Fault::Refused),
         Core::Neq(_) => Err(Fault::Refused),
@@ -284,24 +253,21 @@ fn open_closure<'a>(
 #[tactic(auto, using(crate::proofs::Opens::closures, crate::proofs::Causes::causes))]
 pub(crate) fn open<'a>(
     alloc: Global,
-    purse: &mut Purse,
     state: &mut State<'a>,
     i: u32,
     ms: &[Literal],
 ) -> Result<(), Fault>
     ensures does { Does (λ u. state_of state.new) (lines.found (lines.closure_at (state_of state.old) i (lines.opened (state_of state.old) i ms.now)) (lines.extended (state_of state.old))) result }
-    ensures cause { IfErr result (HasCause purse.new) }
-    ensures budget { purse.new.budget ≡ purse.old.budget }
+    ensures cause { IfErr result (HasCause state.old.count) }
 {
     let (f, ts) = closure_at(state.definitions.as_slice(), i)?;
-    open_closure(alloc, purse, state, i, f, &ts, ms)
+    open_closure(alloc, state, i, f, &ts, ms)
 }
 
 /// Variable number i is true where this formula with these terms is.
 #[tactic(auto, using(crate::proofs::Opens::extending, crate::proofs::Causes::causes))]
 pub(crate) fn implied_by<'a>(
     alloc: Global,
-    purse: &mut Purse,
     state: &mut State<'a>,
     i: u32,
     m: Literal,
@@ -309,11 +275,10 @@ pub(crate) fn implied_by<'a>(
     ts: &Shared<Items<Term>>,
 ) -> Result<(), Fault>
     ensures does { Does (λ u. state_of state.new) (lines.extended (state_of state.old) (lines.adding (atoms.literal_of (form f.now) ts.now ∷ []) (m ∷ []) (lines.each_false i (m ∷ [])) state.old.count)) result }
-    ensures cause { IfErr result (HasCause purse.new) }
-    ensures budget { purse.new.budget ≡ purse.old.budget }
+    ensures cause { IfErr result IsRefusedOrCut }
 {
-    let x = literal_of(alloc, purse, f, ts)?;
-    let clauses = each_false(alloc, purse, i, &[m])?;
+    let x = literal_of(alloc, f, ts)?;
+    let clauses = each_false(alloc, i, &[m])?;
     stand_one(&mut state.definitions, x, m)?;
     state.clauses.append(clauses)?;
     Ok(())
@@ -323,22 +288,20 @@ pub(crate) fn implied_by<'a>(
 #[tactic(auto, using(crate::proofs::Opens::applying, crate::proofs::Causes::causes))]
 pub(crate) fn apply<'a>(
     alloc: Global,
-    purse: &mut Purse,
     state: &mut State<'a>,
     f: u32,
     ts: &[Term],
 ) -> Result<(), Fault>
     ensures does { Does (λ u. state_of state.new) (lines.found (lines.applied (state_of state.old) f ts.now) (lines.extended (state_of state.old))) result }
-    ensures cause { IfErr result (HasCause purse.new) }
-    ensures budget { purse.new.budget ≡ purse.old.budget }
+    ensures cause { IfErr result (HasCause state.old.count) }
 {
-    if !are_over(state.count, ts) {
+    if !are_over(state.count as usize, ts) {
         return Err(Fault::Refused);
     }
     if state.count == u32::MAX {
         return Err(Fault::Room);
     }
-    let terms = copied(alloc, purse, ts)?;
+    let terms = copied(alloc, ts)?;
     state.applications.push(Application {
         function: f,
         terms,

@@ -6,16 +6,14 @@ ghost use Rattle.std.specs.Prelude.{◌≡◌, ◌++◌, ◌∷◌, [], List, No
 ghost use Rattle.std.specs.List.{slice_get};
 ghost use Rattle.clause_proof.specs.declared.line.Literal.{Literal};
 ghost use Rattle.clause_proof.specs.Lines as lines;
-ghost use Rattle.clause_checker.specs.Answers.{Does, HasCause, IsOther, IsUncharged};
+ghost use Rattle.clause_checker.specs.Answers.{Does, IsCut, IsRefusedOrCut};
 ghost use Rattle.clause_checker.specs.Marking.{IsMarking};
 ghost use Rattle.clause_checker.specs.Views.{left_at, left_view, state_of};
 
-use crate::charging::charge;
 use crate::fault::Fault;
 use crate::opening::opposite;
 use crate::state::State;
 use crate::summing::add_clause;
-use base_budget::Purse;
 use clause_marks::Marks;
 use clause_proof::Literal;
 use sqlite_items::{Items, at};
@@ -56,25 +54,14 @@ fn left_of(marks: &Marks, clause: &[Literal]) -> Left
     left
 }
 
-/// The literals of clause number h that are left; as more than one, where it is missing. They are charged.
-fn left_at(
-    purse: &mut Purse,
-    marks: &Marks,
-    clauses: &[Option<Items<Literal>>],
-    h: u32,
-) -> Result<Left, Fault>
-    ensures ok { IfOk result (λ l. (fs : List Literal) → IsMarking marks.now fs → l ≡ left_at (slice_get clauses.now h) fs) }
-    ensures err { IfErr result IsOther }
-    ensures cause { IfErr result (HasCause purse.new) }
-    ensures budget { purse.new.budget ≡ purse.old.budget }
+/// The literals of clause number h that are left; as more than one, where it is missing.
+fn left_at(marks: &Marks, clauses: &[Option<Items<Literal>>], h: u32) -> Left
+    ensures { (fs : List Literal) → IsMarking marks.now fs → result ≡ left_at (slice_get clauses.now h) fs }
 {
     match at(clauses, h as usize) {
-        None => Ok(Left::More),
-        Some(None) => Ok(Left::More),
-        Some(Some(clause)) => {
-            charge(purse, clause.len() as u64)?;
-            Ok(left_of(marks, clause.as_slice()))
-        }
+        None => Left::More,
+        Some(None) => Left::More,
+        Some(Some(clause)) => left_of(marks, clause.as_slice()),
     }
 }
 
@@ -82,31 +69,19 @@ fn left_at(
 #[tactic(auto, using(crate::proofs::Lefts::marking, crate::proofs::Causes::causes))]
 fn mark(marks: &mut Marks, l: Literal) -> Result<(), Fault>
     ensures ok { OnOk result ((fs : List Literal) → IsMarking marks.old fs → IsMarking marks.new (fs ++ l ∷ [])) }
-    ensures err { IfErr result IsOther }
-    ensures cause { IfErr result IsUncharged }
+    ensures err { IfErr result IsCut }
 {
-    if marks.insert(l) {
-        return Ok(());
-    }
-    Err(Fault::Room)
+    marks.insert(l)?;
+    Ok(())
 }
 
 /// The literals of the clause are false, and no others.
 #[tactic(auto, using(crate::proofs::Lefts::marked_ones, crate::proofs::Causes::causes))]
-fn mark_all(
-    alloc: Global,
-    purse: &mut Purse,
-    marks: &mut Marks,
-    n: usize,
-    clause: &[Literal],
-) -> Result<(), Fault>
+fn mark_all(alloc: Global, marks: &mut Marks, clause: &[Literal]) -> Result<(), Fault>
     ensures ok { OnOk result (IsMarking marks.new clause.now) }
-    ensures err { IfErr result IsOther }
-    ensures cause { IfErr result (HasCause purse.new) }
-    ensures budget { purse.new.budget ≡ purse.old.budget }
+    ensures err { IfErr result IsCut }
 {
-    charge(purse, clause.len() as u64)?;
-    marks.clear(alloc, n)?;
+    marks.clear(alloc);
     for l in clause {
         mark(marks, *l)?;
     }
@@ -116,19 +91,15 @@ fn mark_all(
 /// Whether the clauses with these numbers clash with the falsity of the marked literals.
 #[tactic(auto, using(crate::proofs::Lefts::clashing, crate::proofs::Causes::causes))]
 fn clashes(
-    purse: &mut Purse,
     marks: &mut Marks,
     clauses: &[Option<Items<Literal>>],
     hints: &[u32],
 ) -> Result<bool, Fault>
     ensures ok { IfOk result (λ b. (fs : List Literal) → IsMarking marks.old fs → b ≡ lines.clashes clauses.now hints.now fs) }
-    ensures err { IfErr result IsOther }
-    ensures cause { IfErr result (HasCause purse.new) }
-    ensures budget { purse.new.budget ≡ purse.old.budget }
+    ensures err { IfErr result IsCut }
 {
     for h in hints {
-        charge(purse, 1)?;
-        match left_at(purse, marks, clauses, *h)? {
+        match left_at(marks, clauses, *h) {
             Left::Nothing => return Ok(true),
             Left::One(l) => mark(marks, opposite(l))?,
             Left::More => return Ok(false),
@@ -148,22 +119,19 @@ fn are_known(n: usize, clause: &[Literal]) -> bool
 #[tactic(auto, using(crate::proofs::Sums::clauses_only, crate::proofs::Doing::doing, crate::proofs::Causes::causes))]
 pub(crate) fn resolve(
     alloc: Global,
-    purse: &mut Purse,
     marks: &mut Marks,
     state: &mut State,
     clause: &[Literal],
     hints: &[u32],
 ) -> Result<(), Fault>
     ensures does { Does (λ u. state_of state.new) (lines.found (lines.resolved (state_of state.old) clause.now hints.now) (lines.extended (state_of state.old))) result }
-    ensures cause { IfErr result (HasCause purse.new) }
-    ensures budget { purse.new.budget ≡ purse.old.budget }
+    ensures cause { IfErr result IsRefusedOrCut }
 {
-    charge(purse, (clause.len() as u64).saturating_add(1))?;
     if !are_known(state.definitions.len(), clause) {
         return Err(Fault::Refused);
     }
-    mark_all(alloc, purse, marks, state.definitions.len(), clause)?;
-    if !clashes(purse, marks, state.clauses.as_slice(), hints)? {
+    mark_all(alloc, marks, clause)?;
+    if !clashes(marks, state.clauses.as_slice(), hints)? {
         return Err(Fault::Refused);
     }
     let copy = Items::from_slice(alloc, clause)?;

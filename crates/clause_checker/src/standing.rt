@@ -5,14 +5,13 @@ ghost use Rattle.std.specs.List.{slice_get};
 ghost use Rattle.formula.specs.Tree.{form, forms_of};
 ghost use Rattle.clause_proof.specs.Atoms as atoms;
 ghost use Rattle.clause_proof.specs.Lines as lines;
-ghost use Rattle.clause_checker.specs.Answers.{Does, HasCause, IsUncharged};
+ghost use Rattle.clause_checker.specs.Answers.{Does, IsRefusedOrCut};
 ghost use Rattle.clause_checker.specs.Views.{definition_of, definitions_of, known_so, member_at, signed_of};
 
 use crate::fault::Fault;
 use crate::formulas::literal_of;
 use crate::putting::{same_term, same_terms};
 use crate::state::{Definition, Signed};
-use base_budget::Purse;
 use clause_proof::Literal;
 use formula::{Core, Shared};
 use linear_term::Term;
@@ -75,7 +74,7 @@ pub(crate) fn stand<'a>(
     m: Literal,
 ) -> Result<(), Fault>
     ensures does { Does (λ u. definitions_of definitions.new) (lines.stand (definitions_of definitions.old) (signed_of x.entry) m) result }
-    ensures cause { IfErr result IsUncharged }
+    ensures cause { IfErr result IsRefusedOrCut }
 {
     let Signed {
         definition,
@@ -102,7 +101,7 @@ pub(crate) fn stand_one<'a>(
     m: Literal,
 ) -> Result<(), Fault>
     ensures does { Does (λ u. definitions_of definitions.new) (lines.stand_all (definitions_of definitions.old) (signed_of x.entry ∷ []) (m ∷ [])) result }
-    ensures cause { IfErr result IsUncharged }
+    ensures cause { IfErr result IsRefusedOrCut }
 {
     stand(definitions, x, m)
 }
@@ -117,7 +116,7 @@ pub(crate) fn stand_two<'a>(
     n: Literal,
 ) -> Result<(), Fault>
     ensures does { Does (λ u. definitions_of definitions.new) (lines.stand_all (definitions_of definitions.old) (signed_of x.entry ∷ signed_of y.entry ∷ []) (m ∷ n ∷ [])) result }
-    ensures cause { IfErr result IsUncharged }
+    ensures cause { IfErr result IsRefusedOrCut }
 {
     stand(definitions, x, m)?;
     stand_one(definitions, y, n)
@@ -127,17 +126,15 @@ pub(crate) fn stand_two<'a>(
 #[tactic(auto, using(crate::proofs::Stands::single, crate::proofs::Causes::causes))]
 fn stand_member<'a>(
     alloc: Global,
-    purse: &mut Purse,
     definitions: &mut Items<Definition<'a>>,
     f: &'a Core,
     ts: &Shared<Items<Term>>,
     m: Literal,
 ) -> Result<(), Fault>
     ensures does { Does (λ u. definitions_of definitions.new) (lines.stand (definitions_of definitions.old) (atoms.literal_of (form f.now) ts.now) m) result }
-    ensures cause { IfErr result (HasCause purse.new) }
-    ensures budget { purse.new.budget ≡ purse.old.budget }
+    ensures cause { IfErr result IsRefusedOrCut }
 {
-    let x = literal_of(alloc, purse, f, ts)?;
+    let x = literal_of(alloc, f, ts)?;
     stand(definitions, x, m)
 }
 
@@ -145,7 +142,6 @@ fn stand_member<'a>(
 #[tactic(auto, using(crate::proofs::Stands::items, crate::proofs::Causes::causes))]
 fn stand_at<'a>(
     alloc: Global,
-    purse: &mut Purse,
     definitions: &mut Items<Definition<'a>>,
     fs: &'a [Core],
     ts: &Shared<Items<Term>>,
@@ -153,14 +149,13 @@ fn stand_at<'a>(
     i: usize,
 ) -> Result<(), Fault>
     ensures does { Does (λ u. definitions_of definitions.new) (member_at fs.now ts.now literals.now i (definitions_of definitions.old)) result }
-    ensures cause { IfErr result (HasCause purse.new) }
-    ensures budget { purse.new.budget ≡ purse.old.budget }
+    ensures cause { IfErr result IsRefusedOrCut }
 {
     match at(fs, i) {
         None => Err(Fault::Refused),
         Some(f) => match at(literals, i) {
             None => Err(Fault::Refused),
-            Some(m) => stand_member(alloc, purse, definitions, f, ts, *m),
+            Some(m) => stand_member(alloc, definitions, f, ts, *m),
         },
     }
 }
@@ -169,18 +164,16 @@ fn stand_at<'a>(
 #[tactic(auto, using(crate::proofs::Stands::walking, crate::proofs::Causes::causes))]
 pub(crate) fn stand_members<'a>(
     alloc: Global,
-    purse: &mut Purse,
     definitions: &mut Items<Definition<'a>>,
     fs: &'a [Core],
     ts: &Shared<Items<Term>>,
     literals: &[Literal],
 ) -> Result<(), Fault>
     ensures does { Does (λ u. definitions_of definitions.new) (lines.stand_all (definitions_of definitions.old) (lines.members (forms_of fs.now) ts.now) literals.now) result }
-    ensures cause { IfErr result (HasCause purse.new) }
-    ensures budget { purse.new.budget ≡ purse.old.budget }
+    ensures cause { IfErr result IsRefusedOrCut }
 {
     for i in 0..fs.len() {
-        stand_at(alloc, purse, definitions, fs, ts, literals, i)?;
+        stand_at(alloc, definitions, fs, ts, literals, i)?;
     }
     if fs.len() < literals.len() {
         return Err(Fault::Refused);

@@ -1,7 +1,5 @@
 -- What a check says that follows a text line by line.
-use Rattle.std.proofs.Common.{ℕ, ◌≡◌, ℤ, ◌+◌, ◌<◌, ◌≤◌, Bool, false, true, List, [], ◌∷◌, ◌++◌, length, None, Result, Ok, Err, refl, sym, ap, subst, ◌∙◌, append-nil, arith}
-use Rattle.std.specs.Prelude.{OnErr}
-use Rattle.std.specs.Result.{is_err}
+use Rattle.std.proofs.Common.{ℕ, ◌≡◌, ℤ, ◌+◌, ◌<◌, ◌≤◌, false, true, List, [], ◌∷◌, ◌++◌, length, None, Some, Ok, Err, refl, sym, ap, subst, ◌∙◌, append-nil, arith}
 use Rattle.base_budget.specs.Trace.{Funds}
 use Rattle.formula.specs.Form.{Form}
 use Rattle.proof_file.specs.Body.{body}
@@ -9,11 +7,11 @@ use Rattle.proof_tokens.specs.declared.reading.Refusal.{Refusal}
 use Rattle.proof_tokens.specs.declared.reading.Refusal.TheVariants as e
 use Rattle.clause_proof.specs.declared.line.Line.{Line}
 use Rattle.clause_proof.specs.Clauses.{State}
-use Rattle.clause_proof.specs.Lines.{after}
+use Rattle.clause_proof.specs.Lines.{after, found}
 use Rattle.clause_proof.specs.Proofs.{ends_empty, start}
 use Rattle.clause_checker.specs.declared.fault.Fault.{Fault}
 use Rattle.clause_checker.specs.declared.fault.Fault.TheVariants as checker
-use Rattle.clause_checker.specs.Answers.{Does}
+use Rattle.clause_checker.specs.Answers.{Does, Pays}
 use Rattle.clause_text.specs.declared.head.Head.{Head}
 use Rattle.clause_text.specs.Files.{IsProofRefusedAt, lines_text, proof_text}
 use Rattle.clause_text.specs.Head.{head_of, head_text, IsHead, RefusesHead}
@@ -25,9 +23,14 @@ use Rattle.clause_words.specs.Tokens.{size, spelled, tokens}
 use Rattle.clause_words.proofs.Exact.{ok_not_err}
 use Rattle.clause_words.proofs.Splitting.{size_is}
 use Rattle.clause_file.specs.declared.fault.ClauseFault.{ClauseFault}
-use Rattle.clause_file.specs.Answers.{fault_at, IsFault, IsPlaced, IsWithin}
+use Rattle.clause_file.specs.Answers.{fault_at, IsFault, IsPlaced, LeavesWithin}
 use Rattle.clause_file.specs.Courses.{BeginsWith, Reaches, Starts}
-use Rattle.clause_file.specs.Cuts as cut
+use Rattle.clause_file.specs.Costs as cost
+use Rattle.clause_file.specs.Costs.{check_price, HasPaid}
+use Rattle.clause_file.specs.Ranges as range
+use Rattle.clause_file.specs.Roots.{preparation_price}
+use Rattle.clause_file.proofs.Paying.{line_dear, line_paid, start_dear, start_paid}
+use Rattle.clause_checker.specs.Prices.{price, start_price}
 use Rattle.clause_file.specs.Verdicts.{first_line, HoldsClauseProof, IsRefusedFirst, IsWrongAt}
 use Rattle.clause_file.specs.Verdicts as verdict
 use Rattle.clause_file.proofs.Fronts.{refusal_read, refusal_within}
@@ -36,34 +39,36 @@ use Rattle.clause_file.proofs.Points.{one_point, reach_more, tokens_of}
 
 -- ---- places
 
-pub line_within : (text : List ℕ) (bytes : ℕ) (r : Refusal) → RefusesLine text r → length text ≤ bytes → IsWithin bytes r
+pub line_within : (text : List ℕ) (bytes : ℕ) (r : Refusal) → RefusesLine text r → length text ≤ bytes → LeavesWithin bytes r
 line_within text bytes (e.Syntax left) h le = let k = refusal_within IsLine line_text (tokens text) left h in let s = size_is text in omega (arith, k, s, le)
 line_within text bytes e.Memory h le = tt
 
-pub head_within : (text : List ℕ) (bytes : ℕ) (r : Refusal) → RefusesHead text r → length text ≤ bytes → IsWithin bytes r
+pub head_within : (text : List ℕ) (bytes : ℕ) (r : Refusal) → RefusesHead text r → length text ≤ bytes → LeavesWithin bytes r
 head_within text bytes (e.Syntax left) h le = let k = refusal_within IsHead head_text (tokens text) left h in let s = size_is text in omega (arith, k, s, le)
 head_within text bytes e.Memory h le = tt
 
 -- ---- a line that is made
 
-pub line_made : (g : Form) (n : ℕ) (file text rest : List ℕ) (h : Head) (ls : List Line) (l : Line) (s t : State) → IsLine l → text ≡ spelled (line_text l) ++ rest → Does (λ (u : Unit {0}). t) (after s l) (Ok tt)
-    → Reaches g n file h ls text s → (m : Line) × Reaches g n file h (ls ++ m ∷ []) rest t
-line_made g n file text rest h ls l s t i is d r = (l, reach_more g n file h ls l rest s t (subst (λ z. Reaches g n file h ls z s) is r) i (d.ok tt refl))
+pub line_made : (g : Form) (n : ℕ) (file text rest : List ℕ) (h : Head) (ls : List Line) (l : Line) (s t : State) (old new : Funds) → IsLine l → text ≡ spelled (line_text l) ++ rest → Does (λ (u : Unit {0}). t) (after s l) (Ok tt)
+    → new ≡ record old { spent = old.spent + price s l } → Reaches g n file h ls text s → HasPaid old h (check_price g n h ls) → (m : Line) × Reaches g n file h (ls ++ m ∷ []) rest t × HasPaid new h (check_price g n h (ls ++ m ∷ []))
+line_made g n file text rest h ls l s t old new i is d pays r paid =
+    (l, reach_more g n file h ls l rest s t (subst (λ z. Reaches g n file h ls z s) is r) i (d.ok tt refl), line_paid g n file h ls l text s old new r paid pays)
 
 -- ---- a line that is not made
 
-line_fault : (g : Form) (n number : ℕ) (file rest : List ℕ) (h : Head) (ls : List Line) (l : Line) (s : State) (fault : Fault) → IsLine l → Reaches g n file h ls (spelled (line_text l) ++ rest) s
-    → (fault ≡ checker.Refused → after s l ≡ None) → number ≡ first_line + length ls → IsFault g n file (fault_at number fault)
-line_fault g n number file rest h ls l s checker.Refused i r none is = verdict.line h ls l rest s r i (none refl) is
-line_fault g n number file rest h ls l s checker.Steps i r none is = cut.line h ls l rest s r i is
-line_fault g n number file rest h ls l s (checker.Overflow p) i r none is = cut.line h ls l rest s r i is
-line_fault g n number file rest h ls l s checker.Room i r none is = cut.line h ls l rest s r i is
-line_fault g n number file rest h ls l s checker.Memory i r none is = tt
+line_fault : (g : Form) (n number : ℕ) (file rest : List ℕ) (h : Head) (ls : List Line) (l : Line) (s : State) (old new : Funds) (fault : Fault) → IsLine l → Reaches g n file h ls (spelled (line_text l) ++ rest) s → HasPaid old h (check_price g n h ls)
+    → Pays {A = Unit {0}} (price s l) old new (Err fault) → (fault ≡ checker.Refused → after s l ≡ None) → number ≡ first_line + length ls → IsFault g n file (fault_at number fault)
+line_fault g n number file rest h ls l s old new checker.Refused i r paid pays none is = verdict.line h ls l rest s r i (none refl) is
+line_fault g n number file rest h ls l s old new checker.Steps i r paid pays none is = cost.line h ls l rest s r i (line_dear g n file h ls l (spelled (line_text l) ++ rest) s old r paid pays) is
+line_fault g n number file rest h ls l s old new (checker.Overflow p) i r paid pays none is = range.line h ls l rest s r i is
+line_fault g n number file rest h ls l s old new checker.Room i r paid pays none is = range.line h ls l rest s r i is
+line_fault g n number file rest h ls l s old new checker.Memory i r paid pays none is = tt
 
-pub line_not_made : (g : Form) (n number : ℕ) (file text rest : List ℕ) (h : Head) (ls : List Line) (l : Line) (s t : State) (fault : Fault) (x : ClauseFault) → IsLine l → text ≡ spelled (line_text l) ++ rest
-    → Does (λ (u : Unit {0}). t) (after s l) (Err fault) → x ≡ fault_at number fault → Reaches g n file h ls text s → number ≡ first_line + length ls → IsFault g n file x
-line_not_made g n number file text rest h ls l s t fault x i is d e r at =
-    subst (IsFault g n file) (sym e) (line_fault g n number file rest h ls l s fault i (subst (λ z. Reaches g n file h ls z s) is r) (λ k. d.refused (ap Err k)) at)
+pub line_not_made : (g : Form) (n number : ℕ) (file text rest : List ℕ) (h : Head) (ls : List Line) (l : Line) (s t : State) (old new : Funds) (fault : Fault) (x : ClauseFault) → IsLine l → text ≡ spelled (line_text l) ++ rest
+    → Does (λ (u : Unit {0}). t) (after s l) (Err fault) → Pays {A = Unit {0}} (price s l) old new (Err fault) → x ≡ fault_at number fault → Reaches g n file h ls text s → HasPaid old h (check_price g n h ls) → number ≡ first_line + length ls
+    → IsFault g n file x
+line_not_made g n number file text rest h ls l s t old new fault x i is d pays e r paid at =
+    subst (IsFault g n file) (sym e) (line_fault g n number file rest h ls l s old new fault i (subst (λ z. Reaches g n file h ls z s) is r) paid pays (λ k. d.refused (ap Err k)) at)
 
 -- ---- a line that is refused
 
@@ -140,21 +145,34 @@ end_wrong g n number file text h ls s none empty at r = verdict.end h ls s (subs
 
 -- ---- the start
 
-start_fault : (g k : Form) (n : ℕ) (file text : List ℕ) (h : Head) (fault : Fault) → (fault ≡ checker.Refused → start k h.values h.root ≡ None) → Starts g n file h text k → IsFault g n file (fault_at 5 fault)
-start_fault g k n file text h checker.Refused none t = verdict.root h text t.begins t.values (ap (λ z. start z h.values h.root) t.root ∙ none refl) refl
-start_fault g k n file text h checker.Steps none t = cut.root h text t.begins t.values refl
-start_fault g k n file text h (checker.Overflow p) none t = cut.root h text t.begins t.values refl
-start_fault g k n file text h checker.Room none t = cut.root h text t.begins t.values refl
-start_fault g k n file text h checker.Memory none t = tt
+start_fault : (g k : Form) (n : ℕ) (file text : List ℕ) (h : Head) (vs : List ℤ) (old new : Funds) (fault : Fault) → vs ≡ h.values → HasPaid old h (preparation_price g h.prepared) → Pays {A = Unit {0}} (start_price k vs) old new (Err fault)
+    → (fault ≡ checker.Refused → start k h.values h.root ≡ None) → Starts g n file h text k → IsFault g n file (fault_at 5 fault)
+start_fault g k n file text h vs old new checker.Refused same paid pays none t = verdict.root h text t.begins t.values (ap (λ z. start z h.values h.root) t.root ∙ none refl) refl
+start_fault g k n file text h vs old new checker.Steps same paid pays none t = cost.root h text t.begins t.values (start_dear g k n file text h vs old same t paid pays) refl
+start_fault g k n file text h vs old new (checker.Overflow p) same paid pays none t = range.root h text t.begins t.values refl
+start_fault g k n file text h vs old new checker.Room same paid pays none t = range.root h text t.begins t.values refl
+start_fault g k n file text h vs old new checker.Memory same paid pays none t = tt
 
-pub not_started : {A : Type 0} (view : A → State) (g k : Form) (n : ℕ) (file text : List ℕ) (h : Head) (vs : List ℤ) (fault : Fault) (x : ClauseFault) → vs ≡ h.values → Does view (start k vs h.root) (Err fault) → x ≡ fault_at 5 fault
-    → Starts g n file h text k → IsFault g n file x
-not_started view g k n file text h vs fault x same d e t =
-    subst (IsFault g n file) (sym e) (start_fault g k n file text h fault (λ z. ap (λ us. start k us h.root) (sym same) ∙ d.refused (ap Err z)) t)
+-- the same of an answer of another type
+pays_as : (A B : Type 0) (p : ℕ) (old new : Funds) (fault : Fault) → Pays {A = A} p old new (Err fault) → Pays {A = B} p old new (Err fault)
+pays_as A B p old new checker.Refused h = h
+pays_as A B p old new checker.Steps h = h
+pays_as A B p old new (checker.Overflow q) h = h
+pays_as A B p old new checker.Room h = h
+pays_as A B p old new checker.Memory h = h
 
--- ---- before the start
+pub not_started : {A : Type 0} (view : A → State) (g k : Form) (n : ℕ) (file text : List ℕ) (h : Head) (vs : List ℤ) (old new : Funds) (fault : Fault) (x : ClauseFault) → vs ≡ h.values → Does view (start k vs h.root) (Err fault)
+    → Pays {A = A} (start_price k vs) old new (Err fault) → x ≡ fault_at 5 fault → Starts g n file h text k → HasPaid old h (preparation_price g h.prepared) → IsFault g n file x
+not_started {A} view g k n file text h vs old new fault x same d pays e t paid =
+    subst (IsFault g n file) (sym e) (start_fault g k n file text h vs old new fault same paid (pays_as A (Unit {0}) (start_price k vs) old new fault pays) (λ z. ap (λ us. start k us h.root) (sym same) ∙ d.refused (ap Err z)) t)
 
-pub over_charged : {A B : Type 0} (r : Result A B) (b : Bool) (funds : Funds) (given charges cost : ℕ) → b ≡ true → b ≡ is_err r → OnErr r (funds.budget < funds.spent + cost) → funds ≡ record { budget = given; spent = 0 } → given ≡ charges
-    → charges < cost
-over_charged (Ok x) b funds given charges cost t e h is from = absurd (cc)
-over_charged (Err x) b funds given charges cost t e h is from = let k = ap (λ z. z.budget) is in let l = ap (λ z. z.spent) is in omega (arith, h, k, l, from)
+pub started : {A : Type 0} (view : A → State) (g k : Form) (n : ℕ) (file text : List ℕ) (h : Head) (vs : List ℤ) (old new : Funds) (s : A) → vs ≡ h.values → Does view (start k vs h.root) (Ok s) → new ≡ record old { spent = old.spent + start_price k vs }
+    → Starts g n file h text k → HasPaid old h (preparation_price g h.prepared) → Reaches g n file h [] text (view s) × HasPaid new h (check_price g n h [])
+started view g k n file text h vs old new s same d pays t paid = (
+  record {
+    begins = t.begins;
+    values = t.values;
+    makes = ap (λ z. found (start z h.values h.root) (λ x. Some x)) t.root ∙ ap (λ us. found (start k us h.root) (λ x. Some x)) (sym same) ∙ ap (λ o. found o (λ x. Some x)) (d.ok s refl);
+  },
+  start_paid g k n file text h vs old new same t paid pays,
+)

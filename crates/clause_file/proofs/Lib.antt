@@ -6,3 +6,4 @@ pub mod Meaning
 pub mod Following
 pub mod SomeVerdict
 pub mod Formats
+pub mod Paying

@@ -10,7 +10,8 @@ use Rattle.clause_checker.specs.declared.fault.Fault.{Fault}
 use Rattle.clause_checker.specs.declared.fault.Fault.TheVariants as checker
 use Rattle.clause_file.specs.declared.fault.ClauseFault.{ClauseFault}
 use Rattle.clause_file.specs.declared.fault.ClauseFault.TheVariants as f
-use Rattle.clause_file.specs.Cuts.{IsCutAt}
+use Rattle.clause_file.specs.Costs.{IsCostAt}
+use Rattle.clause_file.specs.Ranges.{IsRangeAt}
 use Rattle.clause_file.specs.Verdicts.{HoldsClauseProof, IsRefusedFirst, IsWrongAt}
 
 -- the words that begin a proof in the third format
@@ -25,14 +26,14 @@ is_clause_text file = bytes_eq (take (length first_words) (body file)) first_wor
 abbrev pub IsFault : Form → ℕ → List ℕ → ClauseFault → Type 0
 IsFault g n file (f.Syntax at) = IsRefusedFirst g n file at
 IsFault g n file (f.Line number) = IsWrongAt g n file number
-IsFault g n file (f.Range number) = IsCutAt g n file number
-IsFault g n file (f.Cost number) = IsCutAt g n file number
+IsFault g n file (f.Range number) = IsRangeAt g n file number
+IsFault g n file (f.Cost number) = IsCostAt g n file number
 IsFault g n file f.Memory = Unit {0}
 
 -- what a check of the lines behind these first lines answers: the file holds a proof at their values, or it has the fault
-abbrev pub Shows : Form → ℕ → List ℕ → Head → Result (Unit {0}) ClauseFault → Type 0
-Shows g n file h (Ok u) = HoldsClauseProof g n file h.values
-Shows g n file h (Err fault) = IsFault g n file fault
+abbrev pub IsCheckResult : Form → ℕ → List ℕ → Head → Result (Unit {0}) ClauseFault → Type 0
+IsCheckResult g n file h (Ok u) = HoldsClauseProof g n file h.values
+IsCheckResult g n file h (Err fault) = IsFault g n file fault
 
 -- the fault of a check of one line, as one of the file
 abbrev pub fault_at : ℕ → Fault → ClauseFault
@@ -48,6 +49,6 @@ IsPlaced bytes (e.Syntax left) fault = (at : ℕ) × (fault ≡ f.Syntax at) × 
 IsPlaced bytes e.Memory fault = fault ≡ f.Memory
 
 -- the refusal leaves no more bytes than there are
-abbrev pub IsWithin : ℕ → Refusal → Type 0
-IsWithin bytes (e.Syntax left) = left ≤ bytes
-IsWithin bytes e.Memory = Unit {0}
+abbrev pub LeavesWithin : ℕ → Refusal → Type 0
+LeavesWithin bytes (e.Syntax left) = left ≤ bytes
+LeavesWithin bytes e.Memory = Unit {0}

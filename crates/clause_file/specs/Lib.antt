@@ -1,5 +1,6 @@
 pub mod Roots
 pub mod Courses
 pub mod Verdicts
-pub mod Cuts
+pub mod Costs
+pub mod Ranges
 pub mod Answers

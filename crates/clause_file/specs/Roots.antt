@@ -12,3 +12,7 @@ prepared_root n f steps = cond (nat_eq steps 0) f (prepared false n (scoped_belo
 -- what a preparation of f costs: its steps, and a walk over f for each level of f
 abbrev pub preparation_cost : Form → ℕ → ℕ
 preparation_cost f steps = size f * depth f + steps
+
+-- what a check charges for it: nothing where the root stays as it is
+abbrev pub preparation_price : Form → ℕ → ℕ
+preparation_price f steps = cond (nat_eq steps 0) 0 (preparation_cost f steps)

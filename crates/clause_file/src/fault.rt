@@ -1,6 +1,6 @@
 // Why a clause proof is not accepted.
 
-ghost use Rattle.clause_file.specs.Answers.{fault_at, IsPlaced, IsWithin};
+ghost use Rattle.clause_file.specs.Answers.{fault_at, IsPlaced, LeavesWithin};
 ghost use Rattle.std.specs.Prelude.{◌≡◌, length};
 
 use clause_checker::Fault;
@@ -17,9 +17,9 @@ pub enum ClauseFault {
     /// The line makes nothing: line 4 has not one value for each existential constant, the literal of line 5 cannot stand for the
     /// root, a later line adds nothing, or no line is left and the last clause is not the empty one.
     Line(u64),
-    /// At this line a number leaves the range of coefficients, or a constant or a formula would have no number.
+    /// At this line a number leaves the range of coefficients, or there are as many constants as have numbers.
     Range(u64),
-    /// At this line the charges pass those that the proof states; at line 3 those of the preparation do.
+    /// The charges that the proof states do not pay for this line; line 3 stands for the preparation.
     Cost(u64),
     Memory,
 }
@@ -50,7 +50,7 @@ pub(crate) fn at_line(fault: Fault, number: u64) -> ClauseFault
 
 /// The refusal of a text that ends the file, with its place in the file.
 pub(crate) fn in_file(file: &[u8], refusal: Refusal) -> ClauseFault
-    requires { IsWithin (length file.now) refusal }
+    requires { LeavesWithin (length file.now) refusal }
     ensures { IsPlaced (length file.now) refusal result }
 {
     match refusal {

@@ -1,8 +1,9 @@
 // The lines of a proof, read and checked one after another.
 
 ghost use Rattle.clause_checker.specs.Views.{state_of};
-ghost use Rattle.clause_file.specs.Answers.{IsFault, Shows};
+ghost use Rattle.clause_file.specs.Answers.{IsCheckResult, IsFault};
 ghost use Rattle.clause_file.specs.Courses.{Reaches};
+ghost use Rattle.clause_file.specs.Costs.{HasPaid, check_price};
 ghost use Rattle.clause_file.specs.Verdicts.{first_line};
 ghost use Rattle.clause_proof.specs.declared.line.Line.{Line};
 ghost use Rattle.clause_text.specs.declared.head.Head.{Head};
@@ -30,8 +31,9 @@ fn run_line<'a, 'b>(
     requires some { 0 < length text.now }
     requires within { length text.now ≤ length file.now }
     ensures shorter { IfOk result (λ rest. length rest.now < length text.now) }
-    ensures made { IfOk result (λ rest. (f : Form) (n : ℕ) (h : Head) (ls : List Line) → Reaches f n file.now h ls text.now (state_of state.old) → (l : Line) × Reaches f n file.now h (ls ++ l ∷ []) rest.now (state_of state.new)) }
-    ensures fault { IfErr result (λ e. (f : Form) (n : ℕ) (h : Head) (ls : List Line) → Reaches f n file.now h ls text.now (state_of state.old) → number ≡ first_line + length ls → IsFault f n file.now e) }
+    ensures made { IfOk result (λ rest. (f : Form) (n : ℕ) (h : Head) (ls : List Line) → Reaches f n file.now h ls text.now (state_of state.old) → HasPaid purse.old h (check_price f n h ls)
+        → (l : Line) × Reaches f n file.now h (ls ++ l ∷ []) rest.now (state_of state.new) × HasPaid purse.new h (check_price f n h (ls ++ l ∷ []))) }
+    ensures fault { IfErr result (λ e. (f : Form) (n : ℕ) (h : Head) (ls : List Line) → Reaches f n file.now h ls text.now (state_of state.old) → HasPaid purse.old h (check_price f n h ls) → number ≡ first_line + length ls → IsFault f n file.now e) }
 {
     match read_line(alloc, text) {
         Ok((line, rest)) => match step(alloc, purse, marks, state, &line) {
@@ -51,7 +53,7 @@ pub(crate) fn run_lines<'a>(
     text: &[u8],
 ) -> Result<(), ClauseFault>
     requires within { length text.now ≤ length file.now }
-    ensures { (f : Form) (n : ℕ) (h : Head) → Reaches f n file.now h [] text.now (state_of state.old) → Shows f n file.now h result }
+    ensures { (f : Form) (n : ℕ) (h : Head) → Reaches f n file.now h [] text.now (state_of state.old) → HasPaid purse.old h (check_price f n h []) → IsCheckResult f n file.now h result }
 {
     let mut marks = Marks::new(alloc);
     let mut rest = text;

@@ -1,10 +1,10 @@
 // A stamp for each literal. The literals with the present stamp are in the set, so that a new stamp empties it.
 
-ghost use Rattle.std.specs.Prelude.{◌≡◌, ◌||◌, ◌<◌, ◌≤◌, false, true, length, All, IsOk, slice_set};
+ghost use Rattle.std.specs.Prelude.{◌≡◌, ◌||◌, ◌<◌, ◌≤◌, false, length, IsOk};
 ghost use Rattle.std.specs.List.{slice_get};
 ghost use Rattle.clause_proof.specs.declared.line.Literal.{Literal};
 ghost use Rattle.clause_proof.specs.Lines.{is_literal};
-ghost use Rattle.clause_marks.specs.Marked.{AreAtMost, has_stamp, is_marked};
+ghost use Rattle.clause_marks.specs.Marked.{AreAtMost, HasSameStamps, HasStampAt, has_stamp, is_marked};
 
 use clause_proof::Literal;
 use sqlite_items::{Items, at};
@@ -18,6 +18,7 @@ pub struct Marks {
     negative: Items<u32>,
     ghost positives: { AreAtMost stamp positive },
     ghost negatives: { AreAtMost stamp negative },
+    ghost some: { 0 < stamp },
 }
 
 /// Whether the table has the stamp at i.
@@ -31,11 +32,14 @@ fn is_stamped(table: &[u32], i: u32, stamp: u32) -> bool
     }
 }
 
-/// The table has a place for each number below n.
+/// The table has a place for each number below n. The new places have no stamp.
+#[tactic(auto, using(crate::proofs::Marking::grows))]
 fn grow(table: &mut Items<u32>, n: usize, stamp: u32) -> Result<(), AllocError>
-    requires old { All (λ k. k < stamp) table.old }
     requires some { 0 < stamp }
-    ensures { All (λ k. k < stamp) table.new }
+    requires most { AreAtMost stamp table.old }
+    ensures long { IsOk result → n ≤ length table.new }
+    ensures same { HasSameStamps stamp table.old table.new }
+    ensures most { AreAtMost stamp table.new }
 {
     for _ in table.len()..n {
         table.push(0)?;
@@ -43,16 +47,17 @@ fn grow(table: &mut Items<u32>, n: usize, stamp: u32) -> Result<(), AllocError>
     Ok(())
 }
 
-/// The stamp stands at i, if that is there.
-fn set_stamp(table: &mut Items<u32>, i: u32, stamp: u32) -> bool
-    ensures set { result ≡ true → (i < length table.old) × (table.new ≡ slice_set table.old i stamp) }
-    ensures kept { result ≡ false → table.new ≡ table.old }
+/// The stamp stands at i.
+#[tactic(auto, using(crate::proofs::Marking::stamps))]
+fn set_stamp(table: &mut Items<u32>, i: u32, stamp: u32) -> Result<(), AllocError>
+    requires some { 0 < stamp }
+    requires most { AreAtMost stamp table.old }
+    ensures set { IsOk result → HasStampAt stamp i table.old table.new }
+    ensures most { AreAtMost stamp table.new }
 {
-    if (i as usize) < table.len() {
-        table.set(i as usize, stamp);
-        return true;
-    }
-    false
+    grow(table, i as usize + 1, stamp)?;
+    table.set(i as usize, stamp);
+    Ok(())
 }
 
 impl Marks {
@@ -80,10 +85,10 @@ impl Marks {
         }
     }
 
-    /// Takes the literal in, if its variable has a place.
+    /// Takes the literal in.
     #[tactic(auto, using(crate::proofs::Marking::inserts))]
-    pub fn insert(&mut self, l: Literal) -> bool
-        ensures { result ≡ true → (k : Literal) → is_marked self.new.stamp self.new.positive self.new.negative k ≡ (is_marked self.old.stamp self.old.positive self.old.negative k || is_literal k l) }
+    pub fn insert(&mut self, l: Literal) -> Result<(), AllocError>
+        ensures { IsOk result → (k : Literal) → is_marked self.new.stamp self.new.positive self.new.negative k ≡ (is_marked self.old.stamp self.old.positive self.old.negative k || is_literal k l) }
     {
         if l.positive {
             set_stamp(&mut self.positive, l.variable, self.stamp)
@@ -92,18 +97,15 @@ impl Marks {
         }
     }
 
-    /// Empties the set, which then has a place for each of the first n variables.
+    /// Empties the set.
     #[tactic(auto, using(crate::proofs::Marking::clears))]
-    pub fn clear(&mut self, alloc: Global, n: usize) -> Result<(), AllocError>
-        ensures { IsOk result → (l : Literal) → is_marked self.new.stamp self.new.positive self.new.negative l ≡ false }
+    pub fn clear(&mut self, alloc: Global)
+        ensures { (l : Literal) → is_marked self.new.stamp self.new.positive self.new.negative l ≡ false }
     {
         if self.stamp == u32::MAX {
-            self.positive = Items::new(alloc);
-            self.negative = Items::new(alloc);
-            self.stamp = 0;
+            *self = Marks::new(alloc);
+            return;
         }
         self.stamp += 1;
-        grow(&mut self.positive, n, self.stamp)?;
-        grow(&mut self.negative, n, self.stamp)
     }
 }

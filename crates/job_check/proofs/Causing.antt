@@ -13,7 +13,7 @@ use Rattle.pri_problem.proofs.Answering.{posed_answered}
 use Rattle.pri_problem.proofs.Encoded.{fitting_answered, same_encoded}
 use Rattle.job_check.specs.Causes.{AreProofCauses, CheckCauses}
 use Rattle.job_check.specs.Checked.{AnswersProof, IsChecked, clauses, tree}
-use Rattle.job_check.specs.Exactly.{IsCut, IsOneAnswer}
+use Rattle.job_check.specs.Exactly.{IsCutAnswer, IsOneAnswer}
 use Rattle.job_check.proofs.ClauseCauses.{clause_causes, one_clauses}
 use Rattle.job_check.proofs.Exactly.{clauses_decided, same_row, status_of, tree_decided}
 use Rattle.job_check.proofs.TreeCauses.{one_tree, tree_causes}
@@ -50,7 +50,7 @@ one_row p proof a b (tree other h) (clauses is k) = absurd cc
 one_row p proof a b (clauses is h) (tree other k) = absurd cc
 one_row p proof a b (clauses is h) (clauses too k) = by (one_clauses p proof a b h k)
   where
-    by : (a ≡ b) ⊎ (IsCut a ⊎ IsCut b) → IsOneAnswer proof a b
+    by : (a ≡ b) ⊎ (IsCutAnswer a ⊎ IsCutAnswer b) → IsOneAnswer proof a b
     by (inl same) = inl same
     by (inr cut) = inr (is, cut)
 

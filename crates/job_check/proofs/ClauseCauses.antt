@@ -10,9 +10,9 @@ use Rattle.pri_lines.specs.Lines.{valued_lines}
 use Rattle.clause_file.specs.Verdicts.{IsVerdict, Verdict, proof as shows, refused, wrong}
 use Rattle.job_check.specs.Causes.{AreClauseCauses, IsWrittenOf}
 use Rattle.job_check.specs.Clauses as clause
-use Rattle.job_check.specs.Clauses.{AnswersClauses, HasWrongLine, IsRefusedText, ReachesLine, Shows}
+use Rattle.job_check.specs.Clauses.{AnswersClauses, HasDearLine, HasWrongLine, IsRefusedText, ReachesLine, Shows}
 use Rattle.job_check.specs.Exactly as exactly
-use Rattle.job_check.specs.Exactly.{IsCut}
+use Rattle.job_check.specs.Exactly.{IsCutAnswer}
 use Rattle.job_check.proofs.Exactly.{clauses_decided, status_of}
 use Rattle.job_check.proofs.Shown.{one}
 use Rattle.job_check.proofs.TreeCauses.{accepted_other, letters_same, numbers_same}
@@ -40,10 +40,10 @@ valued : (p : Problem) (names : List (List ℕ)) (vs : List ℤ) → names ≢ [
 valued p [] vs some = absurd (some refl)
 valued p (name ∷ names) vs some = refl
 
-told : (p : Problem) (proof : List ℕ) (a : Answer) (v : Verdict) → IsVerdictOf p proof v → a ≡ answer_to p v → Told p proof a ⊎ IsCut a
+told : (p : Problem) (proof : List ℕ) (a : Answer) (v : Verdict) → IsVerdictOf p proof v → a ≡ answer_to p v → Told p proof a ⊎ IsCutAnswer a
 told p proof a v h e = inl (record { verdict = v; is_verdict = h; is = e })
 
-by_row : (p : Problem) (proof : List ℕ) (a : Answer) → AnswersClauses proof p a → Told p proof a ⊎ IsCut a
+by_row : (p : Problem) (proof : List ℕ) (a : Answer) → AnswersClauses proof p a → Told p proof a ⊎ IsCutAnswer a
 by_row p proof a (clause.syntax at h e) = told p proof a (refused at) h e
 by_row p proof a (clause.wrong at h e) = told p proof a (wrong at) h e
 by_row p proof a (clause.range at h e) = inr (exactly.range at e)
@@ -56,21 +56,21 @@ same_verdict : (p : Problem) (proof : List ℕ) (a : Answer) (t : Told p proof a
 same_verdict p proof a t v h = t.is ∙ ap (answer_to p) (one p proof t.verdict v t.is_verdict h)
 
 -- where this is so of the file, the answer tells it, or its check was cut
-there : (p : Problem) (proof : List ℕ) (a : Answer) (v : Verdict) → AnswersClauses proof p a → IsVerdictOf p proof v → (a ≡ answer_to p v) ⊎ IsCut a
+there : (p : Problem) (proof : List ℕ) (a : Answer) (v : Verdict) → AnswersClauses proof p a → IsVerdictOf p proof v → (a ≡ answer_to p v) ⊎ IsCutAnswer a
 there p proof a v row h = by (by_row p proof a row)
   where
-    by : Told p proof a ⊎ IsCut a → (a ≡ answer_to p v) ⊎ IsCut a
+    by : Told p proof a ⊎ IsCutAnswer a → (a ≡ answer_to p v) ⊎ IsCutAnswer a
     by (inl t) = inl (same_verdict p proof a t v h)
     by (inr cut) = inr cut
 
-pub one_clauses : (p : Problem) (proof : List ℕ) (a b : Answer) → AnswersClauses proof p a → AnswersClauses proof p b → (a ≡ b) ⊎ (IsCut a ⊎ IsCut b)
+pub one_clauses : (p : Problem) (proof : List ℕ) (a b : Answer) → AnswersClauses proof p a → AnswersClauses proof p b → (a ≡ b) ⊎ (IsCutAnswer a ⊎ IsCutAnswer b)
 one_clauses p proof a b h k = by (by_row p proof b k)
   where
-    so : (t : Told p proof b) → (a ≡ answer_to p t.verdict) ⊎ IsCut a → (a ≡ b) ⊎ (IsCut a ⊎ IsCut b)
+    so : (t : Told p proof b) → (a ≡ answer_to p t.verdict) ⊎ IsCutAnswer a → (a ≡ b) ⊎ (IsCutAnswer a ⊎ IsCutAnswer b)
     so t (inl e) = inl (e ∙ sym t.is)
     so t (inr cut) = inr (inl cut)
 
-    by : Told p proof b ⊎ IsCut b → (a ≡ b) ⊎ (IsCut a ⊎ IsCut b)
+    by : Told p proof b ⊎ IsCutAnswer b → (a ≡ b) ⊎ (IsCutAnswer a ⊎ IsCutAnswer b)
     by (inl t) = so t (there p proof a t.verdict h t.is_verdict)
     by (inr cut) = inr (inr cut)
 
@@ -100,7 +100,7 @@ range_by p proof a at e (clause.cost n h is) = let bad : 99 ≡ 114 = letters_sa
 range_by p proof a at e (clause.closed vs h none is) = absurd (accepted_other a (codes "range " ++ decimal at) (ap status_of is) e)
 range_by p proof a at e (clause.valid vs text h some printed is) = absurd (accepted_other a (codes "range " ++ decimal at) (ap status_of is) e)
 
-cost_by : (p : Problem) (proof : List ℕ) (a : Answer) (at : ℕ) → a ≡ refused_proof_answer (codes "cost " ++ decimal at) → AnswersClauses proof p a → IsWrittenOf (ReachesLine p proof) at
+cost_by : (p : Problem) (proof : List ℕ) (a : Answer) (at : ℕ) → a ≡ refused_proof_answer (codes "cost " ++ decimal at) → AnswersClauses proof p a → IsWrittenOf (HasDearLine p proof) at
 cost_by p proof a at e (clause.syntax n h is) = let bad : 83 ≡ 99 = letters_same a (codes "Syntax at " ++ decimal n) (codes "cost " ++ decimal at) is e in absurd (omega (arith, bad))
 cost_by p proof a at e (clause.wrong n h is) = let bad : 108 ≡ 99 = letters_same a (codes "line " ++ decimal n) (codes "cost " ++ decimal at) is e in absurd (omega (arith, bad))
 cost_by p proof a at e (clause.range n h is) = let bad : 114 ≡ 99 = letters_same a (codes "range " ++ decimal n) (codes "cost " ++ decimal at) is e in absurd (omega (arith, bad))

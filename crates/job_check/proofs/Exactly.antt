@@ -24,7 +24,8 @@ use Rattle.pri_problem.specs.Reads.{AreSame}
 use Rattle.pri_problem.proofs.Answering.{posed_answered}
 use Rattle.pri_problem.proofs.Encoded.{fitting_answered, root_same, same_encoded}
 use Rattle.pri_lines.specs.Lines.{valued_lines}
-use Rattle.clause_file.specs.Cuts.{IsCutAt}
+use Rattle.clause_file.specs.Costs.{IsCostAt}
+use Rattle.clause_file.specs.Ranges.{IsRangeAt}
 use Rattle.clause_file.specs.Verdicts.{HoldsClauseProof, IsRefusedFirst, IsWrongAt}
 use Rattle.clause_file.specs.Answers.{is_clause_text}
 use Rattle.model_trees.specs.Walk.{point}
@@ -32,7 +33,7 @@ use Rattle.job_check.specs.Checked.{AnswersProof, AnswersTree, IsChecked, Judged
 use Rattle.job_check.specs.Clauses as clause
 use Rattle.job_check.specs.Clauses.{AnswersClauses, Shows}
 use Rattle.job_check.specs.Exactly as exactly
-use Rattle.job_check.specs.Exactly.{HoldsClauses, HoldsTree, IsCut, IsDecided}
+use Rattle.job_check.specs.Exactly.{HoldsClauses, HoldsTree, IsCutAnswer, IsDecided}
 use Rattle.proof_tree.specs.Proves.{Proves}
 use Rattle.job_check.proofs.Formats.{no_clauses, no_tree}
 use Rattle.job_check.proofs.Meaning.{proves}
@@ -64,8 +65,8 @@ same_tree proof p q a same (invalid x c charges j e) = invalid x c charges (same
 same_clauses : (proof : List ℕ) (p q : Problem) (a : Answer) → AreSame p q → AnswersClauses proof p a → AnswersClauses proof q a
 same_clauses proof p q a same (clause.syntax at h e) = clause.syntax at (moved (λ f n. IsRefusedFirst f n proof at) p q same h) e
 same_clauses proof p q a same (clause.wrong at h e) = clause.wrong at (moved (λ f n. IsWrongAt f n proof at) p q same h) e
-same_clauses proof p q a same (clause.range at h e) = clause.range at (moved (λ f n. IsCutAt f n proof at) p q same h) e
-same_clauses proof p q a same (clause.cost at h e) = clause.cost at (moved (λ f n. IsCutAt f n proof at) p q same h) e
+same_clauses proof p q a same (clause.range at h e) = clause.range at (moved (λ f n. IsRangeAt f n proof at) p q same h) e
+same_clauses proof p q a same (clause.cost at h e) = clause.cost at (moved (λ f n. IsCostAt f n proof at) p q same h) e
 same_clauses proof p q a same (clause.closed vs h none e) = clause.closed vs (moved (λ f n. HoldsClauseProof f n proof vs) p q same h) (sym same.existentials ∙ none) e
 same_clauses proof p q a same (clause.valid vs text h some printed e) =
     clause.valid vs text (moved (λ f n. HoldsClauseProof f n proof vs) p q same h) (λ none. some (same.existentials ∙ none)) (text_same p q (point vs) text same printed)
@@ -124,10 +125,10 @@ tree_decided p proof a (invalid x c charges j e) = accepts p proof a x c charges
 -- the same of a clause proof, but for a cut
 pub record IsClauseDecided (p : Problem) (proof : List ℕ) (answer : Answer) : Type 0 where
   pub accepts : answer.status ≡ 0 → HoldsClauses p proof
-  pub holds : HoldsClauses p proof → (answer.status ≡ 0) ⊎ IsCut answer
+  pub holds : HoldsClauses p proof → (answer.status ≡ 0) ⊎ IsCutAnswer answer
   pub decides : (answer.status ≡ 0) ⊎ (answer.status ≡ 4)
 
-refuses_clauses : (p : Problem) (proof : List ℕ) (a : Answer) → a.status ≡ 4 → (HoldsClauses p proof → (a.status ≡ 0) ⊎ IsCut a) → IsClauseDecided p proof a
+refuses_clauses : (p : Problem) (proof : List ℕ) (a : Answer) → a.status ≡ 4 → (HoldsClauses p proof → (a.status ≡ 0) ⊎ IsCutAnswer a) → IsClauseDecided p proof a
 refuses_clauses p proof a four holds = record { accepts = λ z. (let bad = sym z ∙ four in absurd cc); holds = holds; decides = inr four }
 
 accepts_clauses : (p : Problem) (proof : List ℕ) (a : Answer) (vs : List ℤ) → a.status ≡ 0 → Shows p proof vs → IsClauseDecided p proof a

@@ -11,7 +11,8 @@ use Rattle.base_answers.specs.Answer.{Answer, answer_of}
 use Rattle.base_answers.specs.declared.output.Output.{Output}
 use Rattle.pri_problem.specs.Encoded.{IsEncoded}
 use Rattle.clause_file.specs.Answers.{IsFault, is_clause_text}
-use Rattle.clause_file.specs.Cuts.{IsCutAt}
+use Rattle.clause_file.specs.Costs.{IsCostAt}
+use Rattle.clause_file.specs.Ranges.{IsRangeAt}
 use Rattle.clause_file.specs.Verdicts.{HoldsClauseProof, IsRefusedFirst, IsWrongAt}
 use Rattle.clause_file.specs.declared.fault.ClauseFault.{ClauseFault}
 use Rattle.clause_file.specs.declared.fault.ClauseFault.TheVariants as fault
@@ -35,8 +36,8 @@ shown_so p e h proof vs k (Err m) told = tt
 fault_told : (p : Problem) (e : Encoded) → IsEncoded p e → (proof : List ℕ) (f : ClauseFault) → IsFault (form e.root) e.constants proof f → (a : Answer) → TellsClauseFault f a → AnswersClauses proof p a
 fault_told p e h proof (fault.Syntax at) t a is = syntax at (at_problem (λ f n. IsRefusedFirst f n proof at) p e h t) is
 fault_told p e h proof (fault.Line at) t a is = wrong at (at_problem (λ f n. IsWrongAt f n proof at) p e h t) is
-fault_told p e h proof (fault.Range at) t a is = range at (at_problem (λ f n. IsCutAt f n proof at) p e h t) is
-fault_told p e h proof (fault.Cost at) t a is = cost at (at_problem (λ f n. IsCutAt f n proof at) p e h t) is
+fault_told p e h proof (fault.Range at) t a is = range at (at_problem (λ f n. IsRangeAt f n proof at) p e h t) is
+fault_told p e h proof (fault.Cost at) t a is = cost at (at_problem (λ f n. IsCostAt f n proof at) p e h t) is
 fault_told p e h proof fault.Memory t a is = absurd is
 
 pub fault_so : (p : Problem) (e : Encoded) → IsEncoded p e → (proof : List ℕ) (f : ClauseFault) → IsFault (form e.root) e.constants proof f → (r : Result Output Memory)

@@ -18,7 +18,7 @@ use Rattle.pri_typing.specs.declared.problem.Problem.{Problem}
 use Rattle.pri_printer.specs.Printed.{dnf_text}
 use Rattle.base_answers.specs.Answer.{Answer, line, says_line, refused_proof_answer}
 use Rattle.pri_lines.specs.Lines.{valued_lines}
-use Rattle.job_check.specs.Causes.{AreTreeCauses, IsJudged, IsWrittenOf}
+use Rattle.job_check.specs.Causes.{AreTreeCauses, IsJudgedTree, IsWrittenOf}
 use Rattle.job_check.specs.Checked.{AnswersTree, Judged, syntax, deep, node, range, cost, closed, valid, invalid}
 use Rattle.job_check.specs.Exactly.{HoldsTree}
 use Rattle.job_check.proofs.Exactly.{status_of, tree_decided}
@@ -133,7 +133,7 @@ deep_by p proof a at e (judged x (too_costly n)) h is = let bad : 99 ≡ 68 = le
 deep_by p proof a at e (judged x (accepted (Valid vs))) h is = absurd (accepted_other a (codes "Deep at " ++ decimal at) (ap status_of is ∙ valid_status p p.existentials x vs) e)
 deep_by p proof a at e (judged x (accepted Invalid)) h is = absurd (accepted_other a (codes "Deep at " ++ decimal at) (ap status_of is) e)
 
-node_by : (p : Problem) (proof : List ℕ) (a : Answer) (at : ℕ) → a ≡ refused_proof_answer (codes "node " ++ decimal at) → (f : Found) → IsFound p proof f → a ≡ answer_to p f → IsWrittenOf (λ m. IsJudged p proof (wrong m)) at
+node_by : (p : Problem) (proof : List ℕ) (a : Answer) (at : ℕ) → a ≡ refused_proof_answer (codes "node " ++ decimal at) → (f : Found) → IsFound p proof f → a ≡ answer_to p f → IsWrittenOf (λ m. IsJudgedTree p proof (wrong m)) at
 node_by p proof a at e (unread (r.Syntax n)) h is = let bad : 83 ≡ 110 = letters_same a (codes "Syntax at " ++ decimal n) (codes "node " ++ decimal at) is e in absurd (omega (arith, bad))
 node_by p proof a at e (unread (r.Deep n)) h is = let bad : 68 ≡ 110 = letters_same a (codes "Deep at " ++ decimal n) (codes "node " ++ decimal at) is e in absurd (omega (arith, bad))
 node_by p proof a at e (unread r.Memory) h is = absurd (h.1 refl)
@@ -143,7 +143,7 @@ node_by p proof a at e (judged x (too_costly n)) h is = let bad : 99 ≡ 110 = l
 node_by p proof a at e (judged x (accepted (Valid vs))) h is = absurd (accepted_other a (codes "node " ++ decimal at) (ap status_of is ∙ valid_status p p.existentials x vs) e)
 node_by p proof a at e (judged x (accepted Invalid)) h is = absurd (accepted_other a (codes "node " ++ decimal at) (ap status_of is) e)
 
-range_by : (p : Problem) (proof : List ℕ) (a : Answer) (at : ℕ) → a ≡ refused_proof_answer (codes "range " ++ decimal at) → (f : Found) → IsFound p proof f → a ≡ answer_to p f → IsWrittenOf (λ m. (numbers : List Place) × IsJudged p proof (leaves m numbers)) at
+range_by : (p : Problem) (proof : List ℕ) (a : Answer) (at : ℕ) → a ≡ refused_proof_answer (codes "range " ++ decimal at) → (f : Found) → IsFound p proof f → a ≡ answer_to p f → IsWrittenOf (λ m. (numbers : List Place) × IsJudgedTree p proof (leaves m numbers)) at
 range_by p proof a at e (unread (r.Syntax n)) h is = let bad : 83 ≡ 114 = letters_same a (codes "Syntax at " ++ decimal n) (codes "range " ++ decimal at) is e in absurd (omega (arith, bad))
 range_by p proof a at e (unread (r.Deep n)) h is = let bad : 68 ≡ 114 = letters_same a (codes "Deep at " ++ decimal n) (codes "range " ++ decimal at) is e in absurd (omega (arith, bad))
 range_by p proof a at e (unread r.Memory) h is = absurd (h.1 refl)
@@ -153,7 +153,7 @@ range_by p proof a at e (judged x (too_costly n)) h is = let bad : 99 ≡ 114 = 
 range_by p proof a at e (judged x (accepted (Valid vs))) h is = absurd (accepted_other a (codes "range " ++ decimal at) (ap status_of is ∙ valid_status p p.existentials x vs) e)
 range_by p proof a at e (judged x (accepted Invalid)) h is = absurd (accepted_other a (codes "range " ++ decimal at) (ap status_of is) e)
 
-cost_by : (p : Problem) (proof : List ℕ) (a : Answer) (at : ℕ) → a ≡ refused_proof_answer (codes "cost " ++ decimal at) → (f : Found) → IsFound p proof f → a ≡ answer_to p f → IsWrittenOf (λ m. IsJudged p proof (too_costly m)) at
+cost_by : (p : Problem) (proof : List ℕ) (a : Answer) (at : ℕ) → a ≡ refused_proof_answer (codes "cost " ++ decimal at) → (f : Found) → IsFound p proof f → a ≡ answer_to p f → IsWrittenOf (λ m. IsJudgedTree p proof (too_costly m)) at
 cost_by p proof a at e (unread (r.Syntax n)) h is = let bad : 83 ≡ 99 = letters_same a (codes "Syntax at " ++ decimal n) (codes "cost " ++ decimal at) is e in absurd (omega (arith, bad))
 cost_by p proof a at e (unread (r.Deep n)) h is = let bad : 68 ≡ 99 = letters_same a (codes "Deep at " ++ decimal n) (codes "cost " ++ decimal at) is e in absurd (omega (arith, bad))
 cost_by p proof a at e (unread r.Memory) h is = absurd (h.1 refl)

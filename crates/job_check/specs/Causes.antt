@@ -16,12 +16,12 @@ use Rattle.pri_problem.specs.Refused.{ComesOf, IsRefused}
 use Rattle.pri_problem.specs.Answers.{Poses, PosesOne}
 use Rattle.pri_problem.specs.Encoded.{Fits, IsLarge, LeavesRange}
 use Rattle.job_check.specs.Checked.{Judged}
-use Rattle.job_check.specs.Clauses.{HasWrongLine, IsRefusedText, ReachesLine}
-use Rattle.job_check.specs.Exactly.{HoldsClauses, HoldsTree, IsCut}
+use Rattle.job_check.specs.Clauses.{HasDearLine, HasWrongLine, IsRefusedText, ReachesLine}
+use Rattle.job_check.specs.Exactly.{HoldsClauses, HoldsTree, IsCutAnswer}
 
 -- the file holds a proof of which the check, for the encoding of the problem, answers this
-abbrev pub IsJudged : Problem → List ℕ → Check → Type 0
-IsJudged p proof answer = (x : Proof) × (c : Conclusion) × (charges : ℕ) × Judged p proof x c charges answer
+abbrev pub IsJudgedTree : Problem → List ℕ → Check → Type 0
+IsJudgedTree p proof answer = (x : Proof) × (c : Conclusion) × (charges : ℕ) × Judged p proof x c charges answer
 
 -- the number is written as one that is so
 abbrev pub IsWrittenOf : (ℕ → Type 0) → ℕ → Type 0
@@ -34,7 +34,7 @@ pub record ComesWhere (answer : Answer) (word : List ℕ) (IsCause : ℕ → Typ
 
 -- the same of a check that may be cut before it comes there
 pub record ComesUnlessCut (answer : Answer) (word : List ℕ) (IsCause : ℕ → Type 0) : Type 0 where
-  pub there : (n : ℕ) → IsCause n → (answer ≡ refused_proof_answer (word ++ decimal n)) ⊎ IsCut answer
+  pub there : (n : ℕ) → IsCause n → (answer ≡ refused_proof_answer (word ++ decimal n)) ⊎ IsCutAnswer answer
   pub only : (n : ℕ) → answer ≡ refused_proof_answer (word ++ decimal n) → IsWrittenOf IsCause n
 
 -- the answer to a proof tree comes exactly where its row says: accepted where the file holds a proof of the problem; else refused, where
@@ -45,19 +45,19 @@ pub record AreTreeCauses (p : Problem) (proof : List ℕ) (answer : Answer) : Ty
   pub refuses : (answer.status ≡ 4) ↔ (¬ (HoldsTree p proof))
   pub syntax : ComesWhere answer (codes "Syntax at ") (λ at. RefusesProofFile proof (r.Syntax at))
   pub deep : ComesWhere answer (codes "Deep at ") (λ at. RefusesProofFile proof (r.Deep at))
-  pub node : ComesWhere answer (codes "node ") (λ m. IsJudged p proof (wrong m))
-  pub range : ComesWhere answer (codes "range ") (λ m. (numbers : List Place) × IsJudged p proof (leaves m numbers))
-  pub cost : ComesWhere answer (codes "cost ") (λ m. IsJudged p proof (too_costly m))
+  pub node : ComesWhere answer (codes "node ") (λ m. IsJudgedTree p proof (wrong m))
+  pub range : ComesWhere answer (codes "range ") (λ m. (numbers : List Place) × IsJudgedTree p proof (leaves m numbers))
+  pub cost : ComesWhere answer (codes "cost ") (λ m. IsJudgedTree p proof (too_costly m))
 
 -- the same of a clause proof: refused where the file is refused at that place, and where that line makes nothing; a cut says how far the
 -- check came
 pub record AreClauseCauses (p : Problem) (proof : List ℕ) (answer : Answer) : Type 0 where
   pub accepts : answer.status ≡ 0 → HoldsClauses p proof
-  pub holds : HoldsClauses p proof → (answer.status ≡ 0) ⊎ IsCut answer
+  pub holds : HoldsClauses p proof → (answer.status ≡ 0) ⊎ IsCutAnswer answer
   pub syntax : ComesUnlessCut answer (codes "Syntax at ") (IsRefusedText p proof)
   pub line : ComesUnlessCut answer (codes "line ") (HasWrongLine p proof)
   pub range : (n : ℕ) → answer ≡ refused_proof_answer (codes "range " ++ decimal n) → IsWrittenOf (ReachesLine p proof) n
-  pub cost : (n : ℕ) → answer ≡ refused_proof_answer (codes "cost " ++ decimal n) → IsWrittenOf (ReachesLine p proof) n
+  pub cost : (n : ℕ) → answer ≡ refused_proof_answer (codes "cost " ++ decimal n) → IsWrittenOf (HasDearLine p proof) n
 
 -- the answer to a problem whose encoding fits, and to the proof in a file
 pub record AreProofCauses (p : Problem) (proof : List ℕ) (answer : Answer) : Type 0 where

@@ -7,7 +7,8 @@ use Rattle.pri_typing.specs.declared.problem.Problem.{Problem}
 use Rattle.base_answers.specs.Answer.{Answer, line, says_line, refused_proof_answer}
 use Rattle.pri_lines.specs.Lines.{valued_lines}
 use Rattle.pri_lines.specs.Constraint.{IsTextOf}
-use Rattle.clause_file.specs.Cuts.{IsCutAt}
+use Rattle.clause_file.specs.Costs.{IsCostAt}
+use Rattle.clause_file.specs.Ranges.{IsRangeAt}
 use Rattle.clause_file.specs.Verdicts.{HoldsClauseProof, IsRefusedFirst, IsWrongAt}
 
 -- the file holds a clause proof of the problem, with these values of its existential constants
@@ -22,9 +23,13 @@ IsRefusedText p proof at = IsRefusedFirst (problem_root p).value (length p.exist
 abbrev pub HasWrongLine : Problem → List ℕ → ℕ → Type 0
 HasWrongLine p proof at = IsWrongAt (problem_root p).value (length p.existentials) proof at
 
--- the check can be cut at this line of the file: all before it is read and made
+-- this line of the file is the first that the charges of the proof do not pay for
+abbrev pub HasDearLine : Problem → List ℕ → ℕ → Type 0
+HasDearLine p proof at = IsCostAt (problem_root p).value (length p.existentials) proof at
+
+-- a number can leave the range at this line of the file: all before it is read and made
 abbrev pub ReachesLine : Problem → List ℕ → ℕ → Type 0
-ReachesLine p proof at = IsCutAt (problem_root p).value (length p.existentials) proof at
+ReachesLine p proof at = IsRangeAt (problem_root p).value (length p.existentials) proof at
 
 -- the answer to a problem whose encoding fits, and the clause proof in a file: the problem holds where each existential constant has its
 -- value
@@ -32,7 +37,7 @@ pub data AnswersClauses (proof : List ℕ) (p : Problem) (answer : Answer) : Typ
   syntax : (at : ℕ) → IsRefusedText p proof at → answer ≡ refused_proof_answer (codes "Syntax at " ++ decimal at) → AnswersClauses proof p answer
   wrong : (at : ℕ) → HasWrongLine p proof at → answer ≡ refused_proof_answer (codes "line " ++ decimal at) → AnswersClauses proof p answer
   range : (at : ℕ) → ReachesLine p proof at → answer ≡ refused_proof_answer (codes "range " ++ decimal at) → AnswersClauses proof p answer
-  cost : (at : ℕ) → ReachesLine p proof at → answer ≡ refused_proof_answer (codes "cost " ++ decimal at) → AnswersClauses proof p answer
+  cost : (at : ℕ) → HasDearLine p proof at → answer ≡ refused_proof_answer (codes "cost " ++ decimal at) → AnswersClauses proof p answer
   closed : (vs : List ℤ) → Shows p proof vs → p.existentials ≡ [] → answer ≡ says_line 0 (codes "CHECKED VALID") → AnswersClauses proof p answer
   valid : (vs : List ℤ) (text : List ℕ) → Shows p proof vs → p.existentials ≢ [] → IsTextOf p (point vs) text
       → answer ≡ record { status = 0; text = line (codes "CHECKED VALID") ++ valued_lines p text vs } → AnswersClauses proof p answer

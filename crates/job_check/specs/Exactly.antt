@@ -28,18 +28,18 @@ pub record HoldsClauses (p : Problem) (proof : List ℕ) : Type 0 where
   pub holds : Shows p proof values
 
 -- the check of a clause proof was cut by a number that leaves the range, or by the charges: this answer says nothing of the proof
-pub data IsCut (answer : Answer) : Type 0 where
-  range : (line : ℕ) → answer ≡ refused_proof_answer (codes "range " ++ decimal line) → IsCut answer
-  cost : (line : ℕ) → answer ≡ refused_proof_answer (codes "cost " ++ decimal line) → IsCut answer
+pub data IsCutAnswer (answer : Answer) : Type 0 where
+  range : (line : ℕ) → answer ≡ refused_proof_answer (codes "range " ++ decimal line) → IsCutAnswer answer
+  cost : (line : ℕ) → answer ≡ refused_proof_answer (codes "cost " ++ decimal line) → IsCutAnswer answer
 
 -- the status is 0, so that the file holds a proof of the problem, or 4; a file that holds one has status 0, but for a cut of a clause
 -- proof
 pub record IsDecided (p : Problem) (proof : List ℕ) (answer : Answer) : Type 0 where
   pub accepts : answer.status ≡ 0 → HoldsTree p proof ⊎ HoldsClauses p proof
   pub tree : HoldsTree p proof → answer.status ≡ 0
-  pub clauses : HoldsClauses p proof → (answer.status ≡ 0) ⊎ IsCut answer
+  pub clauses : HoldsClauses p proof → (answer.status ≡ 0) ⊎ IsCutAnswer answer
   pub decides : (answer.status ≡ 0) ⊎ (answer.status ≡ 4)
 
 -- two answers are one, but where the proof is a clause proof and one of them says that its check was cut
 abbrev pub IsOneAnswer : List ℕ → Answer → Answer → Type 0
-IsOneAnswer proof a b = (a ≡ b) ⊎ ((is_clause_text proof ≡ true) × (IsCut a ⊎ IsCut b))
+IsOneAnswer proof a b = (a ≡ b) ⊎ ((is_clause_text proof ≡ true) × (IsCutAnswer a ⊎ IsCutAnswer b))

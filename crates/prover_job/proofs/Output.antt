@@ -37,7 +37,7 @@ use Rattle.job_solve.specs.Solved.{AnswersEnd, IsSolved, closed, closed_answer, 
 use Rattle.job_solve.proofs.Printing.{impure_is, parted}
 use Rattle.job_solve.proofs.Saturated.{one_or_two}
 use Rattle.job_check.specs.Checked.{IsChecked}
-use Rattle.job_check.specs.Exactly.{IsCut}
+use Rattle.job_check.specs.Exactly.{IsCutAnswer}
 use Rattle.job_check.proofs.Exactly.{decided}
 use Rattle.prover_job.proofs.Lines.{AreInner, IsOfLines, IsPassed, inner_append, inner_word, no_lines, one_alone, one_more, part_after}
 use Rattle.prover_job.proofs.Printed.{dnf_inner, solution_inner}
@@ -173,7 +173,7 @@ output_accepted form budget bytes a b solved good is = accepted_by form budget b
 
 -- behind such lines, the file that is printed is the part that holds the proof
 clauses_accepted : (bytes : List ℕ) (p : Problem) (text file : List ℕ) → Poses bytes p → Fits p → p.existentials ≡ [] → IsOfLines text → IsClauseFile p file → (b : Answer)
-    → IsChecked (text ++ (codes "proof:\n" ++ file)) bytes b → (b.status ≡ 0) ⊎ IsCut b
+    → IsChecked (text ++ (codes "proof:\n" ++ file)) bytes b → (b.status ≡ 0) ⊎ IsCutAnswer b
 clauses_accepted bytes p text file poses fits alone lines h b is =
     let whole = text ++ (codes "proof:\n" ++ file) in
     let same : body whole ≡ body file = part_after text file lines ∙ sym h.own in
@@ -188,7 +188,7 @@ clauses_accepted bytes p text file poses fits alone lines h b is =
     } in
     (decided whole bytes b p is poses fits).clauses (record { values = []; holds = subst (λ n. HoldsClauseProof (problem_root p).value n whole []) (sym (ap length alone)) held })
 
-proved_accepted : (form : ProofForm) (budget : ℕ) (bytes : List ℕ) (p : Problem) (a b : Answer) → Poses bytes p → Fits p → AnswersProved (Some form) budget p a → IsChecked a.text bytes b → (b.status ≡ 0) ⊎ IsCut b
+proved_accepted : (form : ProofForm) (budget : ℕ) (bytes : List ℕ) (p : Problem) (a b : Answer) → Poses bytes p → Fits p → AnswersProved (Some form) budget p a → IsChecked a.text bytes b → (b.status ≡ 0) ⊎ IsCutAnswer b
 proved_accepted form budget bytes p a b poses fits h is =
     clauses_accepted bytes p (closed_answer h.blocks).text h.file poses fits h.early.alone (closed_lines bytes p _ h.blocks poses h.lines) h.proof b
     (subst (λ t. IsChecked t bytes b) (ap text_of h.whole) is)
@@ -209,7 +209,7 @@ no_model calculus budget bytes a off one early (inr (h, pure, inl on)) = let bad
 no_model calculus budget bytes a off one early (inr (h, pure, inr never)) = never early
 
 pub decided_output : (form : ProofForm) (calculus : Bool) (budget : ℕ) (bytes : List ℕ) (a b : Answer) → IsDecidedAs calculus (Some form) budget bytes a → words.HasProof calculus budget bytes a → IsChecked a.text bytes b
-    → (b.status ≡ 0) ⊎ ((calculus ≡ false) × IsCut b)
+    → (b.status ≡ 0) ⊎ ((calculus ≡ false) × IsCutAnswer b)
 decided_output form calculus budget bytes a b (refused r h e) good is = inl (output_accepted form budget bytes a b (refused r h e) (has_proof calculus budget bytes a good) is)
 decided_output form calculus budget bytes a b (posed p h (large l e)) good is = inl (output_accepted form budget bytes a b (posed p h (large l e)) (has_proof calculus budget bytes a good) is)
 decided_output form calculus budget bytes a b (posed p h (leaves l e)) good is = inl (output_accepted form budget bytes a b (posed p h (leaves l e)) (has_proof calculus budget bytes a good) is)

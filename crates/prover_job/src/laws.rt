@@ -3,7 +3,7 @@
 ghost use Rattle.base_answers.specs.Answer.{Answer};
 ghost use Rattle.base_answers.specs.Files.{AnswersSource, most_of_file, most_of_proof};
 ghost use Rattle.job_check.specs.Checked.{IsChecked};
-ghost use Rattle.job_check.specs.Exactly.{IsCut};
+ghost use Rattle.job_check.specs.Exactly.{IsCutAnswer};
 ghost use Rattle.job_decide.specs.Decided.{IsDecidedAs};
 ghost use Rattle.proof_tree.specs.declared.run.Verdict.{Verdict};
 ghost use Rattle.job_solve.specs.Proved.{PrintsProofOf};
@@ -22,7 +22,7 @@ pub fn printed_law()
 /// none. The check of a clause proof may be cut; with `--calculus` there is neither.
 pub fn output_law()
     ensures { (form : ProofForm) (calculus : Bool) (budget : ℕ) (bytes : List ℕ) (a b : Answer) → IsDecidedAs calculus (Some form) budget bytes a
-        → HasProof calculus budget bytes a → IsChecked a.text bytes b → (b.status ≡ 0) ⊎ ((calculus ≡ false) × IsCut b) }
+        → HasProof calculus budget bytes a → IsChecked a.text bytes b → (b.status ≡ 0) ⊎ ((calculus ≡ false) × IsCutAnswer b) }
 {}
 
 /// Both sides together: what `solve --proof` or `solve --short` puts for a file, with such an answer, `check` of the same file accepts as
@@ -30,5 +30,5 @@ pub fn output_law()
 pub fn accepted_law()
     ensures { (form : ProofForm) (calculus : Bool) (budget : ℕ) (file : List ℕ) (a b : Answer)
         → AnswersSource most_of_file (IsDecidedAs calculus (Some form) budget) (Some file) a → HasProof calculus budget file a
-        → length a.text ≤ most_of_proof → AnswersSource most_of_file (AnswersWithProof (Some a.text)) (Some file) b → (b.status ≡ 0) ⊎ ((calculus ≡ false) × IsCut b) }
+        → length a.text ≤ most_of_proof → AnswersSource most_of_file (AnswersWithProof (Some a.text)) (Some file) b → (b.status ≡ 0) ⊎ ((calculus ≡ false) × IsCutAnswer b) }
 {}

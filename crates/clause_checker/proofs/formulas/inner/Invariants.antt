@@ -5,10 +5,7 @@ use Rattle.clause_proof.specs.Atoms.{inner_form}
 use Rattle.clause_checker.proofs.formulas.inner.Given as goal
 
 abbrev pub invariant-loop-g : goal.invariant-loop-g
-invariant-loop-g l = record {
-  inner : inner_form (form l.rest) ≡ inner_form (form l.f);
-  budget : l.purse.budget ≡ l.initial.purse.budget;
-}
+invariant-loop-g l = inner_form (form l.rest) ≡ inner_form (form l.f)
 
 abbrev pub decreases-loop-g : goal.decreases-loop-g
 decreases-loop-g l = size (form l.rest)

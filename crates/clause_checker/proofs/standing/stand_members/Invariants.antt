@@ -1,4 +1,4 @@
-use Rattle.std.proofs.Common.{◌≡◌, ◌≤◌, drop, length}
+use Rattle.std.proofs.Common.{◌≤◌, drop, length}
 use Rattle.formula.specs.Tree.{forms_of}
 use Rattle.clause_proof.specs.Lines.{members, stand_all}
 use Rattle.clause_checker.specs.Views.{definitions_of}
@@ -9,5 +9,4 @@ abbrev pub invariant-loop-i : goal.invariant-loop-i
 invariant-loop-i l = record {
   most : l.i ≤ length l.fs;
   left : StandLeft (definitions_of l.definitions) (members (forms_of (drop l.i l.fs)) l.ts) (drop l.i l.literals) (stand_all (definitions_of l.initial.definitions) (members (forms_of l.fs) l.ts) l.literals);
-  budget : l.purse.budget ≡ l.initial.purse.budget;
 }

@@ -1,0 +1,7 @@
+use Rattle.std.proofs.Common.{suc}
+use Rattle.clause_set.proofs.Weights.{Sums}
+use Rattle.clause_checker.specs.Prices as prices
+use Rattle.clause_checker.proofs.formula_prices.copies_price.Given as goal
+
+abbrev pub invariant-loop-t : goal.invariant-loop-t
+invariant-loop-t l = Sums (λ t. suc (prices.width t)) l.ts l.t-index l.total
