@@ -3,7 +3,7 @@ use Rattle.std.proofs.Common.{◌≡◌, Option, Some, None, Result, Ok, Err, Is
 use Rattle.clause_proof.specs.Lines.{found}
 use Rattle.clause_checker.specs.declared.fault.Fault.{Fault}
 use Rattle.clause_checker.specs.declared.fault.Fault.TheVariants.{Refused, Steps, Overflow, Room, Memory}
-use Rattle.clause_checker.specs.Answers.{IsCut, Does}
+use Rattle.clause_checker.specs.Answers.{IsTermCut, Does}
 
 -- it made this
 pub does_some : {A B : Type 0} (view : A → B) (work : Option B) (x : A) → work ≡ Some (view x) → Does view work (Ok x)
@@ -13,7 +13,7 @@ does_some view work x h = record { ok = λ y is. let same : x ≡ y = cc in h �
 pub does_none : {A B : Type 0} (view : A → B) (work : Option B) → work ≡ None → Does view work (Err Refused)
 does_none view work h = record { ok = λ y is. absurd (cc); refused = λ is. h }
 
-not_refused : (e : Fault) → IsCut e → e ≡ Refused → ⊥
+not_refused : (e : Fault) → IsTermCut e → e ≡ Refused → ⊥
 not_refused Refused h is = h
 not_refused Steps h is = h
 not_refused (Overflow p) h is = absurd (cc)
@@ -21,7 +21,7 @@ not_refused Room h is = h
 not_refused Memory h is = absurd (cc)
 
 -- a cut says nothing
-pub does_cut : {A B : Type 0} (view : A → B) (work : Option B) (r : Result A Fault) → IsErrAnd r IsCut → Does view work r
+pub does_cut : {A B : Type 0} (view : A → B) (work : Option B) (r : Result A Fault) → IsErrAnd r IsTermCut → Does view work r
 does_cut view work (Ok x) h = absurd h
 does_cut view work (Err e) h = record { ok = λ y is. absurd (cc); refused = λ is. let same : e ≡ Refused = cc in absurd (not_refused e h same) }
 
@@ -30,9 +30,9 @@ pub does_room : {A B : Type 0} (view : A → B) (work : Option B) → Does view 
 does_room view work = record { ok = λ y is. absurd (cc); refused = λ is. absurd (cc) }
 
 -- the same of a fault that is handed on
-pub does_on : {A B : Type 0} (view : A → B) (work : Option B) (e : Fault) (r : Result A Fault) → IsErrAnd r (λ x. x ≡ e) → IsCut e → Does view work r
+pub does_on : {A B : Type 0} (view : A → B) (work : Option B) (e : Fault) (r : Result A Fault) → IsErrAnd r (λ x. x ≡ e) → IsTermCut e → Does view work r
 does_on view work e (Ok x) h k = absurd h
-does_on view work e (Err d) h k = does_cut view work (Err d) (subst IsCut (sym h) k)
+does_on view work e (Err d) h k = does_cut view work (Err d) (subst IsTermCut (sym h) k)
 
 -- after a part that made something, the rest
 pub does_then : {A B C D : Type 0} (u : A → B) (v : C → D) (part : Option B) (rest : B → Option D) (x : A) (r : Result C Fault) → Does u part (Ok x) → Does v (rest (u x)) r → Does v (found part rest) r

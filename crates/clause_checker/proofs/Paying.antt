@@ -6,10 +6,10 @@ use Rattle.clause_checker.specs.declared.fault.Fault.{Fault}
 use Rattle.clause_checker.specs.declared.fault.Fault.TheVariants.{Refused, Steps, Overflow, Room, Memory}
 use Rattle.clause_checker.proofs.Causes.{refused_has}
 use Rattle.clause_checker.proofs.Doing.{does_cut}
-use Rattle.clause_checker.specs.Answers.{Does, HasCause, IsCausedBy, IsRefusedOrCut, Pays}
+use Rattle.clause_checker.specs.Answers.{Does, HasCause, IsCausedBy, IsRefusedOrCut, PaysPrice}
 
 -- what is made after its price is paid
-pub paid_then : {A : Type 0} (p n : ℕ) (old new : Funds) (count : ℕ) (r : Result A Fault) → n ≡ p → new ≡ record old { spent = old.spent + n } → IfErr r (HasCause count) → Pays p old new r
+pub paid_then : {A : Type 0} (p n : ℕ) (old new : Funds) (count : ℕ) (r : Result A Fault) → n ≡ p → new ≡ record old { spent = old.spent + n } → IfErr r (HasCause count) → PaysPrice p old new r
 paid_then p n old new count (Ok x) is paid h = paid ∙ ap (λ k. record old { spent = old.spent + k }) is
 paid_then p n old new count (Err Refused) is paid h = paid ∙ ap (λ k. record old { spent = old.spent + k }) is
 paid_then p n old new count (Err Steps) is paid h = absurd h
@@ -17,7 +17,7 @@ paid_then p n old new count (Err (Overflow q)) is paid h = paid ∙ ap (λ k. re
 paid_then p n old new count (Err Room) is paid h = paid ∙ ap (λ k. record old { spent = old.spent + k }) is
 paid_then p n old new count (Err Memory) is paid h = tt
 
-pub refused_then : {A : Type 0} (p n : ℕ) (old new : Funds) (r : Result A Fault) → n ≡ p → new ≡ record old { spent = old.spent + n } → IfErr r IsRefusedOrCut → Pays p old new r
+pub refused_then : {A : Type 0} (p n : ℕ) (old new : Funds) (r : Result A Fault) → n ≡ p → new ≡ record old { spent = old.spent + n } → IfErr r IsRefusedOrCut → PaysPrice p old new r
 refused_then p n old new (Ok x) is paid h = paid ∙ ap (λ k. record old { spent = old.spent + k }) is
 refused_then p n old new (Err Refused) is paid h = paid ∙ ap (λ k. record old { spent = old.spent + k }) is
 refused_then p n old new (Err Steps) is paid h = absurd h
@@ -26,14 +26,14 @@ refused_then p n old new (Err Room) is paid h = absurd h
 refused_then p n old new (Err Memory) is paid h = tt
 
 -- the price passes the budget
-pub not_paid : {A : Type 0} (p n : ℕ) (old new : Funds) (e : Fault) (r : Result A Fault) → n ≡ p → e ≡ Steps → old.budget < old.spent + n → IsErrAnd r (λ x. x ≡ e) → Pays p old new r
+pub not_paid : {A : Type 0} (p n : ℕ) (old new : Funds) (e : Fault) (r : Result A Fault) → n ≡ p → e ≡ Steps → old.budget < old.spent + n → IsErrAnd r (λ x. x ≡ e) → PaysPrice p old new r
 not_paid {A} p n old new e (Ok x) is steps passes h = absurd h
-not_paid {A} p n old new e (Err d) is steps passes h = subst (λ x. Pays {A = A} p old new (Err x)) (sym (h ∙ steps)) (subst (λ k. old.budget < old.spent + k) is passes)
+not_paid {A} p n old new e (Err d) is steps passes h = subst (λ x. PaysPrice {A = A} p old new (Err x)) (sym (h ∙ steps)) (subst (λ k. old.budget < old.spent + k) is passes)
 
 -- memory was wanting before
-pub not_priced : {A : Type 0} (p : ℕ) (old new : Funds) (r : Result A Fault) → IsErrAnd r (λ x. x ≡ Memory) → Pays p old new r
+pub not_priced : {A : Type 0} (p : ℕ) (old new : Funds) (r : Result A Fault) → IsErrAnd r (λ x. x ≡ Memory) → PaysPrice p old new r
 not_priced {A} p old new (Ok x) h = absurd h
-not_priced {A} p old new (Err d) h = subst (λ x. Pays {A = A} p old new (Err x)) (sym h) tt
+not_priced {A} p old new (Err d) h = subst (λ x. PaysPrice {A = A} p old new (Err x)) (sym h) tt
 
 -- and so nothing was made
 steps_say : {A B : Type 0} (view : A → B) (work : Option B) (e : Fault) → e ≡ Steps → Does view work (Err e)

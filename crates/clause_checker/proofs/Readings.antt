@@ -11,11 +11,11 @@ use Rattle.formula.specs.declared.calculus.Core.{Core}
 use Rattle.clause_proof.specs.declared.line.Application.{Application}
 use Rattle.clause_proof.specs.declared.line.Literal.{Literal}
 use Rattle.clause_proof.specs.Clauses as q
-use Rattle.clause_proof.specs.Lines.{found, extended, implied_by, instanced, are_over, bodies, read_all, read_one, second_form, Addition}
+use Rattle.clause_proof.specs.Lines.{Inner, found, extended, implied_by, instanced, are_over, bodies, read_all, read_one, second_form, Addition}
 use Rattle.clause_checker.specs.declared.fault.Fault.{Fault}
 use Rattle.clause_checker.specs.declared.fault.Fault.TheVariants.{Refused}
 use Rattle.clause_checker.specs.Answers.{Does}
-use Rattle.clause_checker.specs.Views.{Inner, inner_of, pair_up, body_at, read_at}
+use Rattle.clause_checker.specs.Views.{inner_of, pair_up, body_at, read_at}
 use Rattle.clause_checker.proofs.Doing.{does_some, does_none, does_cut, does_on, does_then, does_err, does_as}
 
 -- ---- bodies

@@ -8,12 +8,12 @@ use Rattle.clause_checker.specs.declared.fault.Fault.{Fault}
 use Rattle.clause_checker.specs.declared.fault.Fault.TheVariants.{Refused, Steps, Overflow, Room, Memory}
 
 -- a cut of a call that refuses nothing: this number leaves the range, or memory is wanting
-abbrev pub IsCut : Fault → Type 0
-IsCut Refused = ⊥
-IsCut Steps = ⊥
-IsCut (Overflow p) = stays p ≡ false
-IsCut Room = ⊥
-IsCut Memory = Unit {0}
+abbrev pub IsTermCut : Fault → Type 0
+IsTermCut Refused = ⊥
+IsTermCut Steps = ⊥
+IsTermCut (Overflow p) = stays p ≡ false
+IsTermCut Room = ⊥
+IsTermCut Memory = Unit {0}
 
 -- a refusal or a cut
 abbrev pub IsRefusedOrCut : Fault → Type 0
@@ -42,13 +42,13 @@ IsCausedBy n e = HasCause n e
 
 -- what a line, or the start, with this price charges: Steps comes exactly where the price passes the budget, and memory may be wanting
 -- before it is charged
-abbrev pub Pays : {A : Type 0} → ℕ → Funds → Funds → Result A Fault → Type 0
-Pays p old new (Ok x) = new ≡ record old { spent = old.spent + p }
-Pays p old new (Err Refused) = new ≡ record old { spent = old.spent + p }
-Pays p old new (Err Steps) = old.budget < old.spent + p
-Pays p old new (Err (Overflow q)) = new ≡ record old { spent = old.spent + p }
-Pays p old new (Err Room) = new ≡ record old { spent = old.spent + p }
-Pays p old new (Err Memory) = Unit {0}
+abbrev pub PaysPrice : {A : Type 0} → ℕ → Funds → Funds → Result A Fault → Type 0
+PaysPrice p old new (Ok x) = new ≡ record old { spent = old.spent + p }
+PaysPrice p old new (Err Refused) = new ≡ record old { spent = old.spent + p }
+PaysPrice p old new (Err Steps) = old.budget < old.spent + p
+PaysPrice p old new (Err (Overflow q)) = new ≡ record old { spent = old.spent + p }
+PaysPrice p old new (Err Room) = new ≡ record old { spent = old.spent + p }
+PaysPrice p old new (Err Memory) = Unit {0}
 
 -- the call made what is to be made, or refused because there is no such thing
 pub record Does {A B : Type 0} (view : A → B) (work : Option B) (result : Result A Fault) : Type 0 where

@@ -12,6 +12,7 @@ use Rattle.clause_proof.specs.declared.line.Literal.{Literal}
 use Rattle.clause_proof.specs.Clauses as clauses
 use Rattle.clause_proof.specs.Atoms as atoms
 use Rattle.clause_proof.specs.Lines as lines
+use Rattle.clause_proof.specs.Lines.{Inner}
 use Rattle.clause_checker.specs.declared.resolving.Left.{Left}
 use Rattle.clause_checker.specs.declared.resolving.Left.TheVariants as left
 use Rattle.clause_checker.specs.declared.state.Definition.{Definition}
@@ -44,10 +45,7 @@ abbrev pub known_so : Option clauses.Definition → clauses.Definition → Bool
 known_so None d = false
 known_so (Some c) d = atoms.same_definition c d
 
--- a formula with its terms
-abbrev pub Inner : Type 0
-Inner = Form × List Linear
-
+-- a formula and terms
 abbrev pub pair_up : Form → List Linear → Option Inner
 pair_up f ts = Some (f, ts)
 

@@ -4,7 +4,7 @@ ghost use Rattle.std.specs.Prelude.{◌≡◌, ◌<ℤ◌, pos, unsigned_abs, Al
 ghost use Rattle.base_integers.specs.Divides.{divides, Divides};
 ghost use Rattle.linear_term.specs.Range.{InRange};
 ghost use Rattle.clause_proof.specs.Atoms as atoms;
-ghost use Rattle.clause_checker.specs.Answers.{IsCut};
+ghost use Rattle.clause_checker.specs.Answers.{IsTermCut};
 ghost use Rattle.clause_checker.specs.Views.{signed_of};
 
 use crate::fault::Fault;
@@ -96,7 +96,7 @@ fn leads_negative(pairs: &[(u32, i128)]) -> bool
 /// t - 1.
 pub(crate) fn less_one(alloc: Global, t: &Term) -> Result<Term, Fault>
     ensures ok { IfOk result (λ u. u ≡ atoms.less_one t.now) }
-    ensures err { IfErr result IsCut }
+    ensures err { IfErr result IsTermCut }
 {
     combine(1, t, 1, &Term::number(alloc, -1))
 }
@@ -104,7 +104,7 @@ pub(crate) fn less_one(alloc: Global, t: &Term) -> Result<Term, Fault>
 /// -t - 1.
 pub(crate) fn opposite_less_one(alloc: Global, t: &Term) -> Result<Term, Fault>
     ensures ok { IfOk result (λ u. u ≡ atoms.opposite_less_one t.now) }
-    ensures err { IfErr result IsCut }
+    ensures err { IfErr result IsTermCut }
 {
     combine(-1, t, 1, &Term::number(alloc, -1))
 }
@@ -112,7 +112,7 @@ pub(crate) fn opposite_less_one(alloc: Global, t: &Term) -> Result<Term, Fault>
 /// -t.
 fn opposite_term(alloc: Global, t: &Term) -> Result<Term, Fault>
     ensures ok { IfOk result (λ u. u ≡ atoms.opposite_term t.now) }
-    ensures err { IfErr result IsCut }
+    ensures err { IfErr result IsTermCut }
 {
     combine(-1, t, 0, &Term::number(alloc, 0))
 }
@@ -120,7 +120,7 @@ fn opposite_term(alloc: Global, t: &Term) -> Result<Term, Fault>
 /// t >= 0, by the one of both terms whose first coefficient is positive.
 fn turned_inequality<'a>(alloc: Global, t: Term) -> Result<Signed<'a>, Fault>
     ensures ok { IfOk result (λ x. signed_of x ≡ atoms.turned_inequality t) }
-    ensures err { IfErr result IsCut }
+    ensures err { IfErr result IsTermCut }
 {
     if leads_negative(t.pairs()) {
         let opposite = opposite_less_one(alloc, &t)?;
@@ -139,7 +139,7 @@ fn turned_inequality<'a>(alloc: Global, t: Term) -> Result<Signed<'a>, Fault>
 #[tactic(auto, using(crate::proofs::Quotients::kinds, crate::proofs::Causes::causes))]
 pub(crate) fn inequality_literal<'a>(alloc: Global, t: Term) -> Result<Signed<'a>, Fault>
     ensures ok { IfOk result (λ x. signed_of x ≡ atoms.inequality_literal t) }
-    ensures err { IfErr result IsCut }
+    ensures err { IfErr result IsTermCut }
 {
     if t.pairs().is_empty() {
         return Ok(known(0 <= t.constant()));
@@ -153,7 +153,7 @@ pub(crate) fn inequality_literal<'a>(alloc: Global, t: Term) -> Result<Signed<'a
 /// t = 0, by the one of both terms whose first coefficient is positive.
 fn turned_equation<'a>(alloc: Global, t: Term) -> Result<Signed<'a>, Fault>
     ensures ok { IfOk result (λ x. signed_of x ≡ atoms.turned_equation t) }
-    ensures err { IfErr result IsCut }
+    ensures err { IfErr result IsTermCut }
 {
     if leads_negative(t.pairs()) {
         let opposite = opposite_term(alloc, &t)?;
@@ -180,7 +180,7 @@ fn divides(h: i128, k: i128) -> bool
 #[tactic(auto, using(crate::proofs::Quotients::kinds, crate::proofs::Causes::causes))]
 pub(crate) fn equation_literal<'a>(alloc: Global, t: Term) -> Result<Signed<'a>, Fault>
     ensures ok { IfOk result (λ x. signed_of x ≡ atoms.equation_literal t) }
-    ensures err { IfErr result IsCut }
+    ensures err { IfErr result IsTermCut }
 {
     if t.pairs().is_empty() {
         return Ok(known(t.constant() == 0));

@@ -1,7 +1,7 @@
 // What a call pays, and numbers that are to be coefficients.
 
 ghost use Rattle.std.specs.Prelude.{◌≡◌, ◌+◌, ◌<◌, IfErr, IfOk, OnErr, OnOk};
-ghost use Rattle.clause_checker.specs.Answers.{IsCut};
+ghost use Rattle.clause_checker.specs.Answers.{IsTermCut};
 ghost use Rattle.clause_checker.specs.declared.fault.Fault.TheVariants.{Steps};
 ghost use Rattle.linear_term.specs.Range.{InRange};
 
@@ -26,7 +26,7 @@ pub(crate) fn pay(purse: &mut Purse, n: u64) -> Result<(), Fault>
 pub(crate) fn coefficient(k: i128) -> Result<i128, Fault>
     ensures ok { IfOk result (λ n. n ≡ k) }
     ensures range { IfOk result InRange }
-    ensures err { IfErr result IsCut }
+    ensures err { IfErr result IsTermCut }
 {
     if in_range(k) {
         return Ok(k);

@@ -5,7 +5,7 @@ ghost use Rattle.linear_term.specs.Linear as linear;
 ghost use Rattle.formula.specs.Tree.{form};
 ghost use Rattle.clause_proof.specs.Lines as lines;
 ghost use Rattle.clause_proof.specs.Proofs as proofs;
-ghost use Rattle.clause_checker.specs.Answers.{Does, HasCause, IsCausedBy, IsCut, IsRefusedOrCut, Pays};
+ghost use Rattle.clause_checker.specs.Answers.{Does, HasCause, IsCausedBy, IsTermCut, IsRefusedOrCut, PaysPrice};
 ghost use Rattle.clause_checker.specs.Prices.{price, start_price};
 ghost use Rattle.clause_checker.specs.Views.{state_of};
 
@@ -84,7 +84,7 @@ fn follow<'a>(
     }
 }
 
-/// Pays the price of the line, and makes the state after it. Steps comes exactly where the price passes the budget; Overflow names a
+/// PaysPrice the price of the line, and makes the state after it. Steps comes exactly where the price passes the budget; Overflow names a
 /// number that leaves the range; Room comes where each number of 32 bits has a constant. After a fault the state is not to be used again.
 #[tactic(auto, using(crate::proofs::Paying::paying, crate::proofs::Causes::causes))]
 pub fn step<'a>(
@@ -95,7 +95,7 @@ pub fn step<'a>(
     line: &Line,
 ) -> Result<(), Fault>
     ensures does { Does (λ u. state_of state.new) (lines.after (state_of state.old) line.now) result }
-    ensures pays { Pays (price (state_of state.old) line.now) purse.old purse.new result }
+    ensures pays { PaysPrice (price (state_of state.old) line.now) purse.old purse.new result }
     ensures cause { IfErr result (IsCausedBy state.old.count) }
 {
     pay(purse, line_price(alloc, state, line)?)?;
@@ -105,7 +105,7 @@ pub fn step<'a>(
 /// The numbers as terms.
 fn number_terms(alloc: Global, ks: &[i128]) -> Result<Items<Term>, Fault>
     ensures ok { IfOk result (λ ts. ts ≡ map linear.number ks.now) }
-    ensures err { IfErr result IsCut }
+    ensures err { IfErr result IsTermCut }
 {
     let mut out = Items::new(alloc);
     for k in ks {
@@ -140,7 +140,7 @@ fn first_state<'a>(
     })
 }
 
-/// Pays the price of the start, and makes it: the root at the numbers is false, and the literal stands for it. Cuts come as at `step`.
+/// PaysPrice the price of the start, and makes it: the root at the numbers is false, and the literal stands for it. Cuts come as at `step`.
 #[tactic(auto, using(crate::proofs::Paying::paying, crate::proofs::Causes::causes))]
 pub fn begin<'a>(
     alloc: Global,
@@ -150,7 +150,7 @@ pub fn begin<'a>(
     m: Literal,
 ) -> Result<State<'a>, Fault>
     ensures does { Does state_of (proofs.start (form root.now) ks.now m) result }
-    ensures pays { Pays (start_price (form root.now) ks.now) purse.old purse.new result }
+    ensures pays { PaysPrice (start_price (form root.now) ks.now) purse.old purse.new result }
     ensures cause { IfErr result (IsCausedBy 0) }
 {
     pay(purse, root_price(alloc, root, ks)?)?;

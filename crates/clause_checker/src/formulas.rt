@@ -7,7 +7,7 @@ ghost use Rattle.formula.specs.Tree.{form, forms_of};
 ghost use Rattle.clause_proof.specs.Atoms as atoms;
 ghost use Rattle.form_closures.specs.Putting as putting;
 ghost use Rattle.clause_proof.specs.Clauses as q;
-ghost use Rattle.clause_checker.specs.Answers.{IsCut};
+ghost use Rattle.clause_checker.specs.Answers.{IsTermCut};
 ghost use Rattle.clause_checker.specs.Prices.{IsGround, IsLevelAbove};
 ghost use Rattle.clause_checker.specs.Views.{signed_of};
 
@@ -23,7 +23,7 @@ use std::alloc::Global;
 /// The closure.
 fn closure<'a>(f: &'a Core, ts: &Shared<Items<Term>>) -> Result<Signed<'a>, Fault>
     ensures ok { IfOk result (λ x. signed_of x ≡ atoms.plain (q.closure (form f.now) ts.now)) }
-    ensures err { IfErr result IsCut }
+    ensures err { IfErr result IsTermCut }
 {
     Ok(Signed {
         definition: Definition::Closure(f, ts.share()?),
@@ -40,7 +40,7 @@ fn predicate<'a>(
     positive: bool,
 ) -> Result<Signed<'a>, Fault>
     ensures ok { IfOk result (λ x. signed_of x ≡ record { definition = q.predicate p (map (putting.put_in ts.now) us.now); positive = positive }) }
-    ensures err { IfErr result IsCut }
+    ensures err { IfErr result IsTermCut }
 {
     let terms = put_all(alloc, ts, us)?;
     Ok(Signed {
@@ -139,7 +139,7 @@ fn inner(f: &Core) -> &Core
 fn all_of<'a>(f: &'a Core, fs: &[Core], ts: &Shared<Items<Term>>) -> Result<Signed<'a>, Fault>
     requires { form f.now ≡ conjunction (forms_of fs.now) }
     ensures ok { IfOk result (λ x. signed_of x ≡ atoms.literal_by (conjunction (forms_of fs.now)) ts.now) }
-    ensures err { IfErr result IsCut }
+    ensures err { IfErr result IsTermCut }
 {
     if fs.is_empty() {
         return Ok(known(true));
@@ -153,7 +153,7 @@ fn all_of<'a>(f: &'a Core, fs: &[Core], ts: &Shared<Items<Term>>) -> Result<Sign
 fn any_of<'a>(f: &'a Core, fs: &[Core], ts: &Shared<Items<Term>>) -> Result<Signed<'a>, Fault>
     requires { form f.now ≡ disjunction (forms_of fs.now) }
     ensures ok { IfOk result (λ x. signed_of x ≡ atoms.literal_by (disjunction (forms_of fs.now)) ts.now) }
-    ensures err { IfErr result IsCut }
+    ensures err { IfErr result IsTermCut }
 {
     if fs.is_empty() {
         return Ok(known(false));
@@ -169,7 +169,7 @@ pub(crate) fn literal_of<'a>(
     ts: &Shared<Items<Term>>,
 ) -> Result<Signed<'a>, Fault>
     ensures ok { IfOk result (λ x. signed_of x ≡ atoms.literal_of (form f.now) ts.now) }
-    ensures err { IfErr result IsCut }
+    ensures err { IfErr result IsTermCut }
 {
     let g = inner(f);
     literal_by(alloc, g, ts)
@@ -177,7 +177,7 @@ pub(crate) fn literal_of<'a>(
 
 fn literal_by<'a>(alloc: Global, f: &'a Core, ts: &Shared<Items<Term>>) -> Result<Signed<'a>, Fault>
     ensures ok { IfOk result (λ x. signed_of x ≡ atoms.literal_by (form f.now) ts.now) }
-    ensures err { IfErr result IsCut }
+    ensures err { IfErr result IsTermCut }
 {
     match f {
         Core::Eq(t) => {

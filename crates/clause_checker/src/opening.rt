@@ -9,7 +9,7 @@ ghost use Rattle.formula.specs.Form as tree;
 ghost use Rattle.formula.specs.Tree.{form, forms_of};
 ghost use Rattle.clause_proof.specs.Atoms as atoms;
 ghost use Rattle.clause_proof.specs.Lines as lines;
-ghost use Rattle.clause_checker.specs.Answers.{Does, HasCause, IsCut, IsRefusedOrCut};
+ghost use Rattle.clause_checker.specs.Answers.{Does, HasCause, IsTermCut, IsRefusedOrCut};
 ghost use Rattle.clause_checker.specs.Views.{definition_of, definitions_of, inner_of, pair_up, signed_of, state_of};
 
 use crate::fault::Fault;
@@ -57,7 +57,7 @@ pub(crate) fn with_opposites(
     ms: &[Literal],
 ) -> Result<Items<Literal>, Fault>
     ensures ok { IfOk result (λ c. c ≡ first.now ++ map lines.opposite ms.now) }
-    ensures err { IfErr result IsCut }
+    ensures err { IfErr result IsTermCut }
 {
     let mut out = Items::from_slice(alloc, first)?;
     for m in ms {
@@ -73,7 +73,7 @@ pub(crate) fn each_false(
     ms: &[Literal],
 ) -> Result<Items<Option<Items<Literal>>>, Fault>
     ensures ok { IfOk result (λ cs. cs ≡ map Some (lines.each_false i ms.now)) }
-    ensures err { IfErr result IsCut }
+    ensures err { IfErr result IsTermCut }
 {
     let mut out = Items::new(alloc);
     for m in ms {
@@ -89,7 +89,7 @@ pub(crate) fn one(
     clause: Items<Literal>,
 ) -> Result<Items<Option<Items<Literal>>>, Fault>
     ensures ok { IfOk result (λ cs. cs ≡ Some clause ∷ []) }
-    ensures err { IfErr result IsCut }
+    ensures err { IfErr result IsTermCut }
 {
     let mut out = Items::new(alloc);
     out.push(Some(clause))?;
@@ -171,7 +171,7 @@ fn open_each<'a>(
 /// The terms, and one more.
 pub(crate) fn with_term(alloc: Global, ts: &[Term], t: Term) -> Result<Shared<Items<Term>>, Fault>
     ensures ok { IfOk result (λ us. us ≡ ts.now ++ t ∷ []) }
-    ensures err { IfErr result IsCut }
+    ensures err { IfErr result IsTermCut }
 {
     let mut out = copied(alloc, ts)?;
     out.push(t)?;

@@ -6,7 +6,7 @@ ghost use Rattle.linear_term.specs.Linear as linear;
 ghost use Rattle.clause_proof.specs.Clauses as q;
 ghost use Rattle.clause_proof.specs.Atoms as atoms;
 ghost use Rattle.clause_proof.specs.Lines as lines;
-ghost use Rattle.clause_checker.specs.Answers.{Does, HasCause, IsCut, IsRefusedOrCut};
+ghost use Rattle.clause_checker.specs.Answers.{Does, HasCause, IsTermCut, IsRefusedOrCut};
 ghost use Rattle.clause_checker.specs.Views.{definition_of, definitions_of, new_variable, signed_of, state_of, zero_of};
 
 use crate::canonical::{equation_literal, inequality_literal, less_one, opposite_less_one};
@@ -145,7 +145,7 @@ pub(crate) fn split(
 fn rest_of(alloc: Global, t: &Term, d: i128, c: u32) -> Result<Term, Fault>
     requires { pos 0 <ℤ d }
     ensures ok { IfOk result (λ u. u ≡ lines.rest_of t.now d c) }
-    ensures err { IfErr result IsCut }
+    ensures err { IfErr result IsTermCut }
 {
     combine(1, t, -d, &Term::name(alloc, c))
 }
@@ -154,7 +154,7 @@ fn rest_of(alloc: Global, t: &Term, d: i128, c: u32) -> Result<Term, Fault>
 fn below_divisor(alloc: Global, u: &Term, d: i128) -> Result<Term, Fault>
     requires { pos 0 <ℤ d }
     ensures ok { IfOk result (λ x. x ≡ lines.below_divisor u.now d) }
-    ensures err { IfErr result IsCut }
+    ensures err { IfErr result IsTermCut }
 {
     combine(-1, u, 1, &Term::number(alloc, d - 1))
 }

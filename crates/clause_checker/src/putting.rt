@@ -7,7 +7,7 @@ ghost use Rattle.linear_term.specs.Combination.{combination};
 ghost use Rattle.clause_proof.specs.Atoms as atoms;
 ghost use Rattle.form_closures.specs.Putting as putting;
 ghost use Rattle.clause_proof.specs.Lines as lines;
-ghost use Rattle.clause_checker.specs.Answers.{IsCut};
+ghost use Rattle.clause_checker.specs.Answers.{IsTermCut};
 
 use crate::fault::Fault;
 use linear_term::Term;
@@ -19,7 +19,7 @@ pub(crate) fn combine(m: i128, s: &Term, n: i128, t: &Term) -> Result<Term, Faul
     requires m_in_range { InRange m }
     requires n_in_range { InRange n }
     ensures ok { IfOk result (λ r. r ≡ combination m s.now n t.now) }
-    ensures err { IfErr result IsCut }
+    ensures err { IfErr result IsTermCut }
 {
     Ok(Term::combine(m, s, n, t)?)
 }
@@ -29,7 +29,7 @@ pub(crate) fn combine(m: i128, s: &Term, n: i128, t: &Term) -> Result<Term, Faul
 fn put_one(alloc: Global, ts: &[Term], u: &Term, x: u32, k: i128) -> Result<Term, Fault>
     requires { InRange k }
     ensures ok { IfOk result (λ r. r ≡ combination (pos 1) u.now k (putting.term_at ts.now x)) }
-    ensures err { IfErr result IsCut }
+    ensures err { IfErr result IsTermCut }
 {
     match at(ts, x as usize) {
         Some(t) => {
@@ -47,7 +47,7 @@ fn put_one(alloc: Global, ts: &[Term], u: &Term, x: u32, k: i128) -> Result<Term
 #[tactic(auto, using(form_closures::proofs::Puts::puts, crate::proofs::Causes::causes))]
 pub(crate) fn put_in(alloc: Global, ts: &[Term], t: &Term) -> Result<Term, Fault>
     ensures ok { IfOk result (λ r. r ≡ putting.put_in ts.now t.now) }
-    ensures err { IfErr result IsCut }
+    ensures err { IfErr result IsTermCut }
 {
     t.know_normal();
     let mut sum = Term::number(alloc, t.constant());
@@ -60,7 +60,7 @@ pub(crate) fn put_in(alloc: Global, ts: &[Term], t: &Term) -> Result<Term, Fault
 /// Each of these terms with the terms ts for its names.
 pub(crate) fn put_all(alloc: Global, ts: &[Term], us: &[Term]) -> Result<Items<Term>, Fault>
     ensures ok { IfOk result (λ r. r ≡ map (putting.put_in ts.now) us.now) }
-    ensures err { IfErr result IsCut }
+    ensures err { IfErr result IsTermCut }
 {
     let mut out = Items::new(alloc);
     for u in us {
@@ -72,7 +72,7 @@ pub(crate) fn put_all(alloc: Global, ts: &[Term], us: &[Term]) -> Result<Items<T
 /// The same term.
 pub(crate) fn copy(t: &Term) -> Result<Term, Fault>
     ensures ok { IfOk result (λ r. r ≡ t.now) }
-    ensures err { IfErr result IsCut }
+    ensures err { IfErr result IsTermCut }
 {
     Ok(t.copy()?)
 }
@@ -80,7 +80,7 @@ pub(crate) fn copy(t: &Term) -> Result<Term, Fault>
 /// The same terms.
 pub(crate) fn copied(alloc: Global, ts: &[Term]) -> Result<Items<Term>, Fault>
     ensures ok { IfOk result (λ r. r ≡ ts.now) }
-    ensures err { IfErr result IsCut }
+    ensures err { IfErr result IsTermCut }
 {
     let mut out = Items::new(alloc);
     for t in ts {

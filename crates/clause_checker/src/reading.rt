@@ -5,7 +5,7 @@ ghost use Rattle.linear_term.specs.Linear as linear;
 ghost use Rattle.formula.specs.Tree.{form, forms_of};
 ghost use Rattle.clause_proof.specs.Atoms as atoms;
 ghost use Rattle.clause_proof.specs.Lines as lines;
-ghost use Rattle.clause_checker.specs.Answers.{Does, IsCut, IsRefusedOrCut};
+ghost use Rattle.clause_checker.specs.Answers.{Does, IsTermCut, IsRefusedOrCut};
 ghost use Rattle.std.specs.List.{slice_get};
 ghost use Rattle.clause_checker.specs.Views.{body_at, inner_of, read_at, state_of};
 
@@ -108,7 +108,7 @@ fn reads(
     u: &Term,
 ) -> Result<bool, Fault>
     ensures ok { IfOk result (λ b. b ≡ lines.reads x.now f ss.now n ts.now u.now) }
-    ensures err { IfErr result IsCut }
+    ensures err { IfErr result IsTermCut }
 {
     let args = put_all(alloc, ts, ss)?;
     Ok(
@@ -121,7 +121,7 @@ fn reads(
 /// Whether the formula says that the function of the application has another value than the next name.
 fn reads_atom(alloc: Global, x: &Application, ts: &[Term], f: &Core) -> Result<bool, Fault>
     ensures ok { IfOk result (λ b. b ≡ lines.reads_atom x.now ts.now (form f.now)) }
-    ensures err { IfErr result IsCut }
+    ensures err { IfErr result IsTermCut }
 {
     match f {
         Core::NotFun(h, ss, u) => {

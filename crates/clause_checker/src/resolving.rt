@@ -6,7 +6,7 @@ ghost use Rattle.std.specs.Prelude.{◌≡◌, ◌++◌, ◌∷◌, [], List, No
 ghost use Rattle.std.specs.List.{slice_get};
 ghost use Rattle.clause_proof.specs.declared.line.Literal.{Literal};
 ghost use Rattle.clause_proof.specs.Lines as lines;
-ghost use Rattle.clause_checker.specs.Answers.{Does, IsCut, IsRefusedOrCut};
+ghost use Rattle.clause_checker.specs.Answers.{Does, IsTermCut, IsRefusedOrCut};
 ghost use Rattle.clause_checker.specs.Marking.{IsMarking};
 ghost use Rattle.clause_checker.specs.Views.{left_at, left_view, state_of};
 
@@ -69,7 +69,7 @@ fn left_at(marks: &Marks, clauses: &[Option<Items<Literal>>], h: u32) -> Left
 #[tactic(auto, using(crate::proofs::Lefts::marking, crate::proofs::Causes::causes))]
 fn mark(marks: &mut Marks, l: Literal) -> Result<(), Fault>
     ensures ok { OnOk result ((fs : List Literal) → IsMarking marks.old fs → IsMarking marks.new (fs ++ l ∷ [])) }
-    ensures err { IfErr result IsCut }
+    ensures err { IfErr result IsTermCut }
 {
     marks.insert(l)?;
     Ok(())
@@ -79,7 +79,7 @@ fn mark(marks: &mut Marks, l: Literal) -> Result<(), Fault>
 #[tactic(auto, using(crate::proofs::Lefts::marked_ones, crate::proofs::Causes::causes))]
 fn mark_all(alloc: Global, marks: &mut Marks, clause: &[Literal]) -> Result<(), Fault>
     ensures ok { OnOk result (IsMarking marks.new clause.now) }
-    ensures err { IfErr result IsCut }
+    ensures err { IfErr result IsTermCut }
 {
     marks.clear(alloc);
     for l in clause {
@@ -96,7 +96,7 @@ fn clashes(
     hints: &[u32],
 ) -> Result<bool, Fault>
     ensures ok { IfOk result (λ b. (fs : List Literal) → IsMarking marks.old fs → b ≡ lines.clashes clauses.now hints.now fs) }
-    ensures err { IfErr result IsCut }
+    ensures err { IfErr result IsTermCut }
 {
     for h in hints {
         match left_at(marks, clauses, *h) {

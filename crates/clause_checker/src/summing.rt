@@ -7,7 +7,7 @@ ghost use Rattle.linear_term.specs.Linear as linear;
 ghost use Rattle.clause_proof.specs.Clauses as q;
 ghost use Rattle.clause_proof.specs.Atoms as atoms;
 ghost use Rattle.clause_proof.specs.Lines as lines;
-ghost use Rattle.clause_checker.specs.Answers.{Does, IsCut, IsRefusedOrCut};
+ghost use Rattle.clause_checker.specs.Answers.{Does, IsTermCut, IsRefusedOrCut};
 ghost use Rattle.clause_checker.specs.Views.{definition_of, definitions_of, signed_of, state_of};
 
 use crate::canonical::{equation_literal, inequality_literal, opposite_less_one};
@@ -120,7 +120,7 @@ fn is_absurd(x: &Signed) -> bool
 /// The literal of a fact.
 fn literal_of_fact<'a>(alloc: Global, u: (Term, bool)) -> Result<Signed<'a>, Fault>
     ensures ok { IfOk result (λ x. signed_of x ≡ lines.literal_of_fact u) }
-    ensures err { IfErr result IsCut }
+    ensures err { IfErr result IsTermCut }
 {
     let (t, exact) = u;
     if exact {
@@ -133,7 +133,7 @@ fn literal_of_fact<'a>(alloc: Global, u: (Term, bool)) -> Result<Signed<'a>, Fau
 /// The literals of the factors.
 fn literals(alloc: Global, factors: &[Factor]) -> Result<Items<Literal>, Fault>
     ensures ok { IfOk result (λ c. c ≡ map (λ x. x.literal) factors.now) }
-    ensures err { IfErr result IsCut }
+    ensures err { IfErr result IsTermCut }
 {
     let mut out = Items::new(alloc);
     for x in factors {

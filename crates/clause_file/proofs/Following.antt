@@ -11,11 +11,11 @@ use Rattle.clause_proof.specs.Lines.{after, found}
 use Rattle.clause_proof.specs.Proofs.{ends_empty, start}
 use Rattle.clause_checker.specs.declared.fault.Fault.{Fault}
 use Rattle.clause_checker.specs.declared.fault.Fault.TheVariants as checker
-use Rattle.clause_checker.specs.Answers.{Does, Pays}
+use Rattle.clause_checker.specs.Answers.{Does, PaysPrice}
 use Rattle.clause_text.specs.declared.head.Head.{Head}
 use Rattle.clause_text.specs.Files.{IsProofRefusedAt, lines_text, proof_text}
 use Rattle.clause_text.specs.Head.{head_of, head_text, IsHead, RefusesHead}
-use Rattle.clause_text.specs.Lines.{IsLine, line_of, line_text, RefusesLine}
+use Rattle.clause_text.specs.Lines.{IsLine, line_of, line_text, RefusesProofLine}
 use Rattle.clause_text.proofs.ExactFiles.{head_refused, line_refused}
 use Rattle.clause_text.proofs.ExactHead.{head_reads}
 use Rattle.clause_text.proofs.ExactLines.{line_back, line_reads}
@@ -39,7 +39,7 @@ use Rattle.clause_file.proofs.Points.{one_point, reach_more, tokens_of}
 
 -- ---- places
 
-pub line_within : (text : List ℕ) (bytes : ℕ) (r : Refusal) → RefusesLine text r → length text ≤ bytes → LeavesWithin bytes r
+pub line_within : (text : List ℕ) (bytes : ℕ) (r : Refusal) → RefusesProofLine text r → length text ≤ bytes → LeavesWithin bytes r
 line_within text bytes (e.Syntax left) h le = let k = refusal_within IsLine line_text (tokens text) left h in let s = size_is text in omega (arith, k, s, le)
 line_within text bytes e.Memory h le = tt
 
@@ -57,7 +57,7 @@ line_made g n file text rest h ls l s t old new i is d pays r paid =
 -- ---- a line that is not made
 
 line_fault : (g : Form) (n number : ℕ) (file rest : List ℕ) (h : Head) (ls : List Line) (l : Line) (s : State) (old new : Funds) (fault : Fault) → IsLine l → Reaches g n file h ls (spelled (line_text l) ++ rest) s → HasPaid old h (check_price g n h ls)
-    → Pays {A = Unit {0}} (price s l) old new (Err fault) → (fault ≡ checker.Refused → after s l ≡ None) → number ≡ first_line + length ls → IsFault g n file (fault_at number fault)
+    → PaysPrice {A = Unit {0}} (price s l) old new (Err fault) → (fault ≡ checker.Refused → after s l ≡ None) → number ≡ first_line + length ls → IsFault g n file (fault_at number fault)
 line_fault g n number file rest h ls l s old new checker.Refused i r paid pays none is = verdict.line h ls l rest s r i (none refl) is
 line_fault g n number file rest h ls l s old new checker.Steps i r paid pays none is = cost.line h ls l rest s r i (line_dear g n file h ls l (spelled (line_text l) ++ rest) s old r paid pays) is
 line_fault g n number file rest h ls l s old new (checker.Overflow p) i r paid pays none is = range.line h ls l rest s r i is
@@ -65,7 +65,7 @@ line_fault g n number file rest h ls l s old new checker.Room i r paid pays none
 line_fault g n number file rest h ls l s old new checker.Memory i r paid pays none is = tt
 
 pub line_not_made : (g : Form) (n number : ℕ) (file text rest : List ℕ) (h : Head) (ls : List Line) (l : Line) (s t : State) (old new : Funds) (fault : Fault) (x : ClauseFault) → IsLine l → text ≡ spelled (line_text l) ++ rest
-    → Does (λ (u : Unit {0}). t) (after s l) (Err fault) → Pays {A = Unit {0}} (price s l) old new (Err fault) → x ≡ fault_at number fault → Reaches g n file h ls text s → HasPaid old h (check_price g n h ls) → number ≡ first_line + length ls
+    → Does (λ (u : Unit {0}). t) (after s l) (Err fault) → PaysPrice {A = Unit {0}} (price s l) old new (Err fault) → x ≡ fault_at number fault → Reaches g n file h ls text s → HasPaid old h (check_price g n h ls) → number ≡ first_line + length ls
     → IsFault g n file x
 line_not_made g n number file text rest h ls l s t old new fault x i is d pays e r paid at =
     subst (IsFault g n file) (sym e) (line_fault g n number file rest h ls l s old new fault i (subst (λ z. Reaches g n file h ls z s) is r) paid pays (λ k. d.refused (ap Err k)) at)
@@ -99,7 +99,7 @@ refused_first g n left at file text h ls s refused some place r = record {
   before = λ number wrong. none_wrong g n left number file text h ls s refused some r wrong;
 }
 
-pub line_not_read : (g : Form) (n : ℕ) (file text : List ℕ) (h : Head) (ls : List Line) (s : State) (r : Refusal) (x : ClauseFault) → RefusesLine text r → 0 < length text → IsPlaced (length file) r x → Reaches g n file h ls text s → IsFault g n file x
+pub line_not_read : (g : Form) (n : ℕ) (file text : List ℕ) (h : Head) (ls : List Line) (s : State) (r : Refusal) (x : ClauseFault) → RefusesProofLine text r → 0 < length text → IsPlaced (length file) r x → Reaches g n file h ls text s → IsFault g n file x
 line_not_read g n file text h ls s (e.Syntax left) x refused some p r =
     subst (IsFault g n file) (sym p.1) (refused_first g n left p.0 file text h ls s (refusal_read IsLine line_text line_of line_reads (tokens text) left refused) (some_tokens text some) p.2 r)
 line_not_read g n file text h ls s e.Memory x refused some p r = subst (IsFault g n file) (sym p) tt
@@ -145,7 +145,7 @@ end_wrong g n number file text h ls s none empty at r = verdict.end h ls s (subs
 
 -- ---- the start
 
-start_fault : (g k : Form) (n : ℕ) (file text : List ℕ) (h : Head) (vs : List ℤ) (old new : Funds) (fault : Fault) → vs ≡ h.values → HasPaid old h (preparation_price g h.prepared) → Pays {A = Unit {0}} (start_price k vs) old new (Err fault)
+start_fault : (g k : Form) (n : ℕ) (file text : List ℕ) (h : Head) (vs : List ℤ) (old new : Funds) (fault : Fault) → vs ≡ h.values → HasPaid old h (preparation_price g h.prepared) → PaysPrice {A = Unit {0}} (start_price k vs) old new (Err fault)
     → (fault ≡ checker.Refused → start k h.values h.root ≡ None) → Starts g n file h text k → IsFault g n file (fault_at 5 fault)
 start_fault g k n file text h vs old new checker.Refused same paid pays none t = verdict.root h text t.begins t.values (ap (λ z. start z h.values h.root) t.root ∙ none refl) refl
 start_fault g k n file text h vs old new checker.Steps same paid pays none t = cost.root h text t.begins t.values (start_dear g k n file text h vs old same t paid pays) refl
@@ -154,7 +154,7 @@ start_fault g k n file text h vs old new checker.Room same paid pays none t = ra
 start_fault g k n file text h vs old new checker.Memory same paid pays none t = tt
 
 -- the same of an answer of another type
-pays_as : (A B : Type 0) (p : ℕ) (old new : Funds) (fault : Fault) → Pays {A = A} p old new (Err fault) → Pays {A = B} p old new (Err fault)
+pays_as : (A B : Type 0) (p : ℕ) (old new : Funds) (fault : Fault) → PaysPrice {A = A} p old new (Err fault) → PaysPrice {A = B} p old new (Err fault)
 pays_as A B p old new checker.Refused h = h
 pays_as A B p old new checker.Steps h = h
 pays_as A B p old new (checker.Overflow q) h = h
@@ -162,7 +162,7 @@ pays_as A B p old new checker.Room h = h
 pays_as A B p old new checker.Memory h = h
 
 pub not_started : {A : Type 0} (view : A → State) (g k : Form) (n : ℕ) (file text : List ℕ) (h : Head) (vs : List ℤ) (old new : Funds) (fault : Fault) (x : ClauseFault) → vs ≡ h.values → Does view (start k vs h.root) (Err fault)
-    → Pays {A = A} (start_price k vs) old new (Err fault) → x ≡ fault_at 5 fault → Starts g n file h text k → HasPaid old h (preparation_price g h.prepared) → IsFault g n file x
+    → PaysPrice {A = A} (start_price k vs) old new (Err fault) → x ≡ fault_at 5 fault → Starts g n file h text k → HasPaid old h (preparation_price g h.prepared) → IsFault g n file x
 not_started {A} view g k n file text h vs old new fault x same d pays e t paid =
     subst (IsFault g n file) (sym e) (start_fault g k n file text h vs old new fault same paid (pays_as A (Unit {0}) (start_price k vs) old new fault pays) (λ z. ap (λ us. start k us h.root) (sym same) ∙ d.refused (ap Err z)) t)
 

@@ -12,10 +12,10 @@ use Rattle.pred_unify.proofs.Clashes.{same_number}
 use Rattle.sequent.proofs.Members.{all_append, all_same, all_at}
 use Rattle.clause_proof.specs.declared.line.Application.{Application}
 use Rattle.clause_proof.specs.declared.line.Literal.{Literal}
-use Rattle.clause_proof.specs.Clauses.{Definition, always, at_least_zero, is_zero, predicate, closure, DefinitionTruth, IsApplicationTrue, State, IsSo, IsFoundSo, LiteralTruth, ClauseTruth, IsKeptTrue, AreTrue, IsRefuted, IsDefinitionOver, IsApplicationOver, IsFormedState}
+use Rattle.clause_proof.specs.Clauses.{Definition, always, at_least_zero, is_zero, predicate, closure, DefinitionTruth, IsApplicationTrue, State, IsSo, IsFoundSo, LiteralTruth, ClauseTruth, IsKeptTrue, AreTrue, AreClausesRefuted, IsDefinitionOver, IsApplicationOver, IsFormedState}
 use Rattle.clause_proof.specs.Atoms.{Signed, other, same_definition}
 use Rattle.clause_proof.specs.Lines.{found, same_sign, opposite, Addition, known_as, stand, stand_all, extended, adding}
-use Rattle.clause_proof.specs.Proofs.{Gives}
+use Rattle.clause_proof.specs.Proofs.{KeepsTruth}
 use Rattle.clause_proof.proofs.Canonical.{Same, both, as_types, same_all, IsSigned, IsSignedOver, other_means}
 use Rattle.clause_proof.proofs.Equality.{same_definition_is, signs}
 
@@ -195,7 +195,7 @@ Keeps w s a =
 
 adds_at : (w : Meaning) (s : State) (a : Addition) (o : Option (List Definition)) → IsFormedState s → s.count ≤ a.count → AllByRecursion (IsSignedOver a.count) a.meant
     → AllByRecursion (IsApplicationOver a.count) a.applications → Keeps w s a → stand_all s.definitions a.meant a.literals ≡ o
-    → Gives w s (found o (λ ds. Some (record { definitions = ds; clauses = s.clauses ++ a.clauses; applications = s.applications ++ a.applications; count = a.count })))
+    → KeepsTruth w s (found o (λ ds. Some (record { definitions = ds; clauses = s.clauses ++ a.clauses; applications = s.applications ++ a.applications; count = a.count })))
 adds_at w s a None formed le over apps keeps is = tt
 adds_at w s a (Some ds) formed le over apps keeps is =
     let stood = all_stand s.definitions ds a.meant a.literals is in (
@@ -214,13 +214,13 @@ adds_at w s a (Some ds) formed le over apps keeps is =
     )
 
 pub adds_all : (w : Meaning) (s : State) (a : Addition) → IsFormedState s → s.count ≤ a.count → AllByRecursion (IsSignedOver a.count) a.meant
-    → AllByRecursion (IsApplicationOver a.count) a.applications → Keeps w s a → Gives w s (extended s a)
+    → AllByRecursion (IsApplicationOver a.count) a.applications → Keeps w s a → KeepsTruth w s (extended s a)
 adds_all w s a formed le over apps keeps = adds_at w s a (stand_all s.definitions a.meant a.literals) formed le over apps keeps refl
 
 -- what an addition gives
 abbrev pub Adds : Meaning → State → Option Addition → Type 0
 Adds w s None = Unit {0}
-Adds w s (Some a) = Gives w s (extended s a)
+Adds w s (Some a) = KeepsTruth w s (extended s a)
 
 -- no new constant: what is to be shown of the clauses
 pub adds_plain : (w : Meaning) (s : State) (xs : List Signed) (ms : List Literal) (cs : List (List Literal)) → IsFormedState s → AllByRecursion (IsSignedOver s.count) xs

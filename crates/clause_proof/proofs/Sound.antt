@@ -15,10 +15,10 @@ use Rattle.clause_proof.specs.declared.line.Literal.{Literal}
 use Rattle.clause_proof.specs.declared.line.Factor.{Factor}
 use Rattle.clause_proof.specs.declared.line.Line.{Line}
 use Rattle.clause_proof.specs.declared.line.Line.TheVariants as line
-use Rattle.clause_proof.specs.Clauses.{Definition, always, at_least_zero, is_zero, predicate, closure, IsApplicationTrue, State, ClauseTruth, IsKeptTrue, AreTrue, IsRefuted, IsDefinitionOver, IsFormedState}
+use Rattle.clause_proof.specs.Clauses.{Definition, always, at_least_zero, is_zero, predicate, closure, IsApplicationTrue, State, ClauseTruth, IsKeptTrue, AreTrue, AreClausesRefuted, IsDefinitionOver, IsFormedState}
 use Rattle.clause_proof.specs.Atoms.{Signed, plain, less_one, opposite_less_one, inequality_literal, equation_literal, literal_of}
 use Rattle.clause_proof.specs.Lines.{positive, found, opposite, Addition, adding, extended, clauses_of, next_number, opened, applied, are_over, read_all, implied_by, bodies, instanced, with_atom, is_over, splitted, sum_of, is_absurd, literal_of_fact, summed, paired, predicates_paired, are_known, clashes, closure_at, as_closure, added, after}
-use Rattle.clause_proof.specs.Proofs.{empty_state, start, run, is_empty, ends_so, ends_empty, IsClauseProof, Gives}
+use Rattle.clause_proof.specs.Proofs.{empty_state, start, run, is_empty, ends_so, ends_empty, IsClauseProof, KeepsTruth}
 use Rattle.clause_proof.proofs.Canonical.{Same, both, IsSigned, IsSignedOver, inequality_means, inequality_over, equation_over, less_over, opposite_over, literal_means, literal_over}
 use Rattle.clause_proof.proofs.Over.{over_is, overs_are, Parts, parts_of}
 use Rattle.clause_proof.proofs.Keeping.{all_of, literal_is, opposite_is, clause_stays, Adds, adds_all, adds_plain}
@@ -131,11 +131,11 @@ added_gives w s (line.Resolve c hints) formed =
     (λ test. clauses_give w s c formed (λ e t none. clash_absurd w e s.definitions s.clauses hints c t.clauses none (and_parts (are_known (next_number s) c) (clashes s.clauses hints c) test).1))
 added_gives w s (line.Delete hints) formed = tt
 
-put_gives : (w : Meaning) (s : State) (o : Option Addition) → Adds w s o → Gives w s (found o (extended s))
+put_gives : (w : Meaning) (s : State) (o : Option Addition) → Adds w s o → KeepsTruth w s (found o (extended s))
 put_gives w s None h = tt
 put_gives w s (Some a) h = h
 
-pub after_gives : (w : Meaning) (s : State) (l : Line) → IsFormedState s → Gives w s (after s l)
+pub after_gives : (w : Meaning) (s : State) (l : Line) → IsFormedState s → KeepsTruth w s (after s l)
 after_gives w s (line.Open i ms) formed = put_gives w s (added s (line.Open i ms)) (added_gives w s (line.Open i ms) formed)
 after_gives w s (line.Apply f ts) formed = put_gives w s (added s (line.Apply f ts)) (added_gives w s (line.Apply f ts) formed)
 after_gives w s (line.Read i apps m) formed = put_gives w s (added s (line.Read i apps m)) (added_gives w s (line.Read i apps m) formed)
@@ -169,15 +169,15 @@ ended_refuted : (w : Meaning) (e : List ℤ) (ds : List Definition) (cs : List (
 ended_refuted w e ds [] is h = absurd (cc)
 ended_refuted w e ds (c ∷ cs) is h = no_end w e ds c cs is h.0 h.1
 
-run_step : (w : Meaning) (s : State) (o : Option State) (rest : State → Option State) (t : State) → Gives w s o
-    → ((u : State) → IsFormedState u → rest u ≡ Some t → IsRefuted w u) → found o rest ≡ Some t → IsRefuted w s
+run_step : (w : Meaning) (s : State) (o : Option State) (rest : State → Option State) (t : State) → KeepsTruth w s o
+    → ((u : State) → IsFormedState u → rest u ≡ Some t → AreClausesRefuted w u) → found o rest ≡ Some t → AreClausesRefuted w s
 run_step w s None rest t g h is = absurd (cc)
 run_step w s (Some u) rest t g h is = g.1 (h u g.0 is)
 
-run_refuted : (w : Meaning) (s : State) (ls : List Line) (t : State) → IsFormedState s → ends_empty t.clauses ≡ true → run s ls ≡ Some t → IsRefuted w s
+run_refuted : (w : Meaning) (s : State) (ls : List Line) (t : State) → IsFormedState s → ends_empty t.clauses ≡ true → run s ls ≡ Some t → AreClausesRefuted w s
 run_refuted w s [] t formed ends is =
     let same : t ≡ s = cc in
-    subst (IsRefuted w) same (λ e len h. ended_refuted w e t.definitions t.clauses ends h.clauses)
+    subst (AreClausesRefuted w) same (λ e len h. ended_refuted w e t.definitions t.clauses ends h.clauses)
 run_refuted w s (l ∷ ls) t formed ends is =
     run_step w s (after s l) (λ u. run u ls) t (after_gives w s l formed) (λ u k more. run_refuted w u ls t k ends more) is
 
@@ -194,7 +194,7 @@ empty_formed : IsFormedState empty_state
 empty_formed = record { definitions = (tt, tt); applications = tt }
 
 -- the start as a line: sound where the formula is false
-start_gives : (w : Meaning) (f : Form) (ks : List ℤ) (m : Literal) → ¬ (FormTruth w f ks) → Gives w empty_state (start f ks m)
+start_gives : (w : Meaning) (f : Form) (ks : List ℤ) (m : Literal) → ¬ (FormTruth w f ks) → KeepsTruth w empty_state (start f ks m)
 start_gives w f ks m absent =
     adds_plain w empty_state (literal_of f (map number ks) ∷ []) (m ∷ []) ((opposite m ∷ []) ∷ []) empty_formed (literal_over 0 f (map number ks) (numbers_over ks), tt)
     (λ ds g st e len t. (
@@ -213,7 +213,7 @@ proof_shows w f ks m ls p =
     run_step w empty_state (start f ks m) (λ s. run s ls) p.last (start_gives w f ks m absent) (λ u formed is. run_refuted w u ls p.last formed p.ends is) p.runs
     [] refl (empty_true w))
 
-given : (w : Meaning) (s : State) (o : Option State) (t : State) → o ≡ Some t → Gives w s o → IsFormedState t
+given : (w : Meaning) (s : State) (o : Option State) (t : State) → o ≡ Some t → KeepsTruth w s o → IsFormedState t
 given w s None t is g = absurd (cc)
 given w s (Some u) t is g = let same : u ≡ t = cc in subst IsFormedState same g.0
 

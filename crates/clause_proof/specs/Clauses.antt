@@ -66,8 +66,8 @@ pub record AreTrue (w : Meaning) (e : List ℤ) (s : State) : Type 0 where
   pub clauses : AllByRecursion (IsKeptTrue w e s.definitions) s.clauses
 
 -- at no values of the constants are all true
-abbrev pub IsRefuted : Meaning → State → Type 0
-IsRefuted w s = (e : List ℤ) → length e ≡ s.count → AreTrue w e s → ⊥
+abbrev pub AreClausesRefuted : Meaning → State → Type 0
+AreClausesRefuted w s = (e : List ℤ) → length e ≡ s.count → AreTrue w e s → ⊥
 
 -- the terms are over the first n constants
 abbrev pub IsDefinitionOver : ℕ → Definition → Type 0

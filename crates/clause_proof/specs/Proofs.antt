@@ -5,7 +5,7 @@ use Rattle.linear_term.specs.Linear.{number}
 use Rattle.formula.specs.Form.{Form}
 use Rattle.clause_proof.specs.declared.line.Literal.{Literal}
 use Rattle.clause_proof.specs.declared.line.Line.{Line}
-use Rattle.clause_proof.specs.Clauses.{always, State, IsFormedState, IsRefuted}
+use Rattle.clause_proof.specs.Clauses.{always, State, IsFormedState, AreClausesRefuted}
 use Rattle.clause_proof.specs.Atoms.{literal_of}
 use Rattle.clause_proof.specs.Lines.{after, adding, extended, found, positive, opposite}
 
@@ -44,6 +44,6 @@ pub record IsClauseProof (f : Form) (ks : List ℤ) (m : Literal) (ls : List Lin
   pub ends : ends_empty last.clauses ≡ true
 
 -- what a line gives: a well-formed state; and where its clauses are refuted, so were those before it
-abbrev pub Gives : Meaning → State → Option State → Type 0
-Gives w s None = Unit {0}
-Gives w s (Some t) = IsFormedState t × (IsRefuted w t → IsRefuted w s)
+abbrev pub KeepsTruth : Meaning → State → Option State → Type 0
+KeepsTruth w s None = Unit {0}
+KeepsTruth w s (Some t) = IsFormedState t × (AreClausesRefuted w t → AreClausesRefuted w s)

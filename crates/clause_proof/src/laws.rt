@@ -7,11 +7,11 @@ ghost use Rattle.clause_proof.specs.declared.line.Line.{Line};
 ghost use Rattle.clause_proof.specs.declared.line.Literal.{Literal};
 ghost use Rattle.clause_proof.specs.Clauses.{State, IsFormedState};
 ghost use Rattle.clause_proof.specs.Lines.{after};
-ghost use Rattle.clause_proof.specs.Proofs.{IsClauseProof, Gives};
+ghost use Rattle.clause_proof.specs.Proofs.{IsClauseProof, KeepsTruth};
 
 /// If the clauses after a line can not all be true, neither can those before it; and a line keeps a state well formed.
 pub fn line_law()
-    ensures { (w : Meaning) (s : State) (l : Line) → IsFormedState s → Gives w s (after s l) }
+    ensures { (w : Meaning) (s : State) (l : Line) → IsFormedState s → KeepsTruth w s (after s l) }
 {}
 
 /// A clause proof shows its formula: it is true in every interpretation, at the given values of its names.

@@ -18,7 +18,7 @@ use Rattle.clause_words.specs.Tokens.{tokens, spelled, size, with_word, is_separ
 use Rattle.clause_words.specs.Spelling.{integer_text, is_plain, IsSpelling}
 use Rattle.clause_words.specs.Texts.{both_text, Both, Always, end_text, field_text, list_text}
 use Rattle.clause_words.specs.Places.{Begins, IsRefusedAt}
-use Rattle.clause_words.specs.Reading.{Token, Read, ◌>>=◌, Gives, said, done, word_as, both, ends, field, fields}
+use Rattle.clause_words.specs.Reading.{Token, Read, ◌>>=◌, GivesValue, said, done, word_as, both, ends, field, fields}
 use Rattle.clause_words.proofs.Lists.{word_some, word_none, done_is}
 use Rattle.clause_words.proofs.Splitting.{spelled_is, empty_word, no_value, one_value}
 use Rattle.clause_words.proofs.Spelled.{index_spelling, integer_spelling}
@@ -154,16 +154,16 @@ head_back h i =
 abbrev pub head_seen : {S : Type 0} → (S → List ℕ) → (Head × S) → Head × List Token
 head_seen rest x = (x.0, tokens (rest x.1))
 
-pub head_found : {S : Type 0} (text : List ℕ) (rest : S → List ℕ) (r : Result (Head × S) Refusal) → Gives (head_seen rest) r (head_of (tokens text)) → IfOk r (λ x. IsHead x.0 × (text ≡ spelled (head_text x.0) ++ rest x.1))
+pub head_found : {S : Type 0} (text : List ℕ) (rest : S → List ℕ) (r : Result (Head × S) Refusal) → GivesValue (head_seen rest) r (head_of (tokens text)) → IfOk r (λ x. IsHead x.0 × (text ≡ spelled (head_text x.0) ++ rest x.1))
 head_found text rest (Ok x) g =
     let f = head_reads.found (tokens text) x.0 (tokens (rest x.1)) g in
     (f.0, sym (spelled_is text) ∙ ap spelled f.1 ∙ spelled_append (head_text x.0) (tokens (rest x.1)) ∙ ap (λ z. spelled (head_text x.0) ++ z) (spelled_is (rest x.1)))
 head_found text rest (Err fault) g = tt
 
-pub head_again : {S : Type 0} (text : List ℕ) (rest : S → List ℕ) (r : Result (Head × S) Refusal) → Gives (head_seen rest) r (head_of (tokens text)) → (h : Head) (more : List ℕ) → IsHead h → text ≡ spelled (head_text h) ++ more → Gives (head_seen rest) r (done h (tokens more))
-head_again text rest r g h more i e = subst (Gives (head_seen rest) r) (ap (λ z. head_of (tokens z)) e ∙ ap head_of (head_back h i more) ∙ head_reads.again h (tokens more) i) g
+pub head_again : {S : Type 0} (text : List ℕ) (rest : S → List ℕ) (r : Result (Head × S) Refusal) → GivesValue (head_seen rest) r (head_of (tokens text)) → (h : Head) (more : List ℕ) → IsHead h → text ≡ spelled (head_text h) ++ more → GivesValue (head_seen rest) r (done h (tokens more))
+head_again text rest r g h more i e = subst (GivesValue (head_seen rest) r) (ap (λ z. head_of (tokens z)) e ∙ ap head_of (head_back h i more) ∙ head_reads.again h (tokens more) i) g
 
-pub head_first : {S : Type 0} (text : List ℕ) (rest : S → List ℕ) (r : Result (Head × S) Refusal) → Gives (head_seen rest) r (head_of (tokens text)) → IfErr r (RefusesHead text)
+pub head_first : {S : Type 0} (text : List ℕ) (rest : S → List ℕ) (r : Result (Head × S) Refusal) → GivesValue (head_seen rest) r (head_of (tokens text)) → IfErr r (RefusesHead text)
 head_first text rest (Ok x) g = tt
 head_first text rest (Err e.Memory) g = tt
 head_first text rest (Err (e.Syntax n)) g = refused IsHead head_text head_of head_reads (tokens text) n g

@@ -8,11 +8,11 @@ use Rattle.clause_proof.specs.declared.line.Line.TheVariants as l
 use Rattle.clause_text.specs.declared.line_word.LineWord.{LineWord}
 use Rattle.clause_text.specs.declared.line_word.LineWord.TheVariants as w
 use Rattle.clause_text.specs.Words.{word_text, word_of}
-use Rattle.clause_text.specs.Shapes.{Values, AreSaid, shape_of, shape_text, reading}
-use Rattle.clause_text.specs.Lines.{line_with, word_for, values_of, line_text, IsLine, line_behind, line_of, RefusesLine}
+use Rattle.clause_text.specs.Shapes.{LineValues, AreSaid, shape_of, shape_text, reading}
+use Rattle.clause_text.specs.Lines.{line_with, word_for, values_of, line_text, IsLine, line_behind, line_of, RefusesProofLine}
 use Rattle.clause_words.specs.Tokens.{tokens, spelled, size}
 use Rattle.clause_words.specs.Places.{Begins, IsRefusedAt}
-use Rattle.clause_words.specs.Reading.{Token, Read, ◌>>=◌, Gives, Fails, said, done, word_as}
+use Rattle.clause_words.specs.Reading.{Token, Read, ◌>>=◌, GivesValue, Fails, said, done, word_as}
 use Rattle.clause_words.proofs.Lists.{word_some, word_none, done_is}
 use Rattle.clause_words.proofs.Splitting.{spelled_is}
 use Rattle.clause_words.proofs.Exact.{Reads, IsStuck, IsFault, fault_bind, bind_ok, bind_err, said_some, said_value, word_is, word_not, refused}
@@ -37,7 +37,7 @@ same_line (l.Divide d t g h) = refl
 same_line (l.Resolve c hints) = refl
 same_line (l.Delete hints) = refl
 
-text_with : (word : LineWord) (v : Values (shape_of word)) → line_text (line_with word v) ≡ word_text word ∷ shape_text (shape_of word) v
+text_with : (word : LineWord) (v : LineValues (shape_of word)) → line_text (line_with word v) ≡ word_text word ∷ shape_text (shape_of word) v
 text_with w.Open v = refl
 text_with w.Apply v = refl
 text_with w.Read v = refl
@@ -53,7 +53,7 @@ text_with w.Divide v = refl
 text_with w.Resolve v = refl
 text_with w.Delete v = refl
 
-is_with : (word : LineWord) (v : Values (shape_of word)) → AreSaid (shape_of word) v → IsLine (line_with word v)
+is_with : (word : LineWord) (v : LineValues (shape_of word)) → AreSaid (shape_of word) v → IsLine (line_with word v)
 is_with w.Open v i = i
 is_with w.Apply v i = i
 is_with w.Read v i = i
@@ -74,7 +74,7 @@ is_with w.Delete v i = i
 abbrev HasLine : List Token → Line → List Token → Type 0
 HasLine ts line rest = IsLine line × (ts ≡ line_text line ++ rest)
 
-made_found : (word : LineWord) (us : List Token) (line : Line) (rest : List Token) (r : Read (Values (shape_of word))) → reading (shape_of word) us ≡ r
+made_found : (word : LineWord) (us : List Token) (line : Line) (rest : List Token) (r : Read (LineValues (shape_of word))) → reading (shape_of word) us ≡ r
     → (r >>= λ p. done (line_with word p.0) p.1) ≡ done line rest → HasLine (word_text word ∷ us) line rest
 made_found word us line rest (Ok p) e h =
     let d = done_is (line_with word p.0) line p.1 rest h in
@@ -132,7 +132,7 @@ word_stuck ts n (inr a) = record {
   place = ap size a.2 ∙ sym a.3;
 }
 
-made_err : (word : LineWord) (n : ℕ) (r : Read (Values (shape_of word))) → (r >>= λ p. done (line_with word p.0) p.1) ≡ Err n → r ≡ Err n
+made_err : (word : LineWord) (n : ℕ) (r : Read (LineValues (shape_of word))) → (r >>= λ p. done (line_with word p.0) p.1) ≡ Err n → r ≡ Err n
 made_err word n (Ok p) h = absurd cc
 made_err word n (Err m) h = cc
 
@@ -208,14 +208,14 @@ first_bytes ts n h = refused IsLine line_text line_of line_reads ts n h
 abbrev pub seen : {S : Type 0} → (S → List ℕ) → (Line × S) → Line × List Token
 seen rest x = (x.0, tokens (rest x.1))
 
-pub result_found : {S : Type 0} (text : List ℕ) (rest : S → List ℕ) (r : Result (Line × S) Refusal) → Gives (seen rest) r (line_of (tokens text)) → IfOk r (λ x. IsLine x.0 × (text ≡ spelled (line_text x.0) ++ rest x.1))
+pub result_found : {S : Type 0} (text : List ℕ) (rest : S → List ℕ) (r : Result (Line × S) Refusal) → GivesValue (seen rest) r (line_of (tokens text)) → IfOk r (λ x. IsLine x.0 × (text ≡ spelled (line_text x.0) ++ rest x.1))
 result_found text rest (Ok x) g = found_bytes text x.0 (rest x.1) spelled_is g
 result_found text rest (Err fault) g = tt
 
-pub result_again : {S : Type 0} (text : List ℕ) (rest : S → List ℕ) (r : Result (Line × S) Refusal) → Gives (seen rest) r (line_of (tokens text)) → (line : Line) (more : List ℕ) → IsLine line → text ≡ spelled (line_text line) ++ more → Gives (seen rest) r (done line (tokens more))
-result_again text rest r g line more i e = subst (Gives (seen rest) r) (again_bytes text line more i e) g
+pub result_again : {S : Type 0} (text : List ℕ) (rest : S → List ℕ) (r : Result (Line × S) Refusal) → GivesValue (seen rest) r (line_of (tokens text)) → (line : Line) (more : List ℕ) → IsLine line → text ≡ spelled (line_text line) ++ more → GivesValue (seen rest) r (done line (tokens more))
+result_again text rest r g line more i e = subst (GivesValue (seen rest) r) (again_bytes text line more i e) g
 
-pub result_first : {S : Type 0} (text : List ℕ) (rest : S → List ℕ) (r : Result (Line × S) Refusal) → Gives (seen rest) r (line_of (tokens text)) → IfErr r (RefusesLine text)
+pub result_first : {S : Type 0} (text : List ℕ) (rest : S → List ℕ) (r : Result (Line × S) Refusal) → GivesValue (seen rest) r (line_of (tokens text)) → IfErr r (RefusesProofLine text)
 result_first text rest (Ok x) g = tt
 result_first text rest (Err e.Memory) g = tt
 result_first text rest (Err (e.Syntax n)) g = first_bytes (tokens text) n g

@@ -1,7 +1,7 @@
 -- Each kind of word and each shape of a line is read exactly.
 use Rattle.std.proofs.Common.{ℕ, ◌≡◌, ◌<◌, ◌^◌, ℤ, pos, Bool, true, false, List, [], ◌∷◌, ◌++◌, Option, Some, None, refl, sym, ap, ◌∙◌, append_assoc, arith}
 use Rattle.std.specs.List.{AllByRecursion, list_all}
-use Rattle.clause_text.specs.Shapes.{Kind, number, integer, literal, term, factor, Shape, nothing, one, many, many_by, Said, IsSaid, spelling, meaning, by, Values, AreSaid, shape_text, reading}
+use Rattle.clause_text.specs.Shapes.{Kind, number, integer, literal, term, factor, Shape, nothing, one, many, many_by, Said, IsValueSaid, spelling, meaning, by, LineValues, AreSaid, shape_text, reading}
 use Rattle.clause_text.proofs.SpelledLiterals.{literal_spelling, factor_spelling}
 use Rattle.clause_words.specs.Spelling.{is_plain, IsSpelling}
 use Rattle.clause_words.specs.Texts.{field_text, list_text, list_to_text}
@@ -14,7 +14,7 @@ use Rattle.clause_words.proofs.Spelled.{index_spelling, integer_spelling}
 use Rattle.clause_words.proofs.Splitting.{word_before}
 use Rattle.clause_words.proofs.SpelledTerms.{term_spelling}
 
-pub kind_spelling : (k : Kind) → IsSpelling (IsSaid k) (spelling k) (meaning k)
+pub kind_spelling : (k : Kind) → IsSpelling (IsValueSaid k) (spelling k) (meaning k)
 kind_spelling number = index_spelling
 kind_spelling integer = integer_spelling
 kind_spelling literal = literal_spelling
@@ -33,11 +33,11 @@ by_is_none factor = (refl, refl)
 -- one lemma for the whole table
 pub shape_reads : (s : Shape) → Reads (AreSaid s) (shape_text s) (reading s)
 shape_reads nothing = ends_reads
-shape_reads (one k s) = both_reads (IsSaid k) (AreSaid s) (field_text (spelling k)) (shape_text s) (field (meaning k)) (reading s) (field_reads (IsSaid k) (spelling k) (meaning k) (kind_spelling k)) (shape_reads s)
-shape_reads (many k) = fields_reads (IsSaid k) (spelling k) (meaning k) (kind_spelling k)
+shape_reads (one k s) = both_reads (IsValueSaid k) (AreSaid s) (field_text (spelling k)) (shape_text s) (field (meaning k)) (reading s) (field_reads (IsValueSaid k) (spelling k) (meaning k) (kind_spelling k)) (shape_reads s)
+shape_reads (many k) = fields_reads (IsValueSaid k) (spelling k) (meaning k) (kind_spelling k)
 shape_reads (many_by j k) =
-    both_reads (AllByRecursion (IsSaid j)) (AllByRecursion (IsSaid k)) (list_to_text by (spelling j)) (list_text (spelling k)) (fields_to (unless by (meaning j))) (fields (meaning k))
-    (fields_to_reads (IsSaid j) (spelling j) (meaning j) by (kind_spelling j) (by_is_none j)) (fields_reads (IsSaid k) (spelling k) (meaning k) (kind_spelling k))
+    both_reads (AllByRecursion (IsValueSaid j)) (AllByRecursion (IsValueSaid k)) (list_to_text by (spelling j)) (list_text (spelling k)) (fields_to (unless by (meaning j))) (fields (meaning k))
+    (fields_to_reads (IsValueSaid j) (spelling j) (meaning j) by (kind_spelling j) (by_is_none j)) (fields_reads (IsValueSaid k) (spelling k) (meaning k) (kind_spelling k))
 
 -- ---- tokens that are written one behind another
 
@@ -78,15 +78,15 @@ word_spaced w ts h s = record {
       ∙ ap (λ z. blank ∷ z) (word_back w (spelled ts ++ rest) h (s.begins rest) ∙ ap (λ z. w ∷ z) (s.back rest));
 }
 
-list_spaced : (k : Kind) (vs : List (Said k)) → AllByRecursion (IsSaid k) vs → IsSpaced (list_text (spelling k) vs)
+list_spaced : (k : Kind) (vs : List (Said k)) → AllByRecursion (IsValueSaid k) vs → IsSpaced (list_text (spelling k) vs)
 list_spaced k [] h = feed_spaced
 list_spaced k (v ∷ vs) h = word_spaced (spelling k v) (list_text (spelling k) vs) ((kind_spelling k).plain v h.0) (list_spaced k vs h.1)
 
-list_to_spaced : (j k : Kind) (us : List (Said j)) (vs : List (Said k)) → AllByRecursion (IsSaid j) us → AllByRecursion (IsSaid k) vs → IsSpaced (list_to_text by (spelling j) us ++ list_text (spelling k) vs)
+list_to_spaced : (j k : Kind) (us : List (Said j)) (vs : List (Said k)) → AllByRecursion (IsValueSaid j) us → AllByRecursion (IsValueSaid k) vs → IsSpaced (list_to_text by (spelling j) us ++ list_text (spelling k) vs)
 list_to_spaced j k [] vs g h = word_spaced by (list_text (spelling k) vs) refl (list_spaced k vs h)
 list_to_spaced j k (u ∷ us) vs g h = word_spaced (spelling j u) (list_to_text by (spelling j) us ++ list_text (spelling k) vs) ((kind_spelling j).plain u g.0) (list_to_spaced j k us vs g.1 h)
 
-pub shape_spaced : (s : Shape) (v : Values s) → AreSaid s v → IsSpaced (shape_text s v)
+pub shape_spaced : (s : Shape) (v : LineValues s) → AreSaid s v → IsSpaced (shape_text s v)
 shape_spaced nothing v i = feed_spaced
 shape_spaced (one k s) v i = word_spaced (spelling k v.0) (shape_text s v.1) ((kind_spelling k).plain v.0 i.0) (shape_spaced s v.1 i.1)
 shape_spaced (many k) v i = list_spaced k v i

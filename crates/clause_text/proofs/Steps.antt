@@ -4,12 +4,12 @@ use Rattle.proof_tokens.specs.declared.reading.Refusal.{Refusal}
 use Rattle.proof_tokens.specs.declared.reading.Refusal.TheVariants as e
 use Rattle.clause_proof.specs.declared.line.Line.{Line}
 use Rattle.clause_text.specs.declared.line_word.LineWord.{LineWord}
-use Rattle.clause_text.specs.Shapes.{Kind, Shape, nothing, one, many_by, Said, meaning, by, Values, shape_of, reading}
+use Rattle.clause_text.specs.Shapes.{Kind, Shape, nothing, one, many_by, Said, meaning, by, LineValues, shape_of, reading}
 use Rattle.clause_text.specs.Lines.{line_with, line_behind}
-use Rattle.clause_words.specs.Reading.{Token, Read, ◌>>=◌, Gives, Fails, done, paired, feed_first, field, fields, fields_to, unless}
+use Rattle.clause_words.specs.Reading.{Token, Read, ◌>>=◌, GivesValue, Fails, done, paired, feed_first, field, fields, fields_to, unless}
 use Rattle.clause_text.proofs.ExactLines.{seen}
 
-pub step_done : (k : Kind) (s : Shape) (ts us rest : List Token) (v : Said k) (vs : Values s) → field (meaning k) ts ≡ done v us → reading s us ≡ done vs rest → reading (one k s) ts ≡ done (v, vs) rest
+pub step_done : (k : Kind) (s : Shape) (ts us rest : List Token) (v : Said k) (vs : LineValues s) → field (meaning k) ts ≡ done v us → reading s us ≡ done vs rest → reading (one k s) ts ≡ done (v, vs) rest
 step_done k s ts us rest v vs h g = ap (λ z. z >>= λ x. reading s x.1 >>= paired x.0) h ∙ ap (λ z. z >>= paired v) g
 
 fails_by : {A B : Type 0} (fault : Refusal) (r : Read A) (f : A × List Token → Read B) → Fails fault r → Fails fault (r >>= f)
@@ -38,15 +38,15 @@ pub end_fails : (ts : List Token) (fault : Refusal) → Fails fault (feed_first 
 end_fails ts e.Memory h = tt
 end_fails ts (e.Syntax n) h = ap (λ z. z >>= λ r. done {A = Unit {0}} tt r) h
 
-pub line_done : (w : LineWord) (ts rest : List Token) (v : Values (shape_of w)) → reading (shape_of w) ts ≡ done v rest → line_behind w ts ≡ done (line_with w v) rest
+pub line_done : (w : LineWord) (ts rest : List Token) (v : LineValues (shape_of w)) → reading (shape_of w) ts ≡ done v rest → line_behind w ts ≡ done (line_with w v) rest
 line_done w ts rest v h = ap (λ z. z >>= λ p. done (line_with w p.0) p.1) h
 
 pub line_fails : (w : LineWord) (ts : List Token) (fault : Refusal) → Fails fault (reading (shape_of w) ts) → Fails fault (line_behind w ts)
 line_fails w ts fault h = fails_by fault (reading (shape_of w) ts) (λ p. done (line_with w p.0) p.1) h
 
 -- a case of the word
-pub arm : {S : Type 0} (rest : S → List ℕ) (r : Result (Line × S) Refusal) (v w : LineWord) (ts : List Token) → v ≡ w → Gives (seen rest) r (line_behind w ts) → Gives (seen rest) r (line_behind v ts)
-arm rest r v w ts e g = Rattle.std.proofs.Common.subst (λ z. Gives (seen rest) r (line_behind z ts)) (sym e) g
+pub arm : {S : Type 0} (rest : S → List ℕ) (r : Result (Line × S) Refusal) (v w : LineWord) (ts : List Token) → v ≡ w → GivesValue (seen rest) r (line_behind w ts) → GivesValue (seen rest) r (line_behind v ts)
+arm rest r v w ts e g = Rattle.std.proofs.Common.subst (λ z. GivesValue (seen rest) r (line_behind z ts)) (sym e) g
 
 -- a field that fails
 pub field_fails : (k : Kind) (s : Shape) (ts : List Token) (fault : Refusal) → Fails fault (field (meaning k) ts) → Fails fault (reading (one k s) ts)

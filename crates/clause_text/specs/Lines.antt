@@ -5,7 +5,7 @@ use Rattle.clause_proof.specs.declared.line.Line.TheVariants as l
 use Rattle.clause_text.specs.declared.line_word.LineWord.{LineWord}
 use Rattle.clause_text.specs.declared.line_word.LineWord.TheVariants as w
 use Rattle.clause_text.specs.Words.{word_text, word_of}
-use Rattle.clause_text.specs.Shapes.{Values, AreSaid, shape_of, shape_text, reading}
+use Rattle.clause_text.specs.Shapes.{LineValues, AreSaid, shape_of, shape_text, reading}
 use Rattle.proof_tokens.specs.declared.reading.Refusal.{Refusal}
 use Rattle.proof_tokens.specs.declared.reading.Refusal.TheVariants as e
 use Rattle.clause_words.specs.Tokens.{tokens}
@@ -13,7 +13,7 @@ use Rattle.clause_words.specs.Places.{IsRefusedAt}
 use Rattle.clause_words.specs.Reading.{Token, Read, ◌>>=◌, done, word_as}
 
 -- the line with these values behind its word
-abbrev pub line_with : (word : LineWord) → Values (shape_of word) → Line
+abbrev pub line_with : (word : LineWord) → LineValues (shape_of word) → Line
 line_with w.Open v = l.Open v.0 v.1
 line_with w.Apply v = l.Apply v.0 v.1
 line_with w.Read v = l.Read v.0 v.1.1 v.1.0
@@ -47,7 +47,7 @@ word_for (l.Resolve c hints) = w.Resolve
 word_for (l.Delete hints) = w.Delete
 
 -- the values that stand behind it
-abbrev pub values_of : (line : Line) → Values (shape_of (word_for line))
+abbrev pub values_of : (line : Line) → LineValues (shape_of (word_for line))
 values_of (l.Open i ms) = (i, ms)
 values_of (l.Apply f ts) = (f, ts)
 values_of (l.Read i apps m) = (i, (m, apps))
@@ -79,6 +79,6 @@ unfoldable pub line_of : List Token → Read Line
 line_of ts = word_as word_of ts >>= λ p. line_behind p.0 p.1
 
 -- what a refusal says: where the first one is; or memory was short
-abbrev pub RefusesLine : List ℕ → Refusal → Type 0
-RefusesLine text (e.Syntax left) = IsRefusedAt IsLine line_text (tokens text) left
-RefusesLine text e.Memory = Unit {0}
+abbrev pub RefusesProofLine : List ℕ → Refusal → Type 0
+RefusesProofLine text (e.Syntax left) = IsRefusedAt IsLine line_text (tokens text) left
+RefusesProofLine text e.Memory = Unit {0}

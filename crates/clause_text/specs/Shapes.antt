@@ -58,12 +58,12 @@ Said term = Linear
 Said factor = Factor
 
 -- what can be said: numbers in their ranges, terms in normal form
-abbrev pub IsSaid : (k : Kind) → Said k → Type 0
-IsSaid number n = n < 2 ^ 32
-IsSaid integer k = InRange k
-IsSaid literal l = IsLiteral l
-IsSaid term t = IsNormal t
-IsSaid factor x = IsFactor x
+abbrev pub IsValueSaid : (k : Kind) → Said k → Type 0
+IsValueSaid number n = n < 2 ^ 32
+IsValueSaid integer k = InRange k
+IsValueSaid literal l = IsLiteral l
+IsValueSaid term t = IsNormal t
+IsValueSaid factor x = IsFactor x
 
 abbrev pub spelling : (k : Kind) → Said k → List ℕ
 spelling number n = decimal n
@@ -84,25 +84,25 @@ by = codes "by"
 
 -- ---- what stands behind the word of a line
 
-abbrev pub Values : Shape → Type 0
-Values nothing = Unit {0}
-Values (one k s) = Said k × Values s
-Values (many k) = List (Said k)
-Values (many_by j k) = List (Said j) × List (Said k)
+abbrev pub LineValues : Shape → Type 0
+LineValues nothing = Unit {0}
+LineValues (one k s) = Said k × LineValues s
+LineValues (many k) = List (Said k)
+LineValues (many_by j k) = List (Said j) × List (Said k)
 
-abbrev pub AreSaid : (s : Shape) → Values s → Type 0
+abbrev pub AreSaid : (s : Shape) → LineValues s → Type 0
 AreSaid nothing v = Always v
-AreSaid (one k s) v = Both (IsSaid k) (AreSaid s) v
-AreSaid (many k) v = AllByRecursion (IsSaid k) v
-AreSaid (many_by j k) v = Both (AllByRecursion (IsSaid j)) (AllByRecursion (IsSaid k)) v
+AreSaid (one k s) v = Both (IsValueSaid k) (AreSaid s) v
+AreSaid (many k) v = AllByRecursion (IsValueSaid k) v
+AreSaid (many_by j k) v = Both (AllByRecursion (IsValueSaid j)) (AllByRecursion (IsValueSaid k)) v
 
-abbrev pub shape_text : (s : Shape) → Values s → List Token
+abbrev pub shape_text : (s : Shape) → LineValues s → List Token
 shape_text nothing v = end_text v
 shape_text (one k s) v = both_text (field_text (spelling k)) (shape_text s) v
 shape_text (many k) v = list_text (spelling k) v
 shape_text (many_by j k) v = both_text (list_to_text by (spelling j)) (list_text (spelling k)) v
 
-abbrev pub reading : (s : Shape) → List Token → Read (Values s)
+abbrev pub reading : (s : Shape) → List Token → Read (LineValues s)
 reading nothing ts = ends ts
 reading (one k s) ts = both (field (meaning k)) (reading s) ts
 reading (many k) ts = fields (meaning k) ts

@@ -6,7 +6,7 @@ ghost use Rattle.clause_text.specs.Shapes.{by};
 ghost use Rattle.clause_text.specs.Words.{word_of};
 ghost use Rattle.std.specs.Prelude.{◌≡◌, ◌≤◌, length, List, ℕ, Option, IfOk};
 ghost use Rattle.clause_words.specs.Numbers.{index_of, integer_of};
-ghost use Rattle.clause_words.specs.Reading.{field, fields, fields_to, Gives, unless, word_as};
+ghost use Rattle.clause_words.specs.Reading.{field, fields, fields_to, GivesValue, unless, word_as};
 ghost use Rattle.clause_words.specs.Terms.{term_of};
 ghost use Rattle.clause_words.specs.Tokens.{tokens};
 
@@ -125,7 +125,7 @@ impl Word for Option<Literal> {
 
 /// The value of the first word, and the text behind it.
 pub(crate) fn word_as<W: Word>(alloc: Global, text: &[u8]) -> Result<(W, &[u8]), Refusal>
-    ensures exact { Gives (λ x. (x.0, tokens x.1.now)) result (word_as (W.reading) (tokens text.now)) }
+    ensures exact { GivesValue (λ x. (x.0, tokens x.1.now)) result (word_as (W.reading) (tokens text.now)) }
     ensures within { IfOk result (λ x. length x.1.now ≤ length text.now) }
 {
     let (word, rest) = split_word(text);
@@ -141,7 +141,7 @@ pub(crate) fn word_as<W: Word>(alloc: Global, text: &[u8]) -> Result<(W, &[u8]),
 /// The value of the word behind a blank, and the text behind it.
 #[tactic(auto, unfolding(clause_words::specs::Reading::field))]
 pub(crate) fn field<W: Word>(alloc: Global, text: &[u8]) -> Result<(W, &[u8]), Refusal>
-    ensures { Gives (λ x. (x.0, tokens x.1.now)) result (field (W.reading) (tokens text.now)) }
+    ensures { GivesValue (λ x. (x.0, tokens x.1.now)) result (field (W.reading) (tokens text.now)) }
 {
     let inner = blank_first(text)?;
     let (value, rest) = word_as(alloc, inner)?;
@@ -150,7 +150,7 @@ pub(crate) fn field<W: Word>(alloc: Global, text: &[u8]) -> Result<(W, &[u8]), R
 
 /// The values of words, each behind a blank, to the end of the line, and the text behind that.
 pub(crate) fn fields<W: Word>(alloc: Global, text: &[u8]) -> Result<(Items<W>, &[u8]), Refusal>
-    ensures { Gives (λ x. (x.0, tokens x.1.now)) result (fields (W.reading) (tokens text.now)) }
+    ensures { GivesValue (λ x. (x.0, tokens x.1.now)) result (fields (W.reading) (tokens text.now)) }
 {
     let mut found = Items::new(alloc);
     let mut rest = text;
@@ -167,7 +167,7 @@ pub(crate) fn fields<W: Word>(alloc: Global, text: &[u8]) -> Result<(Items<W>, &
 
 /// Literals, each behind a blank, up to and with the word `by`, and the text behind that.
 pub(crate) fn clause(alloc: Global, text: &[u8]) -> Result<(Items<Literal>, &[u8]), Refusal>
-    ensures { Gives (λ x. (x.0, tokens x.1.now)) result (fields_to (unless by literal_of) (tokens text.now)) }
+    ensures { GivesValue (λ x. (x.0, tokens x.1.now)) result (fields_to (unless by literal_of) (tokens text.now)) }
 {
     let mut found = Items::new(alloc);
     let mut rest = text;

@@ -1,10 +1,10 @@
 // The lines of a clause proof, read.
 
 ghost use Rattle.clause_proof.specs.declared.line.Line.{Line};
-ghost use Rattle.clause_text.specs.Lines.{IsLine, line_behind, line_of, line_text, RefusesLine};
+ghost use Rattle.clause_text.specs.Lines.{IsLine, line_behind, line_of, line_text, RefusesProofLine};
 ghost use Rattle.clause_text.specs.declared.line_word.LineWord.TheVariants as w;
 ghost use Rattle.std.specs.Prelude.{◌≡◌, ◌++◌, List, ℕ, IfErr, IfOk};
-ghost use Rattle.clause_words.specs.Reading.{done, Gives};
+ghost use Rattle.clause_words.specs.Reading.{done, GivesValue};
 ghost use Rattle.clause_words.specs.Tokens.{spelled, tokens};
 
 use crate::line_word::LineWord;
@@ -15,7 +15,7 @@ use proof_tokens::Refusal;
 use std::alloc::Global;
 
 fn open(alloc: Global, text: &[u8]) -> Result<(Line, &[u8]), Refusal>
-    ensures { Gives (λ x. (x.0, tokens x.1.now)) result (line_behind w.Open (tokens text.now)) }
+    ensures { GivesValue (λ x. (x.0, tokens x.1.now)) result (line_behind w.Open (tokens text.now)) }
 {
     let (variable, rest) = field(alloc, text)?;
     let (members, rest) = fields(alloc, rest)?;
@@ -23,7 +23,7 @@ fn open(alloc: Global, text: &[u8]) -> Result<(Line, &[u8]), Refusal>
 }
 
 fn apply(alloc: Global, text: &[u8]) -> Result<(Line, &[u8]), Refusal>
-    ensures { Gives (λ x. (x.0, tokens x.1.now)) result (line_behind w.Apply (tokens text.now)) }
+    ensures { GivesValue (λ x. (x.0, tokens x.1.now)) result (line_behind w.Apply (tokens text.now)) }
 {
     let (function, rest) = field(alloc, text)?;
     let (terms, rest) = fields(alloc, rest)?;
@@ -31,7 +31,7 @@ fn apply(alloc: Global, text: &[u8]) -> Result<(Line, &[u8]), Refusal>
 }
 
 fn read(alloc: Global, text: &[u8]) -> Result<(Line, &[u8]), Refusal>
-    ensures { Gives (λ x. (x.0, tokens x.1.now)) result (line_behind w.Read (tokens text.now)) }
+    ensures { GivesValue (λ x. (x.0, tokens x.1.now)) result (line_behind w.Read (tokens text.now)) }
 {
     let (variable, rest) = field(alloc, text)?;
     let (made, rest) = field(alloc, rest)?;
@@ -40,7 +40,7 @@ fn read(alloc: Global, text: &[u8]) -> Result<(Line, &[u8]), Refusal>
 }
 
 fn instance(alloc: Global, text: &[u8]) -> Result<(Line, &[u8]), Refusal>
-    ensures { Gives (λ x. (x.0, tokens x.1.now)) result (line_behind w.Instance (tokens text.now)) }
+    ensures { GivesValue (λ x. (x.0, tokens x.1.now)) result (line_behind w.Instance (tokens text.now)) }
 {
     let (variable, rest) = field(alloc, text)?;
     let (made, rest) = field(alloc, rest)?;
@@ -49,7 +49,7 @@ fn instance(alloc: Global, text: &[u8]) -> Result<(Line, &[u8]), Refusal>
 }
 
 fn inequality(alloc: Global, text: &[u8]) -> Result<(Line, &[u8]), Refusal>
-    ensures { Gives (λ x. (x.0, tokens x.1.now)) result (line_behind w.Geq (tokens text.now)) }
+    ensures { GivesValue (λ x. (x.0, tokens x.1.now)) result (line_behind w.Geq (tokens text.now)) }
 {
     let (term, rest) = field(alloc, text)?;
     let rest = feed_first(rest)?;
@@ -57,7 +57,7 @@ fn inequality(alloc: Global, text: &[u8]) -> Result<(Line, &[u8]), Refusal>
 }
 
 fn equation(alloc: Global, text: &[u8]) -> Result<(Line, &[u8]), Refusal>
-    ensures { Gives (λ x. (x.0, tokens x.1.now)) result (line_behind w.Eq (tokens text.now)) }
+    ensures { GivesValue (λ x. (x.0, tokens x.1.now)) result (line_behind w.Eq (tokens text.now)) }
 {
     let (term, rest) = field(alloc, text)?;
     let rest = feed_first(rest)?;
@@ -65,7 +65,7 @@ fn equation(alloc: Global, text: &[u8]) -> Result<(Line, &[u8]), Refusal>
 }
 
 fn predicate(alloc: Global, text: &[u8]) -> Result<(Line, &[u8]), Refusal>
-    ensures { Gives (λ x. (x.0, tokens x.1.now)) result (line_behind w.Pred (tokens text.now)) }
+    ensures { GivesValue (λ x. (x.0, tokens x.1.now)) result (line_behind w.Pred (tokens text.now)) }
 {
     let (name, rest) = field(alloc, text)?;
     let (terms, rest) = fields(alloc, rest)?;
@@ -73,7 +73,7 @@ fn predicate(alloc: Global, text: &[u8]) -> Result<(Line, &[u8]), Refusal>
 }
 
 fn split(alloc: Global, text: &[u8]) -> Result<(Line, &[u8]), Refusal>
-    ensures { Gives (λ x. (x.0, tokens x.1.now)) result (line_behind w.Split (tokens text.now)) }
+    ensures { GivesValue (λ x. (x.0, tokens x.1.now)) result (line_behind w.Split (tokens text.now)) }
 {
     let (variable, rest) = field(alloc, text)?;
     let (above, rest) = field(alloc, rest)?;
@@ -83,14 +83,14 @@ fn split(alloc: Global, text: &[u8]) -> Result<(Line, &[u8]), Refusal>
 }
 
 fn sum(alloc: Global, text: &[u8]) -> Result<(Line, &[u8]), Refusal>
-    ensures { Gives (λ x. (x.0, tokens x.1.now)) result (line_behind w.Sum (tokens text.now)) }
+    ensures { GivesValue (λ x. (x.0, tokens x.1.now)) result (line_behind w.Sum (tokens text.now)) }
 {
     let (factors, rest) = fields(alloc, text)?;
     Ok((Line::Sum(factors), rest))
 }
 
 fn pair(alloc: Global, text: &[u8]) -> Result<(Line, &[u8]), Refusal>
-    ensures { Gives (λ x. (x.0, tokens x.1.now)) result (line_behind w.Pair (tokens text.now)) }
+    ensures { GivesValue (λ x. (x.0, tokens x.1.now)) result (line_behind w.Pair (tokens text.now)) }
 {
     let (first, rest) = field(alloc, text)?;
     let (second, rest) = field(alloc, rest)?;
@@ -100,7 +100,7 @@ fn pair(alloc: Global, text: &[u8]) -> Result<(Line, &[u8]), Refusal>
 }
 
 fn predicate_pair(alloc: Global, text: &[u8]) -> Result<(Line, &[u8]), Refusal>
-    ensures { Gives (λ x. (x.0, tokens x.1.now)) result (line_behind w.PredPair (tokens text.now)) }
+    ensures { GivesValue (λ x. (x.0, tokens x.1.now)) result (line_behind w.PredPair (tokens text.now)) }
 {
     let (first, rest) = field(alloc, text)?;
     let (second, rest) = field(alloc, rest)?;
@@ -109,7 +109,7 @@ fn predicate_pair(alloc: Global, text: &[u8]) -> Result<(Line, &[u8]), Refusal>
 }
 
 fn divide(alloc: Global, text: &[u8]) -> Result<(Line, &[u8]), Refusal>
-    ensures { Gives (λ x. (x.0, tokens x.1.now)) result (line_behind w.Divide (tokens text.now)) }
+    ensures { GivesValue (λ x. (x.0, tokens x.1.now)) result (line_behind w.Divide (tokens text.now)) }
 {
     let (divisor, rest) = field(alloc, text)?;
     let (term, rest) = field(alloc, rest)?;
@@ -120,7 +120,7 @@ fn divide(alloc: Global, text: &[u8]) -> Result<(Line, &[u8]), Refusal>
 }
 
 fn resolve(alloc: Global, text: &[u8]) -> Result<(Line, &[u8]), Refusal>
-    ensures { Gives (λ x. (x.0, tokens x.1.now)) result (line_behind w.Resolve (tokens text.now)) }
+    ensures { GivesValue (λ x. (x.0, tokens x.1.now)) result (line_behind w.Resolve (tokens text.now)) }
 {
     let (literals, rest) = clause(alloc, text)?;
     let (hints, rest) = fields(alloc, rest)?;
@@ -128,7 +128,7 @@ fn resolve(alloc: Global, text: &[u8]) -> Result<(Line, &[u8]), Refusal>
 }
 
 fn delete(alloc: Global, text: &[u8]) -> Result<(Line, &[u8]), Refusal>
-    ensures { Gives (λ x. (x.0, tokens x.1.now)) result (line_behind w.Delete (tokens text.now)) }
+    ensures { GivesValue (λ x. (x.0, tokens x.1.now)) result (line_behind w.Delete (tokens text.now)) }
 {
     let (clauses, rest) = fields(alloc, text)?;
     Ok((Line::Delete(clauses), rest))
@@ -136,7 +136,7 @@ fn delete(alloc: Global, text: &[u8]) -> Result<(Line, &[u8]), Refusal>
 
 /// The line that begins with the word, and the text behind it.
 fn line_behind(alloc: Global, word: LineWord, text: &[u8]) -> Result<(Line, &[u8]), Refusal>
-    ensures { Gives (λ x. (x.0, tokens x.1.now)) result (line_behind word (tokens text.now)) }
+    ensures { GivesValue (λ x. (x.0, tokens x.1.now)) result (line_behind word (tokens text.now)) }
 {
     match word {
         LineWord::Open => open(alloc, text),
@@ -159,7 +159,7 @@ fn line_behind(alloc: Global, word: LineWord, text: &[u8]) -> Result<(Line, &[u8
 /// The first line of the text, and the text behind it.
 #[tactic(auto, unfolding(crate::specs::Lines::line_of))]
 fn any_line(alloc: Global, text: &[u8]) -> Result<(Line, &[u8]), Refusal>
-    ensures { Gives (λ x. (x.0, tokens x.1.now)) result (line_of (tokens text.now)) }
+    ensures { GivesValue (λ x. (x.0, tokens x.1.now)) result (line_of (tokens text.now)) }
 {
     let (word, inner): (LineWord, &[u8]) = word_as(alloc, text)?;
     let (line, rest) = line_behind(alloc, word, inner)?;
@@ -171,9 +171,9 @@ pub fn read_line(alloc: Global, text: &[u8]) -> Result<(Line, &[u8]), Refusal>
     // What is read is a line's text, each byte of it.
     ensures found { IfOk result (λ x. IsLine x.0 × (text.now ≡ spelled (line_text x.0) ++ x.1.now)) }
     // A line's text is read as that line, unless memory runs out, whatever stands behind it.
-    ensures only { (line : Line) (rest : List ℕ) → IsLine line → text.now ≡ spelled (line_text line) ++ rest → Gives (λ x. (x.0, tokens x.1.now)) result (done line (tokens rest)) }
+    ensures only { (line : Line) (rest : List ℕ) → IsLine line → text.now ≡ spelled (line_text line) ++ rest → GivesValue (λ x. (x.0, tokens x.1.now)) result (done line (tokens rest)) }
     // A refusal is at the first token with which no line's text goes on.
-    ensures first { IfErr result (RefusesLine text.now) }
+    ensures first { IfErr result (RefusesProofLine text.now) }
 {
     any_line(alloc, text)
 }

@@ -26,9 +26,9 @@ abbrev pub Fails : {Y : Type 0} → Refusal → Result Y ℕ → Type 0
 Fails e.Memory read = Unit {0}
 Fails (e.Syntax n) read = read ≡ Err n
 
-abbrev pub Gives : {X Y : Type 0} → (X → Y) → Result X Refusal → Result Y ℕ → Type 0
-Gives view (Ok x) read = read ≡ Ok (view x)
-Gives view (Err fault) read = Fails fault read
+abbrev pub GivesValue : {X Y : Type 0} → (X → Y) → Result X Refusal → Result Y ℕ → Type 0
+GivesValue view (Ok x) read = read ≡ Ok (view x)
+GivesValue view (Err fault) read = Fails fault read
 
 abbrev pub or_refused : {A : Type 0} → ℕ → Option A → Result A ℕ
 or_refused n None = Err n

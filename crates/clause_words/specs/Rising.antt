@@ -6,8 +6,8 @@ use Rattle.clause_words.specs.declared.terms.Part.TheVariants as p
 use Rattle.clause_words.specs.declared.terms.Sum.{Sum}
 
 -- a name that may come is above all that came
-abbrev pub IsRising : Sum → Type 0
-IsRising s = (x : ℕ) → s.least ≤ x → IsOver x s.term
+abbrev pub HasRisingNames : Sum → Type 0
+HasRisingNames s = (x : ℕ) → s.least ≤ x → IsOver x s.term
 
 -- the numbers of a part are in their ranges, and its coefficient is not 0
 abbrev pub IsSmallPart : Part → Type 0

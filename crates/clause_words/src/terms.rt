@@ -3,7 +3,7 @@
 ghost use Rattle.linear_term.specs.Linear.{IsOver};
 ghost use Rattle.std.specs.List.{prefix_len};
 ghost use Rattle.std.specs.Prelude.{◌≡◌, ◌≢◌, ◌≤◌, ◌<◌, ◌^◌, ◌∷◌, Bool, cond, length, Some, None, IfOk, IfSome};
-ghost use Rattle.clause_words.specs.Rising.{IsRising, IsSmallPart};
+ghost use Rattle.clause_words.specs.Rising.{HasRisingNames, IsSmallPart};
 ghost use Rattle.clause_words.specs.Terms.{ended_by, nothing, no_sign, no_star, part_of, parts, parts_behind, star_part, sum_of, term_of, with_name};
 
 use crate::numbers::{index, signed, size};
@@ -30,7 +30,7 @@ impl Sum {
     /// Nothing is read.
     fn new(alloc: Global) -> Sum
         ensures exact { result ≡ nothing }
-        ensures rising { IsRising result }
+        ensures rising { HasRisingNames result }
     {
         Sum {
             term: Term::number(alloc, 0),
@@ -40,11 +40,11 @@ impl Sum {
 
     /// Appends a monomial, if its name may come.
     fn push(&mut self, minus: bool, n: u128, x: u32) -> Result<bool, Memory>
-        requires rising { IsRising self.old }
+        requires rising { HasRisingNames self.old }
         requires small { n < 2 ^ 127 }
         requires some { n ≢ 0 }
         ensures exact { IfOk result (λ b. with_name self.old minus n x ≡ cond b (Some self.new) None) }
-        ensures rising { IsRising self.new }
+        ensures rising { HasRisingNames self.new }
     {
         if self.least > u64::from(x) {
             return Ok(false);

@@ -2,7 +2,7 @@
 
 ghost use Rattle.std.specs.List.{prefix_len};
 ghost use Rattle.std.specs.Prelude.{◌≡◌, ◌≤◌, ◌<◌, length, true, false, IfOk};
-ghost use Rattle.clause_words.specs.Reading.{blank_first, feed_first, Gives, joint};
+ghost use Rattle.clause_words.specs.Reading.{blank_first, feed_first, GivesValue, joint};
 ghost use Rattle.clause_words.specs.Tokens.{in_word, is_separator, stops, tokens, with_word};
 
 use proof_tokens::Refusal;
@@ -32,7 +32,7 @@ pub fn split_word(text: &[u8]) -> (&[u8], &[u8])
 /// Whether a blank comes first, not a line feed, and the text behind it.
 #[tactic(auto, using(crate::proofs::Splitting::none_joint))]
 pub fn joint(text: &[u8]) -> Result<(bool, &[u8]), Refusal>
-    ensures exact { Gives (λ x. (x.0, tokens x.1.now)) result (joint (tokens text.now)) }
+    ensures exact { GivesValue (λ x. (x.0, tokens x.1.now)) result (joint (tokens text.now)) }
     ensures shorter { IfOk result (λ x. length x.1.now < length text.now) }
 {
     let Some((first, rest)) = text.split_first() else {
@@ -50,7 +50,7 @@ pub fn joint(text: &[u8]) -> Result<(bool, &[u8]), Refusal>
 /// The text behind a blank.
 #[tactic(auto, using(crate::proofs::Splitting::size_is), unfolding(crate::specs::Reading::blank_first))]
 pub fn blank_first(text: &[u8]) -> Result<&[u8], Refusal>
-    ensures exact { Gives (λ x. tokens x.now) result (blank_first (tokens text.now)) }
+    ensures exact { GivesValue (λ x. tokens x.now) result (blank_first (tokens text.now)) }
     ensures shorter { IfOk result (λ x. length x.now < length text.now) }
 {
     let (more, rest) = joint(text)?;
@@ -64,7 +64,7 @@ pub fn blank_first(text: &[u8]) -> Result<&[u8], Refusal>
 /// The text behind a line feed.
 #[tactic(auto, using(crate::proofs::Splitting::size_is), unfolding(crate::specs::Reading::feed_first))]
 pub fn feed_first(text: &[u8]) -> Result<&[u8], Refusal>
-    ensures exact { Gives (λ x. tokens x.now) result (feed_first (tokens text.now)) }
+    ensures exact { GivesValue (λ x. tokens x.now) result (feed_first (tokens text.now)) }
 {
     let (more, rest) = joint(text)?;
     if more {

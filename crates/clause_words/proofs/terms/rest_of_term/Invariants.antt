@@ -1,5 +1,5 @@
 use Rattle.std.proofs.Common.{length}
-use Rattle.clause_words.specs.Rising.{IsRising}
+use Rattle.clause_words.specs.Rising.{HasRisingNames}
 use Rattle.clause_words.specs.Terms.{nothing, parts, sum_of}
 use Rattle.clause_words.proofs.Summing.{Goes}
 use Rattle.clause_words.proofs.terms.rest_of_term.Given as goal
@@ -7,7 +7,7 @@ use Rattle.clause_words.proofs.terms.rest_of_term.Given as goal
 abbrev pub invariant-parts : goal.invariant-parts
 invariant-parts l = record {
   same : Goes l.sum l.minus l.rest (sum_of nothing (parts l.first l.word));
-  rising : IsRising l.sum;
+  rising : HasRisingNames l.sum;
 }
 
 abbrev pub decreases-parts : goal.decreases-parts
