@@ -109,6 +109,23 @@ impl Judge for Judgement<'_> {
     }
 }
 
+/// Whether the root is seen to be false in the model, at the values of its first constants for the root's first for-alls.
+pub(crate) fn judged(
+    alloc: Global,
+    root: &Core,
+    universals: u32,
+    model: &Model,
+    fuel: &mut Fuel,
+) -> Result<bool, Fault> {
+    let mut judgement = Judgement {
+        alloc,
+        root,
+        universals,
+        best: None,
+    };
+    judgement.is_false(model, fuel)
+}
+
 /// Judges the model, and then smaller ones.
 fn judge_all(
     alloc: Global,
