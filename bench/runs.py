@@ -10,8 +10,9 @@ SHIPPED = os.path.join(HOME, 'dist', 'princess-x86_64-linux')
 EXAMPLES = os.path.join(HOME, 'examples')
 USUAL = 50_000_000
 
-# What a run came to: its status, its standard output, the seconds that it took, and the peak of its memory in KiB.
-Run = collections.namedtuple('Run', 'status text seconds memory')
+# What a run came to: its status, its standard output, the seconds that it took, the peak of its memory in KiB, and its seconds of
+# processor time.
+Run = collections.namedtuple('Run', 'status text seconds memory processor')
 
 
 def program_of(words):
@@ -27,10 +28,11 @@ def run(program, words, out=None, folder=None, said=os.devnull):
         _, status, usage = os.wait4(child.pid, 0)
         seconds = time.monotonic() - start
         child.returncode = os.waitstatus_to_exitcode(status)
+        processor = usage.ru_utime + usage.ru_stime
         if out:
-            return Run(child.returncode, '', seconds, usage.ru_maxrss)
+            return Run(child.returncode, '', seconds, usage.ru_maxrss, processor)
         file.seek(0)
-        return Run(child.returncode, file.read().decode(), seconds, usage.ru_maxrss)
+        return Run(child.returncode, file.read().decode(), seconds, usage.ru_maxrss, processor)
 
 
 def prints_proof(program, words, out):

@@ -4,7 +4,7 @@
 use crate::closures::Closure;
 use cdcl_forms::Vocabulary;
 use cdcl_fuel::{Fault, Fuel, at, near, sub};
-use cdcl_matching::{Items, Step, Trigger};
+use cdcl_matching::{Items, Join, Matches, Plan, Step, Symbol, Trigger};
 use cdcl_models::{Decider, Evaluator, Model, Outside, Purifier, Solution};
 use std::alloc::Global;
 
@@ -25,6 +25,9 @@ const POINT: Cost = Cost {
     room: 40_000,
     steps: 5_000,
 };
+
+/// How many rows of values are looked at, at which the guards of a formula are rows.
+const MOST_GUARDED: usize = 20_000;
 
 /// Whether an assumption holds in a model.
 #[derive(Drop)]
@@ -49,12 +52,17 @@ pub(crate) struct Check<'a> {
 }
 
 impl<'a> Check<'a> {
+    /// The verdict, with the plan of the formula's guard if it has one.
     pub(crate) fn verdict<D: Decider>(
         &self,
+        plan: Option<&Plan>,
         decider: &mut D,
         fuel: &mut Fuel,
     ) -> Result<Verdict, Fault> {
         fuel.spend(50)?;
+        if let Some(verdict) = self.guarded(plan, decider, fuel)? {
+            return Ok(verdict);
+        }
         if self.closure.names == 1 {
             let points = self.points(fuel)?;
             if let Some(x) = self.failing_point(points.as_slice(), decider, fuel)? {
@@ -75,6 +83,71 @@ impl<'a> Check<'a> {
             }
         }
         self.solved(None, decider, fuel)
+    }
+
+    /// The verdict by the rows of the guard alone; None where that says nothing.
+    fn guarded<D: Decider>(
+        &self,
+        plan: Option<&Plan>,
+        decider: &mut D,
+        fuel: &mut Fuel,
+    ) -> Result<Option<Verdict>, Fault> {
+        let (Some(trigger), Some(plan)) = (&self.closure.guard, plan) else {
+            return Ok(None);
+        };
+        if !is_false_elsewhere(self.model, trigger) {
+            return Ok(None);
+        }
+        let mut matches = Matches::new(self.alloc, self.closure.names, MOST_GUARDED);
+        let mut share = fuel.share((fuel.left() / 16).max(20_000));
+        let outcome = Join::new(self.alloc, trigger, 0, plan, self.items, u32::MAX)?.run(
+            &mut matches,
+            &mut share,
+        );
+        fuel.give_back(share);
+        match outcome {
+            Ok(()) => {}
+            Err(Fault::Steps) => return Ok(None),
+            Err(fault) => return Err(fault),
+        }
+        if matches.is_full() {
+            return Ok(None);
+        }
+        self.at_matches(&matches, decider, fuel)
+    }
+
+    /// The verdict, where the body is true at no other values than those of the matches.
+    fn at_matches<D: Decider>(
+        &self,
+        matches: &Matches,
+        decider: &mut D,
+        fuel: &mut Fuel,
+    ) -> Result<Option<Verdict>, Fault> {
+        let mut evaluator = Evaluator::new(self.alloc, true);
+        for i in 0..matches.len() {
+            let values = matches.values(i)?;
+            let truth = evaluator.truth(
+                self.words,
+                self.model,
+                self.closure.body,
+                self.around.as_slice(),
+                values,
+                fuel,
+            )?;
+            let fails = match truth {
+                Some(truth) => truth,
+                None => match self.verdict_at(values, decider, fuel)? {
+                    Verdict::Holds => false,
+                    Verdict::Fails(_) => true,
+                    Verdict::Unsure => return Ok(None),
+                },
+            };
+            if fails {
+                let values = Vec::from_slice(self.alloc, values)?;
+                return Ok(Some(Verdict::Fails(values)));
+            }
+        }
+        Ok(Some(Verdict::Holds))
     }
 
     /// The verdict by elimination, where the name is outside of some values.
@@ -132,7 +205,7 @@ impl<'a> Check<'a> {
             )?;
             let fails = match truth {
                 Some(truth) => truth,
-                None => self.fails_at(*x, decider, fuel)?,
+                None => matches!(self.verdict_at(&[*x], decider, fuel)?, Verdict::Fails(_)),
             };
             if fails {
                 return Ok(Some(*x));
@@ -141,18 +214,17 @@ impl<'a> Check<'a> {
         Ok(None)
     }
 
-    /// Whether elimination shows that the body is true at a point.
-    fn fails_at<D: Decider>(
+    /// The verdict by elimination at values of all names.
+    fn verdict_at<D: Decider>(
         &self,
-        x: i128,
+        point: &[i128],
         decider: &mut D,
         fuel: &mut Fuel,
-    ) -> Result<bool, Fault> {
+    ) -> Result<Verdict, Fault> {
         let mut values = Vec::from_slice(self.alloc, self.around.as_slice())?;
-        values.push(x)?;
+        values.extend_from_slice(point)?;
         let mut purifier = Purifier::new(self.alloc, values.as_slice(), 0, None)?;
-        let verdict = self.solution(&mut purifier, 0, POINT, decider, fuel)?;
-        Ok(matches!(verdict, Verdict::Fails(_)))
+        self.solution(&mut purifier, 0, POINT, decider, fuel)
     }
 
     /// The values of the only name at which an argument is one of a table.
@@ -207,6 +279,20 @@ impl<'a> Check<'a> {
         }
         Ok(())
     }
+}
+
+/// Whether the predicates of a guard are false but at the rows of their tables.
+fn is_false_elsewhere(model: &Model, guard: &Trigger) -> bool {
+    guard.steps.iter().all(|step| match step {
+        Step::Match(pattern) => match pattern.symbol {
+            Symbol::Predicate(p) => match model.predicates.get(p as usize) {
+                Some(table) => !table.default,
+                None => true,
+            },
+            Symbol::Function(_) => false,
+        },
+        Step::Choose(_, _) => false,
+    })
 }
 
 /// Whether the verdict for values outside of the known ones, at which the body is not true, is one for all.

@@ -1,8 +1,9 @@
 // The for-some formulas that are false somewhere in a search: each is an assumption that holds for all integers.
 
+use crate::guards::guard;
 use cdcl_forms::{Definition, List, Node, Present, Term, Terms, Vocabulary, literal};
 use cdcl_fuel::{Fault, Fuel, at, near};
-use cdcl_matching::{Collector, Step, Trigger, Triggers};
+use cdcl_matching::{Collector, Items, Plan, Step, Trigger, Triggers};
 use std::alloc::Global;
 
 /// How many names a formula binds at once at most.
@@ -19,6 +20,8 @@ pub struct Closure {
     pub names: u32,
     pub generation: u32,
     pub triggers: Triggers,
+    /// Predicates that have to be true where the body is, which have all names together.
+    pub guard: Option<Trigger>,
     /// By bound name: terms at which a comparison changes its truth.
     pub bounds: Vec<Vec<Term>>,
     /// Whether instances at the bounds were made.
@@ -43,6 +46,7 @@ impl Closure {
         let mut collector = Collector::new(alloc, &words.terms, list, names)?;
         collector.collect(words, body, fuel)?;
         let triggers = Triggers::new(alloc, &collector, names)?;
+        let guard = guard(alloc, words, list, body, names, fuel)?;
         Ok(Some(Closure {
             variable,
             list,
@@ -50,6 +54,7 @@ impl Closure {
             names,
             generation: words.generation_of(variable as usize)?,
             triggers,
+            guard,
             bounds: std::mem::replace(&mut collector.bounds, Vec::new(alloc)),
             used_bounds: false,
         }))
@@ -72,6 +77,21 @@ impl Closure {
             out.push(terms.value(*t, values)?)?;
         }
         Ok(out)
+    }
+
+    /// Makes ready for the matching of the guard, if there is one.
+    pub(crate) fn guard_plan(
+        &self,
+        alloc: Global,
+        words: &Vocabulary,
+        items: &mut Items,
+        values: &[i128],
+        fuel: &mut Fuel,
+    ) -> Result<Option<Plan>, Fault> {
+        match &self.guard {
+            Some(trigger) => Ok(Some(Plan::new(alloc, trigger, items, words, values, fuel)?)),
+            None => Ok(None),
+        }
     }
 
     /// The trigger of the bounds alone, and 0 for each name.

@@ -5,6 +5,7 @@
 mod checking;
 mod closures;
 mod gathering;
+mod guards;
 mod naming;
 mod rounds;
 

@@ -293,7 +293,7 @@ impl Quantifiers {
     fn failures<D: Decider>(
         &self,
         words: &Vocabulary,
-        scene: &Scene<'_>,
+        scene: &mut Scene<'_>,
         all: bool,
         decider: &mut D,
         fuel: &mut Fuel,
@@ -303,6 +303,13 @@ impl Quantifiers {
         for i in scene.live.as_slice() {
             let closure = near(&self.closures, *i as usize)?;
             let around = closure.around(self.alloc, &words.terms, scene.present.values)?;
+            let plan = closure.guard_plan(
+                self.alloc,
+                words,
+                &mut scene.items,
+                scene.present.values,
+                fuel,
+            )?;
             let check = Check {
                 alloc: self.alloc,
                 words,
@@ -311,7 +318,7 @@ impl Quantifiers {
                 closure,
                 around,
             };
-            match check.verdict(decider, fuel)? {
+            match check.verdict(plan.as_ref(), decider, fuel)? {
                 Verdict::Holds => {}
                 Verdict::Unsure => is_sure = false,
                 Verdict::Fails(values) => fails.push((*i, values))?,

@@ -3,9 +3,11 @@
 
 mod advising;
 mod charging;
+mod guessing;
 mod modelling;
 mod shrinking;
 mod solving;
+mod squeezing;
 mod stopping;
 mod writing;
 

@@ -1,6 +1,7 @@
 // The model of a search with small numbers: each goes towards 0 while the root stays false.
 
 use crate::modelling::{Refutation, refutation_of};
+use crate::squeezing::squeezed;
 use base_budget::Purse;
 use cdcl_fuel::{Fault, Fuel};
 use cdcl_models::{Judge, Model, shrink};
@@ -9,6 +10,11 @@ use model_check::is_false;
 use model_formulas::Fault as Cut;
 use model_table::Model as Table;
 use std::alloc::Global;
+
+/// The greatest gaps between numbers that are tried, and how often each number is made smaller.
+const GAPS: [i128; 5] = [0, 1, 2, 4, 16];
+
+const PASSES: u32 = 2;
 
 /// What stands below a for-all.
 fn below(f: &Core) -> Option<&Core> {
@@ -109,7 +115,41 @@ impl Judge for Judgement<'_> {
     }
 }
 
-/// Judges the model, and then smaller ones.
+/// Whether the root is seen to be false in the model, at the values of its first constants for the root's first for-alls.
+pub(crate) fn judged(
+    alloc: Global,
+    root: &Core,
+    universals: u32,
+    model: &Model,
+    fuel: &mut Fuel,
+) -> Result<bool, Fault> {
+    let mut judgement = Judgement {
+        alloc,
+        root,
+        universals,
+        best: None,
+    };
+    judgement.is_false(model, fuel)
+}
+
+/// The model with smaller gaps between its numbers, the least with which it stays one; else as it is.
+fn with_gaps(
+    alloc: Global,
+    found: Model,
+    judgement: &mut Judgement<'_>,
+    fuel: &mut Fuel,
+) -> Result<Model, Fault> {
+    for gap in GAPS {
+        let smaller = squeezed(alloc, &found, gap, fuel)?;
+        if judgement.is_false(&smaller, fuel)? {
+            return Ok(smaller);
+        }
+    }
+    Ok(found)
+}
+
+/// Judges the model, and then smaller ones: first with smaller gaps, then number by number, twice, since one number may be in the way
+/// of another.
 fn judge_all(
     alloc: Global,
     found: Model,
@@ -117,8 +157,12 @@ fn judge_all(
     steps: u64,
 ) -> Result<(), Fault> {
     let mut fuel = Fuel::new(steps);
-    if judgement.is_false(&found, &mut fuel)? {
-        let _smaller = shrink(alloc, found, judgement, &mut fuel)?;
+    if !judgement.is_false(&found, &mut fuel)? {
+        return Ok(());
+    }
+    let mut found = with_gaps(alloc, found, judgement, &mut fuel)?;
+    for _ in 0..PASSES {
+        found = shrink(alloc, found, judgement, &mut fuel)?;
     }
     Ok(())
 }

@@ -52,13 +52,16 @@ fn searched(
     universals: u32,
     budget: u64,
 ) -> Result<Found, Memory> {
-    let mut search = match Search::new(alloc, prepared, Instances::new(alloc), budget) {
+    let advisor = Instances::new(alloc, root, universals, budget);
+    let mut search = match Search::new(alloc, prepared, advisor, budget) {
         Ok(search) => search,
         Err(fault) => return stopped(fault),
     };
-    match search.run() {
+    let outcome = search.run();
+    let advisor = search.into_advisor();
+    match outcome {
         Ok(Answer::Proof(proof)) => proved(alloc, root, prepared, steps, &proof),
-        Ok(Answer::Model) => refuted(alloc, root, search.into_advisor(), universals, budget / 20),
+        Ok(Answer::Model) => refuted(alloc, root, advisor, universals, budget / 20),
         Ok(Answer::GaveUp(cause)) => gave_up(cause),
         Err(fault) => stopped(fault),
     }
@@ -82,7 +85,7 @@ fn proved(
 fn refuted(
     alloc: Global,
     root: &Core,
-    advisor: Instances,
+    advisor: Instances<'_>,
     universals: u32,
     steps: u64,
 ) -> Result<Found, Memory> {
