@@ -20,11 +20,12 @@ def program_of(words):
     return os.path.abspath(words[0]) if words else SHIPPED
 
 
-def run(program, words, out=None, folder=None, said=os.devnull):
-    """One run of the program. Its output goes to the file `out`, where one is named, and is else the text; its errors go to `said`."""
+def run(program, words, out=None, folder=None, said=os.devnull, read=None):
+    """One run of the program. Its output goes to the file `out`, where one is named, and is else the text; its errors go to `said`.
+    Its standard input is the open file `read`, where there is one."""
     start = time.monotonic()
     with open(out, 'wb') if out else tempfile.TemporaryFile() as file, open(said, 'wb') as errors:
-        child = subprocess.Popen([program, *words], stdout=file, stderr=errors, cwd=folder)
+        child = subprocess.Popen([program, *words], stdin=read, stdout=file, stderr=errors, cwd=folder)
         _, status, usage = os.wait4(child.pid, 0)
         seconds = time.monotonic() - start
         child.returncode = os.waitstatus_to_exitcode(status)

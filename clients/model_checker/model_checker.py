@@ -213,7 +213,7 @@ def try_section(system, prover, section):
 
 
 def sentences(system, lines):
-    """What the prover's launcher says of a refusal, in words of the system's file; a prover without it says nothing."""
+    """What the prover says of a refusal, in words of the system's file."""
     for line in lines:
         text = re.sub(r'.*?: error: \w+: ', '', line).replace('\\universalConstants', 'variables')
         yield re.sub(r'\b(' + '|'.join(system.variables) + r')_1\b', r"\1'", text)

@@ -3,7 +3,7 @@ _princess() {
     local word=${COMP_WORDS[COMP_CWORD]} before=${COMP_WORDS[COMP_CWORD - 1]} command=${COMP_WORDS[1]}
     COMPREPLY=()
     if [ "$COMP_CWORD" = 1 ]; then
-        mapfile -t COMPREPLY < <(compgen -W 'solve check elim least smt drill help build install --help --version --quiet' -- "$word")
+        mapfile -t COMPREPLY < <(compgen -W 'solve check elim least smt drill help --help --version --quiet' -- "$word")
         return
     fi
     [ "$before" = --budget ] && return
@@ -15,7 +15,6 @@ _princess() {
         solve:-*) mapfile -t COMPREPLY < <(compgen -W '--budget --proof --short --calculus' -- "$word") ;;
         elim:-* | least:-* | smt:-* | drill:-*) mapfile -t COMPREPLY < <(compgen -W '--budget' -- "$word") ;;
         solve:* | elim:* | least:* | smt:* | check:*) compopt -o filenames 2>/dev/null; mapfile -t COMPREPLY < <(compgen -f -- "$word") ;;
-        install:*) compopt -o filenames 2>/dev/null; mapfile -t COMPREPLY < <(compgen -d -- "$word") ;;
     esac
 }
 complete -F _princess princess

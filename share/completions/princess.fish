@@ -1,5 +1,5 @@
 # Completions of princess for fish.
-set -l commands solve check elim least smt drill help build install
+set -l commands solve check elim least smt drill help
 complete -c princess -f
 complete -c princess -n "not __fish_seen_subcommand_from $commands" -a solve -d 'say whether a problem is valid'
 complete -c princess -n "not __fish_seen_subcommand_from $commands" -a check -d 'check a proof of a problem'
@@ -8,13 +8,10 @@ complete -c princess -n "not __fish_seen_subcommand_from $commands" -a least -d 
 complete -c princess -n "not __fish_seen_subcommand_from $commands" -a smt -d 'answer a script of SMT-LIB'
 complete -c princess -n "not __fish_seen_subcommand_from $commands" -a drill -d 'answer a made problem'
 complete -c princess -n "not __fish_seen_subcommand_from $commands" -a help -d 'print a summary'
-complete -c princess -n "not __fish_seen_subcommand_from $commands" -a build -d 'build the program of these sources'
-complete -c princess -n "not __fish_seen_subcommand_from $commands" -a install -d 'put all below a folder'
 complete -c princess -n "not __fish_seen_subcommand_from $commands" -l quiet -d 'say nothing on standard error'
-complete -c princess -n "not __fish_seen_subcommand_from $commands" -l version -d 'print kit, sums and commit'
+complete -c princess -n "not __fish_seen_subcommand_from $commands" -l version -d 'print the version'
 complete -c princess -n "not __fish_seen_subcommand_from $commands" -l help -s h -d 'print a summary'
 complete -c princess -n '__fish_seen_subcommand_from solve elim least smt drill' -l budget -x -d 'steps that may be charged'
 complete -c princess -n '__fish_seen_subcommand_from solve' -l proof -d 'print a proof'
 complete -c princess -n '__fish_seen_subcommand_from solve' -l short -d 'print a proof in the second format'
 complete -c princess -n '__fish_seen_subcommand_from solve check elim least smt' -F
-complete -c princess -n '__fish_seen_subcommand_from install' -a '(__fish_complete_directories)'

@@ -1,3 +1,10 @@
+// What the program says of itself.
+
+/// What `princess --version` prints.
+pub(crate) const VERSION: &str = "version: 0.9.0\n";
+
+/// What `princess --help` prints.
+pub(crate) const HELP: &str = "\
 usage: princess solve FILE [--budget N] [--proof | --short] [--calculus]
                                                              whether the problem of a file is valid
        princess check FILE PROOF                             whether a text proves something of the problem
@@ -5,14 +12,12 @@ usage: princess solve FILE [--budget N] [--proof | --short] [--calculus]
        princess least FILE TERM [--budget N]                 the least value of a term over all solutions
        princess smt FILE [--budget N]                        a script of SMT-LIB: sat, unsat or unknown for each check-sat
        princess drill COUNT [--budget N]                     answers a made problem of COUNT parts, 1 to 1,000
-       princess help | --help | -h | --version               this text; version, kit, sums and commit
+       princess help | --help | -h | --version               this text; the version
        princess COMMAND --help                               this text
-       princess build                                        builds the program of changed sources (needs rt)
-       princess install PREFIX                               puts all that runs, and the documents, below PREFIX
-       princess --quiet ..                                   nothing on standard error beside failures of its own
+       princess --quiet ..                                   nothing on standard error
 
-The first six are the program's own words; the others are words of this launcher. N is from 1 to 1,000,000,000,
-and 50,000,000 where none is given. PROOF may be the whole output of `solve --proof` or `solve --short`.
+N is from 1 to 1,000,000,000, and 50,000,000 where none is given. PROOF may be the whole output of `solve --proof` or
+`solve --short`. The word - as FILE or PROOF is the standard input; ./- is a file of that name.
 --calculus asks for the canonical run alone, without the clause search that takes over where that run is long.
 
 Status  Standard output                      Meaning
@@ -31,9 +36,9 @@ Status  Standard output                      Meaning
 6, 7    nothing; a part                      a file could not be read; standard output failed
 8, 10   nothing                              memory was wanting; the words could not be read
 9       refused: file too long               a problem has at most 1 MiB, a proof 64 MiB
-64, 69, 70                                   the launcher could not run the program; it says why
 
 Status 0 alone does not say that a problem is valid. A script that wants that compares the line:
-    [ "$(princess solve FILE)" = VALID ]        no line behind it: no existential constants, no interpolants
-    [ "$(princess check FILE PROOF | head -n 1)" = "CHECKED VALID" ]
+    [ \"$(princess solve FILE)\" = VALID ]        no line behind it: no existential constants, no interpolants
+    [ \"$(princess check FILE PROOF | head -n 1)\" = \"CHECKED VALID\" ]
 PRINCESS_QUIET=1 in the environment is the same as --quiet.
+";

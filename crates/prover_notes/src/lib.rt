@@ -1,0 +1,16 @@
+// Notes of a run on standard error: a source and a sink that keep what a note needs of what goes through them, and the notes that
+// are put once the answer is made. A note can change neither the answer nor the status: they are there before it.
+#![tactic(auto)]
+
+mod files;
+mod front;
+mod kept_sink;
+mod kept_source;
+mod put;
+mod texts;
+
+pub use files::{NamedFiles, SystemFiles};
+pub use job_messages::Unread;
+pub use kept_sink::KeptSink;
+pub use kept_source::KeptSource;
+pub use put::{put_notes, put_unread_words};
