@@ -3,7 +3,7 @@
 // $ ./princess solve examples/sort_pass.pri
 // INVALID
 // counterexample:
-// a(0) = 225
-// a(1) = 226
+// a(0) = 1
+// a(1) = 1
 \functions { int a(int); }
 \problem { \min(a(0), a(1)) <= \min(\max(a(0), a(1)), a(2)) }

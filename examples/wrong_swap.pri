@@ -1,10 +1,9 @@
-// A wrong claim about a swap of two elements, at three different places. That the places differ makes the search short: it takes
-// 0.9 million steps.
+// A wrong claim about a swap of two elements, at three different places.
 // $ ./princess solve examples/wrong_swap.pri
 // INVALID
 // counterexample:
-// i = -1
-// j = 1
+// i = 1
+// j = -1
 // k = 0
 // a(0) = 1
 // b(0) = 1
