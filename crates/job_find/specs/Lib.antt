@@ -1,0 +1,4 @@
+pub mod Found
+pub mod Sought
+pub mod Meaning
+pub mod Causes
