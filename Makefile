@@ -11,7 +11,7 @@ PREFIX = /usr/local
 DESTDIR =
 SHIPPED = dist/princess-x86_64-linux
 SHARE = $(DESTDIR)$(PREFIX)/share
-PAGES = $(notdir $(wildcard docs/*.md))
+PAGES = $(notdir $(wildcard docs/*.md docs/*.svg))
 
 .PHONY: all build install uninstall test check
 

@@ -12,7 +12,7 @@ _princess() {
     esac
     [ "$command" = --quiet ] && command=${COMP_WORDS[2]}
     case $command:$word in
-        solve:-*) mapfile -t COMPREPLY < <(compgen -W '--budget --proof --short --calculus --counterexample' -- "$word") ;;
+        solve:-*) mapfile -t COMPREPLY < <(compgen -W '--budget --proof --short --calculus' -- "$word") ;;
         elim:-* | least:-* | smt:-* | drill:-*) mapfile -t COMPREPLY < <(compgen -W '--budget' -- "$word") ;;
         solve:* | elim:* | least:* | smt:* | check:*) compopt -o filenames 2>/dev/null; mapfile -t COMPREPLY < <(compgen -f -- "$word") ;;
     esac

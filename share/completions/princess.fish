@@ -14,6 +14,4 @@ complete -c princess -n "not __fish_seen_subcommand_from $commands" -l help -s h
 complete -c princess -n '__fish_seen_subcommand_from solve elim least smt drill' -l budget -x -d 'steps that may be charged'
 complete -c princess -n '__fish_seen_subcommand_from solve' -l proof -d 'print a proof'
 complete -c princess -n '__fish_seen_subcommand_from solve' -l short -d 'print a proof in the second format'
-complete -c princess -n '__fish_seen_subcommand_from solve' -l calculus -d 'the canonical run alone'
-complete -c princess -n '__fish_seen_subcommand_from solve' -l counterexample -d 'values that refute a problem of arithmetic'
 complete -c princess -n '__fish_seen_subcommand_from solve check elim least smt' -F

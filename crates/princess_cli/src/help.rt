@@ -5,7 +5,7 @@ pub(crate) const VERSION: &str = "version: 0.9.0\n";
 
 /// What `princess --help` prints.
 pub(crate) const HELP: &str = "\
-usage: princess solve FILE [--budget N] [--proof | --short] [--calculus] [--counterexample]
+usage: princess solve FILE [--budget N] [--proof | --short] [--calculus]
                                                              whether the problem of a file is valid
        princess check FILE PROOF                             whether a text proves something of the problem
        princess elim FILE [--budget N]                       the exact constraint of a problem of arithmetic
@@ -19,7 +19,6 @@ usage: princess solve FILE [--budget N] [--proof | --short] [--calculus] [--coun
 N is from 1 to 1,000,000,000, and 50,000,000 where none is given. PROOF may be the whole output of `solve --proof` or
 `solve --short`. The word - as FILE or PROOF is the standard input; ./- is a file of that name.
 --calculus asks for the canonical run alone, without the clause search that takes over where that run is long.
---counterexample shows values that refute a problem of arithmetic too, where it has no existential constants.
 
 Status  Standard output                      Meaning
 0       VALID ..                             holds; with existential constants: at SOME values, those of the line constraint

@@ -1,4 +1,0 @@
-pub mod Found
-pub mod Sought
-pub mod Meaning
-pub mod Causes
