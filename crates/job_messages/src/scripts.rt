@@ -24,7 +24,6 @@ pub(crate) fn script_slip<'a>(script: Script<'a>, name: &[u8], k: usize) -> Slip
         },
         b"NonLinear" => Slip::new(say::NONLINEAR),
         b"Literal" => Slip::new(say::NUMERAL),
-        b"Deep" if script.outermost(k).is_none() => Slip::new(say::LEVELS),
         b"Deep" => Slip::new(say::DEEP),
         b"Many" => Slip::new(say::MANY),
         _ => Slip::new(say::LARGE),
@@ -82,7 +81,7 @@ fn end_slip<'a>(script: Script<'a>) -> Slip<'a> {
 }
 
 /// The commands that are read.
-pub(crate) const READ: [&str; 14] = [
+pub(crate) const READ: [&str; 9] = [
     "set-logic",
     "set-info",
     "set-option",
@@ -91,11 +90,6 @@ pub(crate) const READ: [&str; 14] = [
     "define-fun",
     "assert",
     "check-sat",
-    "check-sat-assuming",
-    "push",
-    "pop",
-    "reset",
-    "reset-assertions",
     "exit",
 ];
 
@@ -215,9 +209,7 @@ fn undeclared_slip<'a>(script: Script<'a>, k: usize) -> Slip<'a> {
         return near_slip(script, name);
     };
     let declared = script.text_behind(found, 2);
-    let sentence = if declared == name && found < k {
-        say::GONE
-    } else if declared == name {
+    let sentence = if declared == name {
         say::LATER
     } else {
         say::CASE

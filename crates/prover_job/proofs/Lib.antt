@@ -5,3 +5,6 @@ mod TypedInner
 mod Output
 mod Opening
 mod Accepting
+mod ValueLines
+mod Deciding
+mod Finding
