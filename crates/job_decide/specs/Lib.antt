@@ -1,4 +1,3 @@
-pub mod Shown
 pub mod Decided
 pub mod Meaning
 pub mod Causes

@@ -11,7 +11,6 @@ ghost use Rattle.std.specs.Prelude.{◌≤◌, ◌<◌, ◌^◌, false, length, 
 
 use crate::clauses::proved;
 use crate::models::refuted;
-use crate::shown::shown;
 use base_answers::{Output, ProofForm};
 use function_encoding::Encoded;
 use job_clauses::{Judged, search_judged};
@@ -23,22 +22,20 @@ use pri_typing::Problem;
 use std::alloc::Global;
 
 /// The answer of `solve` with a budget to a problem's file of these bytes, with the proof behind it in the form that is asked for, if
-/// one is. With `calculus` it is the answer of the canonical run alone. With `shows` an INVALID of a problem without existential constants
-/// shows values of the universal constants also where it has neither predicates nor functions.
+/// one is. With `calculus` it is the answer of the canonical run alone.
 pub fn answer(
     alloc: Global,
     bytes: &[u8],
     budget: u64,
     asked: Option<ProofForm>,
     calculus: bool,
-    shows: bool,
 ) -> Result<Output, Memory>
     requires bytes { length bytes.now < 2 ^ 32 }
     requires budget { budget ≤ most_budget }
-    ensures { IfOk result (λ output. IsDecidedAs calculus shows asked budget bytes.now (answer_of output)) }
+    ensures { IfOk result (λ output. IsDecidedAs calculus asked budget bytes.now (answer_of output)) }
 {
     match read_problem(alloc, bytes) {
-        Ok(problem) => problem_answer(alloc, &problem, budget, asked, calculus, shows),
+        Ok(problem) => problem_answer(alloc, &problem, budget, asked, calculus),
         Err(fault) => refuse(alloc, fault),
     }
 }
@@ -50,17 +47,16 @@ fn problem_answer(
     budget: u64,
     asked: Option<ProofForm>,
     calculus: bool,
-    shows: bool,
 ) -> Result<Output, Memory>
     requires well_formed { IsWellFormed problem.now }
     requires distinct { HasDistinctNames problem.now }
     requires identifiers { HasIdentifiers problem.now }
     requires cuts { IsCuttable problem.now }
     requires budget { budget ≤ most_budget }
-    ensures { IfOk result (λ output. AnswersEncoded (AnswersDecided calculus shows asked budget) problem.now (answer_of output)) }
+    ensures { IfOk result (λ output. AnswersEncoded (AnswersDecided calculus asked budget) problem.now (answer_of output)) }
 {
     match encode_problem(alloc, problem) {
-        Ok(encoded) => encoded_answer(alloc, problem, &encoded, budget, asked, calculus, shows),
+        Ok(encoded) => encoded_answer(alloc, problem, &encoded, budget, asked, calculus),
         Err(refusal) => refuse_encoding(alloc, refusal),
     }
 }
@@ -74,7 +70,6 @@ fn encoded_answer(
     budget: u64,
     asked: Option<ProofForm>,
     calculus: bool,
-    shows: bool,
 ) -> Result<Output, Memory>
     requires well_formed { IsWellFormed problem.now }
     requires distinct { HasDistinctNames problem.now }
@@ -82,15 +77,14 @@ fn encoded_answer(
     requires cuts { IsCuttable problem.now }
     requires encoded { IsEncoded problem.now encoded.now }
     requires budget { budget ≤ most_budget }
-    ensures { IfOk result (λ output. AnswersDecided calculus shows asked budget problem.now (answer_of output)) }
+    ensures { IfOk result (λ output. AnswersDecided calculus asked budget problem.now (answer_of output)) }
 {
     if calculus || !problem.existentials.is_empty() {
-        let output = run_answer(alloc, problem, encoded, budget, asked)?;
-        return shown(alloc, problem, output, budget, asked, shows);
+        return run_answer(alloc, problem, encoded, budget, asked);
     }
     match run_within(alloc, problem, encoded, first_part(budget), budget, asked)? {
-        Course::Told(output) => shown(alloc, problem, output, budget, asked, shows),
-        Course::Cut(_) => by_clauses(alloc, problem, encoded, budget, asked, shows),
+        Course::Told(output) => Ok(output),
+        Course::Cut(_) => by_clauses(alloc, problem, encoded, budget, asked),
     }
 }
 
@@ -101,7 +95,6 @@ fn by_clauses(
     encoded: &Encoded,
     budget: u64,
     asked: Option<ProofForm>,
-    shows: bool,
 ) -> Result<Output, Memory>
     requires well_formed { IsWellFormed problem.now }
     requires distinct { HasDistinctNames problem.now }
@@ -110,7 +103,7 @@ fn by_clauses(
     requires encoded { IsEncoded problem.now encoded.now }
     requires early { IsCutEarly budget problem.now }
     requires budget { budget ≤ most_budget }
-    ensures { IfOk result (λ output. AnswersDecided false shows asked budget problem.now (answer_of output)) }
+    ensures { IfOk result (λ output. AnswersDecided false asked budget problem.now (answer_of output)) }
 {
     match search_judged(alloc, problem, encoded, budget)? {
         Judged::Proof(text) => proved(alloc, problem, encoded, text.as_slice(), budget, asked),
@@ -119,11 +112,7 @@ fn by_clauses(
             problem,
             universals.as_slice(),
             &model,
-            shows,
         ),
-        Judged::Nothing => {
-            let output = run_answer(alloc, problem, encoded, budget, asked)?;
-            shown(alloc, problem, output, budget, asked, shows)
-        }
+        Judged::Nothing => run_answer(alloc, problem, encoded, budget, asked),
     }
 }

@@ -6,7 +6,6 @@ mod clauses;
 mod deciding;
 mod laws;
 mod models;
-mod shown;
 
 pub use deciding::answer;
 pub use laws::{calculus_law, causes_law, meaning_law};

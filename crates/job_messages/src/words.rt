@@ -15,19 +15,12 @@ struct Seen {
     proof: bool,
     short: bool,
     calculus: bool,
-    counterexample: bool,
 }
 
 /// The commands, and the options of any of them.
-const COMMANDS: [&str; 7] = ["solve", "check", "elim", "find", "drill", "least", "smt"];
+const COMMANDS: [&str; 6] = ["solve", "check", "elim", "drill", "least", "smt"];
 
-const OPTIONS: [&str; 5] = [
-    "--budget",
-    "--proof",
-    "--short",
-    "--calculus",
-    "--counterexample",
-];
+const OPTIONS: [&str; 4] = ["--budget", "--proof", "--short", "--calculus"];
 
 /// What is wrong with words that name no job.
 pub(crate) fn words_slip<'a>(words: &'a [String]) -> Slip<'a> {
@@ -54,7 +47,6 @@ pub(crate) fn words_slip<'a>(words: &'a [String]) -> Slip<'a> {
         proof: false,
         short: false,
         calculus: false,
-        counterexample: false,
     };
     match options_slip(command, rest, &mut seen) {
         Some(slip) => slip,
@@ -143,13 +135,9 @@ fn option_fault(command: &[u8], name: &[u8], seen: &mut Seen) -> Option<OptionFa
     let is_solve = command == b"solve".as_slice();
     let was_seen = match name {
         b"--budget" if command != b"check".as_slice() => mem::replace(&mut seen.budget, true),
-        b"--proof" if is_solve || command == b"find".as_slice() => mem::replace(
-            &mut seen.proof,
-            true,
-        ),
+        b"--proof" if is_solve => mem::replace(&mut seen.proof, true),
         b"--short" if is_solve => mem::replace(&mut seen.short, true),
         b"--calculus" if is_solve => mem::replace(&mut seen.calculus, true),
-        b"--counterexample" if is_solve => mem::replace(&mut seen.counterexample, true),
         b"--quiet" => return Some(OptionFault::Quiet),
         _ if command == b"least".as_slice() => return Some(OptionFault::Dash),
         _ => return Some(OptionFault::Unknown),

@@ -7,8 +7,7 @@ ghost use Rattle.base_limits.specs.Limits.{most_count};
 ghost use Rattle.std.specs.Prelude.{◌≡◌, ◌∷◌, ◌&&◌, ℕ, List, map, codes, string_bytes, true, false, None, Some, IfOk, IfErr, MatchResult};
 
 use crate::commands::{
-    check_command, drill_command, elim_command, find_command, least_command, read, smt_command,
-    solve_command,
+    check_command, drill_command, elim_command, least_command, read, smt_command, solve_command,
 };
 use crate::jobs::{Job, WordsFault};
 use crate::numbers::number;
@@ -31,7 +30,6 @@ pub fn job(alloc: Global, words: &[String]) -> Result<Job, WordsFault>
     match command.as_str() {
         "solve" => solve_job(alloc, line),
         "elim" => elim_job(alloc, line),
-        "find" => find_job(alloc, line),
         "smt" => smt_job(alloc, line),
         "least" => least_job(alloc, line),
         "check" => check_job(alloc, line),
@@ -46,7 +44,7 @@ pub fn words_law()
     ensures { (words : List Text) (a : Task) (b : Task) → NamesJob words a → NamesJob words b → a ≡ b }
 {}
 
-// `solve FILE [--budget N] [--proof] [--short] [--calculus] [--counterexample]`, with one of the first two flags at most
+// `solve FILE [--budget N] [--proof] [--short] [--calculus]`, with one of the first two flags at most
 fn solve_job(alloc: Global, line: &[String]) -> Result<Job, WordsFault>
     ensures named { IfOk result (λ job. NamesJob (codes "solve" ∷ map string_bytes line.now) (task_of job)) }
     ensures refused { IfErr result (λ e. e ≡ WordsFault.Words → (task : Task) → NamesJob (codes "solve" ∷ map string_bytes line.now) task → ⊥) }
@@ -58,13 +56,11 @@ fn solve_job(alloc: Global, line: &[String]) -> Result<Job, WordsFault>
     let short = matches.get_flag("short");
     let asked = asked_form(whole, short)?;
     let calculus = matches.get_flag("calculus");
-    let shows = matches.get_flag("counterexample");
     Ok(Job::Solve {
         file,
         budget,
         asked,
         calculus,
-        shows,
     })
 }
 
@@ -77,22 +73,6 @@ fn elim_job(alloc: Global, line: &[String]) -> Result<Job, WordsFault>
     let file = text_in(alloc, &matches, "FILE")?;
     let budget = budget_in(&matches)?;
     Ok(Job::Elim { file, budget })
-}
-
-// `find FILE [--budget N] [--proof]`
-fn find_job(alloc: Global, line: &[String]) -> Result<Job, WordsFault>
-    ensures named { IfOk result (λ job. NamesJob (codes "find" ∷ map string_bytes line.now) (task_of job)) }
-    ensures refused { IfErr result (λ e. e ≡ WordsFault.Words → (task : Task) → NamesJob (codes "find" ∷ map string_bytes line.now) task → ⊥) }
-{
-    let matches = read(find_command(alloc)?, line)?;
-    let file = text_in(alloc, &matches, "FILE")?;
-    let budget = budget_in(&matches)?;
-    let proves = matches.get_flag("proof");
-    Ok(Job::Find {
-        file,
-        budget,
-        proves,
-    })
 }
 
 // `smt FILE [--budget N]`

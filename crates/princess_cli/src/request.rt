@@ -23,7 +23,7 @@ pub(crate) fn read_request<'a>(words: &'a [String]) -> Request<'a> {
     match first.as_str() {
         "help" | "--help" | "-h" => Request::Help,
         "version" | "--version" => Request::Version,
-        "solve" | "check" | "elim" | "find" | "least" | "smt" | "drill" if asks_for_help(rest) =>
+        "solve" | "check" | "elim" | "least" | "smt" | "drill" if asks_for_help(rest) =>
             Request::Help,
         _ => Request::Run { words, is_quiet },
     }

@@ -5,6 +5,3 @@ mod TypedInner
 mod Output
 mod Opening
 mod Accepting
-mod ValueLines
-mod Deciding
-mod Finding

@@ -1,3 +1,0 @@
-pub mod Denied
-pub mod Found
-pub mod Refutes
