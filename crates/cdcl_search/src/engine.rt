@@ -5,6 +5,8 @@ use crate::answer::{Answer, Cause};
 use crate::deciding;
 use crate::finish::Final;
 use crate::restart::{Limits, Restart};
+use crate::tally::Tally;
+use base_watch::{Event, Progress, Watch};
 use cdcl_forms::{TRUE, Vocabulary, negated};
 use cdcl_fuel::{Fault, Fuel};
 use cdcl_state::{Pending, State};
@@ -23,7 +25,13 @@ pub struct Search<Q> {
     pub finals: u64,
     /// How many instances were made.
     pub instances: u64,
+    decisions: u64,
+    budget: u64,
+    pub(crate) tally: Tally,
 }
+
+/// After how many rounds of the loop who watches is told how far the search is.
+const ROUNDS: u64 = 4096;
 
 /// What a round of the loop finds.
 enum Round {
@@ -45,6 +53,9 @@ impl<Q: Advisor + Drop> Search<Q> {
             limits: Limits::new(),
             finals: 0,
             instances: 0,
+            decisions: 0,
+            budget,
+            tally: Tally::new(alloc),
         })
     }
 
@@ -64,12 +75,30 @@ impl<Q: Advisor + Drop> Search<Q> {
         self.state.fuel.left()
     }
 
-    /// Searches until there is an answer, or a fault ends the search.
-    pub fn run(&mut self) -> Result<Answer, Fault> {
+    /// How far the search is.
+    pub fn progress(&self) -> Progress {
+        Progress {
+            steps: self.budget.saturating_sub(self.left()),
+            conflicts: self.conflicts(),
+            decisions: self.decisions,
+            instances: self.instances,
+        }
+    }
+
+    /// Tells of each quantifier that was instantiated.
+    pub fn tell_instances<X: Watch>(&self, watch: &mut X) {
+        self.tally.tell(&self.state.knowledge.words.tree, watch);
+    }
+
+    /// Searches until there is an answer, or a fault ends the search. Who watches is told now and then how far it is.
+    pub fn run<X: Watch>(&mut self, watch: &mut X) -> Result<Answer, Fault> {
         begin(&mut self.state)?;
         self.register_all()?;
-        for _ in 0..u64::MAX {
+        for round in 0..u64::MAX {
             self.state.fuel.spend(1)?;
+            if round % ROUNDS == 0 {
+                watch.tell(Event::Searched(self.progress()));
+            }
             match self.round()? {
                 Round::Again => {}
                 Round::Proved => return proof(&self.state),
@@ -85,10 +114,8 @@ impl<Q: Advisor + Drop> Search<Q> {
             return Ok(round);
         }
         self.limits.keep(&mut self.state)?;
-        if deciding::branch(&mut self.state)? {
-            return Ok(Round::Again);
-        }
-        if deciding::decide_next(&mut self.state)? {
+        if deciding::branch(&mut self.state)? || deciding::decide_next(&mut self.state)? {
+            self.decisions = self.decisions.saturating_add(1);
             return Ok(Round::Again);
         }
         self.state.fuel.spend(10)?;

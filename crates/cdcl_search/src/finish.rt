@@ -2,7 +2,7 @@
 
 use crate::advisor::{Advice, Advisor};
 use crate::engine::Search;
-use cdcl_forms::{Instance, Present};
+use cdcl_forms::{Definition, Instance, Present};
 use cdcl_fuel::{Fault, at};
 use cdcl_state::State;
 
@@ -46,7 +46,7 @@ impl<Q: Advisor + Drop> Search<Q> {
         let mut found: Vec<Instance> = Vec::new(self.state.alloc);
         let advice = self.advised(&mut found)?;
         for x in found.as_slice() {
-            self.instances = self.instances.saturating_add(1);
+            self.count(*x)?;
             self.state.instance(*x)?;
         }
         Ok(match advice {
@@ -54,6 +54,16 @@ impl<Q: Advisor + Drop> Search<Q> {
             Advice::Model => Final::Model,
             Advice::Stuck => Final::Stuck,
         })
+    }
+
+    /// Counts an instance, in all and of its quantifier.
+    fn count(&mut self, instance: Instance) -> Result<(), Fault> {
+        self.instances = self.instances.saturating_add(1);
+        let variable = instance.variable as usize;
+        match self.state.knowledge.words.definition(variable)? {
+            Definition::Closure(formula, _) => self.tally.add(formula),
+            _ => Ok(()),
+        }
     }
 
     /// What the advisor says of the present model.

@@ -9,6 +9,7 @@ mod deciding;
 mod engine;
 mod finish;
 mod restart;
+mod tally;
 
 pub use advisor::{Advice, Advisor};
 pub use answer::{Answer, Cause};

@@ -12,6 +12,7 @@ ghost use Rattle.itp_lines.specs.Runs.{IsSound, MakesMiddle, Runs, fault_of};
 
 use crate::proved::{Middle, Proved};
 use base_budget::Purse;
+use base_watch::Unwatched;
 use function_encoding::Encoded;
 use pred_interpolant::{MiddleFault, Obligations, obligations};
 use pri_typing::Problem;
@@ -38,7 +39,8 @@ fn proved(alloc: Global, encoded: Encoded, purse: &mut Purse) -> Result<Proved, 
     ensures work { Runs encoded purse.old result purse.new }
     ensures proved { IfOk result IsProved }
 {
-    match prove(alloc, &encoded.root, encoded.constants, purse)? {
+    let mut nobody = Unwatched;
+    match prove(alloc, &encoded.root, encoded.constants, purse, &mut nobody)? {
         Outcome::Valid { tree, .. } => Ok(Proved { encoded, tree }),
         Outcome::Unknown { why, .. } => Err(stopped(why)),
         Outcome::Invalid { .. } => unreachable!(),

@@ -6,6 +6,7 @@ ghost use Rattle.pri_typing.specs.WellFormed.{IsWellFormed};
 ghost use Rattle.std.specs.Prelude.{◌≡◌, [], true, IfOk};
 
 use base_budget::Purse;
+use base_watch::Watch;
 use cdcl_solver::{Found, search};
 use clause_file::{ClauseFault, check_clauses};
 use function_encoding::Encoded;
@@ -33,11 +34,12 @@ pub enum Judged {
 
 /// Searches a clause proof of the problem, which has no existential constants, or a model that refutes it, with this budget. A proof is
 /// checked as one in a file, and a model is evaluated, with this budget too. The one error is want of memory.
-pub fn search_judged(
+pub fn search_judged<X: Watch>(
     alloc: Global,
     problem: &Problem,
     encoded: &Encoded,
     budget: u64,
+    watch: &mut X,
 ) -> Result<Judged, Memory>
     requires well_formed { IsWellFormed problem.now }
     requires alone { problem.now.existentials ≡ [] }
@@ -50,6 +52,7 @@ pub fn search_judged(
         &encoded.root,
         universals,
         budget.saturating_mul(RATE),
+        watch,
     )? {
         Found::Proof(text) => proof(alloc, problem, encoded, text),
         Found::Model(model, universals) => refuted(

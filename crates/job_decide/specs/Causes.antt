@@ -1,9 +1,10 @@
 -- Where each answer of `solve` comes.
-use Rattle.std.specs.Prelude.{◌≡◌, ℕ, ℤ, Bool, false, List, [], Option, Some, None}
+use Rattle.std.specs.Prelude.{◌≡◌, ◌≢◌, ℕ, ℤ, Bool, false, List, [], Option, None}
 use Rattle.base_answers.specs.Answer.{Answer}
 use Rattle.base_answers.specs.declared.form.ProofForm.{ProofForm}
 use Rattle.job_clauses.specs.Judged.{IsClauseFile}
-use Rattle.job_parts.specs.Parts.{IsCutEarly}
+use Rattle.job_decide.specs.Decided.{IsLeftOpen}
+use Rattle.job_decide.specs.Shown.{AreShownLines}
 use Rattle.job_solve.specs.Causes.{SolveCauses, SolveDecides}
 use Rattle.job_solve.specs.Ground.{IsEnough}
 use Rattle.job_solve.specs.Proved.{extended}
@@ -19,24 +20,31 @@ pub record IsSolveCaused (budget : ℕ) (bytes : List ℕ) (answer : Answer) : T
   pub decides : SolveDecides budget bytes answer
   pub enough : IsEnough budget bytes
 
--- such an answer with the proof behind it, where that is asked for
-pub record IsSolveCausedAs (asked : Option ProofForm) (budget : ℕ) (bytes : List ℕ) (answer : Answer) : Type 0 where
+-- the lines behind an answer to these bytes: those of the problem that they pose, and none where the answer is not that it is invalid
+pub data IsShownSo (shows : Bool) (budget : ℕ) (bytes : List ℕ) (answer : Answer) (lines : List ℕ) : Type 0 where
+  by_problem : PosesOne bytes (λ p. Fits p × AreShownLines shows budget p answer lines) → IsShownSo shows budget bytes answer lines
+  elsewhere : answer.status ≢ 1 → lines ≡ [] → IsShownSo shows budget bytes answer lines
+
+-- such an answer with the values behind it that are shown, and then the proof, where these are asked for
+pub record IsSolveCausedAs (shows : Bool) (asked : Option ProofForm) (budget : ℕ) (bytes : List ℕ) (answer : Answer) : Type 0 where
   pub plain : Answer
+  pub lines : List ℕ
   pub part : List ℕ
-  pub whole : answer ≡ extended plain part
+  pub whole : answer ≡ extended (extended plain lines) part
+  pub shown : IsShownSo shows budget bytes plain lines
   pub none : asked ≡ None → part ≡ []
   pub caused : IsSolveCaused budget bytes plain
 
--- the bytes pose a problem whose encoding fits, whose canonical run is cut early, and of which there is a clause proof
-abbrev pub IsProvedEarly : ℕ → List ℕ → Type 0
-IsProvedEarly budget bytes = PosesOne bytes (λ p. Fits p × IsCutEarly budget p × ((file : List ℕ) × IsClauseFile p file))
+-- the bytes pose a problem whose encoding fits, which the canonical run leaves open, and of which there is a clause proof
+abbrev pub IsProvedByClauses : ℕ → List ℕ → Type 0
+IsProvedByClauses budget bytes = PosesOne bytes (λ p. Fits p × IsLeftOpen budget p × ((file : List ℕ) × IsClauseFile p file))
 
--- the bytes pose a problem whose encoding fits, whose canonical run is cut early, and of which there is a counterexample by a model
-abbrev pub IsRefutedEarly : ℕ → List ℕ → Type 0
-IsRefutedEarly budget bytes = PosesOne bytes (λ p. Fits p × IsCutEarly budget p × ((m : Model) × (us : List ℤ) × IsModelCounterexample p [] m us))
+-- the bytes pose a problem whose encoding fits, which the canonical run leaves open, and of which there is a counterexample by a model
+abbrev pub IsRefutedByModel : ℕ → List ℕ → Type 0
+IsRefutedByModel budget bytes = PosesOne bytes (λ p. Fits p × IsLeftOpen budget p × ((m : Model) × (us : List ℤ) × IsModelCounterexample p [] m us))
 
--- the answer is that of the canonical run; or, not by the calculus alone, it is valid or invalid where that run is cut early
-pub data IsCausedAs (calculus : Bool) (asked : Option ProofForm) (budget : ℕ) (bytes : List ℕ) (answer : Answer) : Type 0 where
-  canonical : IsSolveCausedAs asked budget bytes answer → IsCausedAs calculus asked budget bytes answer
-  proved : calculus ≡ false → answer.status ≡ 0 → IsProvedEarly budget bytes → IsCausedAs calculus asked budget bytes answer
-  refuted : calculus ≡ false → answer.status ≡ 1 → IsRefutedEarly budget bytes → IsCausedAs calculus asked budget bytes answer
+-- the answer is that of the canonical run; or, not by the calculus alone, it is valid or invalid where that run leaves the problem open
+pub data IsCausedAs (calculus shows : Bool) (asked : Option ProofForm) (budget : ℕ) (bytes : List ℕ) (answer : Answer) : Type 0 where
+  canonical : IsSolveCausedAs shows asked budget bytes answer → IsCausedAs calculus shows asked budget bytes answer
+  proved : calculus ≡ false → answer.status ≡ 0 → IsProvedByClauses budget bytes → IsCausedAs calculus shows asked budget bytes answer
+  refuted : calculus ≡ false → answer.status ≡ 1 → IsRefutedByModel budget bytes → IsCausedAs calculus shows asked budget bytes answer

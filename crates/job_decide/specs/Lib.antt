@@ -1,3 +1,4 @@
+pub mod Shown
 pub mod Decided
 pub mod Meaning
 pub mod Causes

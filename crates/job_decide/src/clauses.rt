@@ -6,8 +6,7 @@ ghost use Rattle.pri_typing.specs.WellFormed.{HasDistinctNames, HasIdentifiers, 
 ghost use Rattle.pri_problem.specs.Encoded.{IsEncoded};
 ghost use Rattle.pri_problem.specs.Cuttable.{IsCuttable};
 ghost use Rattle.job_clauses.specs.Judged.{IsClauseFile};
-ghost use Rattle.job_decide.specs.Decided.{AnswersProved, clause_part};
-ghost use Rattle.job_parts.specs.Parts.{IsCutEarly};
+ghost use Rattle.job_decide.specs.Decided.{AnswersProved, IsLeftOpen, clause_part};
 ghost use Rattle.job_solve.specs.Proved.{extended};
 ghost use Rattle.std.specs.Prelude.{◌≡◌, ◌≤◌, IfOk};
 
@@ -34,7 +33,7 @@ pub fn proved(
     requires identifiers { HasIdentifiers problem.now }
     requires cuts { IsCuttable problem.now }
     requires encoded { IsEncoded problem.now encoded.now }
-    requires early { IsCutEarly budget problem.now }
+    requires early { IsLeftOpen budget problem.now }
     requires proof { IsClauseFile problem.now text.now }
     requires budget { budget ≤ most_budget }
     ensures { IfOk result (λ output. AnswersProved asked budget problem.now (answer_of output)) }

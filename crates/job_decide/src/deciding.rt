@@ -5,13 +5,16 @@ ghost use Rattle.base_limits.specs.Limits.{most_budget};
 ghost use Rattle.pri_typing.specs.WellFormed.{HasDistinctNames, HasIdentifiers, IsWellFormed};
 ghost use Rattle.pri_problem.specs.Encoded.{AnswersEncoded, IsEncoded};
 ghost use Rattle.pri_problem.specs.Cuttable.{IsCuttable};
-ghost use Rattle.job_decide.specs.Decided.{AnswersDecided, IsDecidedAs};
-ghost use Rattle.job_parts.specs.Parts.{IsCutEarly};
-ghost use Rattle.std.specs.Prelude.{◌≤◌, ◌<◌, ◌^◌, false, length, IfOk};
+ghost use Rattle.job_decide.specs.Decided.{AnswersDecided, IsDecidedAs, IsLeftOpen};
+ghost use Rattle.job_solve.specs.Proved.{AnswersRunAs};
+ghost use Rattle.std.specs.Prelude.{◌≡◌, ◌≤◌, ◌<◌, ◌^◌, false, length, [], IfOk};
 
 use crate::clauses::proved;
 use crate::models::refuted;
+use crate::shown::shown;
+use base_answers::status::UNKNOWN;
 use base_answers::{Output, ProofForm};
+use base_watch::Watch;
 use function_encoding::Encoded;
 use job_clauses::{Judged, search_judged};
 use job_parts::first_part;
@@ -22,54 +25,63 @@ use pri_typing::Problem;
 use std::alloc::Global;
 
 /// The answer of `solve` with a budget to a problem's file of these bytes, with the proof behind it in the form that is asked for, if
-/// one is. With `calculus` it is the answer of the canonical run alone.
-pub fn answer(
+/// one is. With `calculus` it is the answer of the canonical run alone. With `shows` an INVALID of a problem without existential constants
+/// shows values of the universal constants also where it has neither predicates nor functions.
+pub fn answer<X: Watch>(
     alloc: Global,
     bytes: &[u8],
     budget: u64,
     asked: Option<ProofForm>,
     calculus: bool,
+    shows: bool,
+    watch: &mut X,
 ) -> Result<Output, Memory>
     requires bytes { length bytes.now < 2 ^ 32 }
     requires budget { budget ≤ most_budget }
-    ensures { IfOk result (λ output. IsDecidedAs calculus asked budget bytes.now (answer_of output)) }
+    ensures { IfOk result (λ output. IsDecidedAs calculus shows asked budget bytes.now (answer_of output)) }
 {
     match read_problem(alloc, bytes) {
-        Ok(problem) => problem_answer(alloc, &problem, budget, asked, calculus),
+        Ok(problem) => problem_answer(alloc, &problem, budget, asked, calculus, shows, watch),
         Err(fault) => refuse(alloc, fault),
     }
 }
 
 // The answer to a problem.
-fn problem_answer(
+fn problem_answer<X: Watch>(
     alloc: Global,
     problem: &Problem,
     budget: u64,
     asked: Option<ProofForm>,
     calculus: bool,
+    shows: bool,
+    watch: &mut X,
 ) -> Result<Output, Memory>
     requires well_formed { IsWellFormed problem.now }
     requires distinct { HasDistinctNames problem.now }
     requires identifiers { HasIdentifiers problem.now }
     requires cuts { IsCuttable problem.now }
     requires budget { budget ≤ most_budget }
-    ensures { IfOk result (λ output. AnswersEncoded (AnswersDecided calculus asked budget) problem.now (answer_of output)) }
+    ensures { IfOk result (λ output. AnswersEncoded (AnswersDecided calculus shows asked budget) problem.now (answer_of output)) }
 {
     match encode_problem(alloc, problem) {
-        Ok(encoded) => encoded_answer(alloc, problem, &encoded, budget, asked, calculus),
+        Ok(encoded) => encoded_answer(
+            alloc, problem, &encoded, budget, asked, calculus, shows, watch,
+        ),
         Err(refusal) => refuse_encoding(alloc, refusal),
     }
 }
 
-// The answer to an encoded problem: that of the canonical run, where it ends within the first part of the budget, where the problem
-// has existential constants, and where the calculus alone is asked for.
-fn encoded_answer(
+// The answer to an encoded problem: that of the canonical run, where it ends with an answer within the first part of the budget, where
+// the problem has existential constants, and where the calculus alone is asked for.
+fn encoded_answer<X: Watch>(
     alloc: Global,
     problem: &Problem,
     encoded: &Encoded,
     budget: u64,
     asked: Option<ProofForm>,
     calculus: bool,
+    shows: bool,
+    watch: &mut X,
 ) -> Result<Output, Memory>
     requires well_formed { IsWellFormed problem.now }
     requires distinct { HasDistinctNames problem.now }
@@ -77,42 +89,85 @@ fn encoded_answer(
     requires cuts { IsCuttable problem.now }
     requires encoded { IsEncoded problem.now encoded.now }
     requires budget { budget ≤ most_budget }
-    ensures { IfOk result (λ output. AnswersDecided calculus asked budget problem.now (answer_of output)) }
+    ensures { IfOk result (λ output. AnswersDecided calculus shows asked budget problem.now (answer_of output)) }
 {
     if calculus || !problem.existentials.is_empty() {
-        return run_answer(alloc, problem, encoded, budget, asked);
+        let output = run_answer(alloc, problem, encoded, budget, asked, watch)?;
+        return shown(alloc, problem, output, budget, asked, shows);
     }
-    match run_within(alloc, problem, encoded, first_part(budget), budget, asked)? {
-        Course::Told(output) => Ok(output),
-        Course::Cut(_) => by_clauses(alloc, problem, encoded, budget, asked),
+    match run_within(
+        alloc,
+        problem,
+        encoded,
+        first_part(budget),
+        budget,
+        asked,
+        watch,
+    )? {
+        Course::Told(output) => told(alloc, problem, encoded, output, budget, asked, shows, watch),
+        Course::Cut(_) => by_clauses(alloc, problem, encoded, budget, asked, shows, watch),
     }
 }
 
+// The answer of the canonical run, with the values that are shown; where it says that nothing is known, that by what the clause search
+// finds.
+fn told<X: Watch>(
+    alloc: Global,
+    problem: &Problem,
+    encoded: &Encoded,
+    output: Output,
+    budget: u64,
+    asked: Option<ProofForm>,
+    shows: bool,
+    watch: &mut X,
+) -> Result<Output, Memory>
+    requires well_formed { IsWellFormed problem.now }
+    requires distinct { HasDistinctNames problem.now }
+    requires identifiers { HasIdentifiers problem.now }
+    requires cuts { IsCuttable problem.now }
+    requires encoded { IsEncoded problem.now encoded.now }
+    requires alone { problem.now.existentials ≡ [] }
+    requires run { AnswersRunAs asked budget problem.now (answer_of output) }
+    requires budget { budget ≤ most_budget }
+    ensures { IfOk result (λ output. AnswersDecided false shows asked budget problem.now (answer_of output)) }
+{
+    if output.status == UNKNOWN {
+        return by_clauses(alloc, problem, encoded, budget, asked, shows, watch);
+    }
+    shown(alloc, problem, output, budget, asked, shows)
+}
+
 // The answer by what the clause search finds, judged; else that of the canonical run with the whole budget.
-fn by_clauses(
+fn by_clauses<X: Watch>(
     alloc: Global,
     problem: &Problem,
     encoded: &Encoded,
     budget: u64,
     asked: Option<ProofForm>,
+    shows: bool,
+    watch: &mut X,
 ) -> Result<Output, Memory>
     requires well_formed { IsWellFormed problem.now }
     requires distinct { HasDistinctNames problem.now }
     requires identifiers { HasIdentifiers problem.now }
     requires cuts { IsCuttable problem.now }
     requires encoded { IsEncoded problem.now encoded.now }
-    requires early { IsCutEarly budget problem.now }
+    requires early { IsLeftOpen budget problem.now }
     requires budget { budget ≤ most_budget }
-    ensures { IfOk result (λ output. AnswersDecided false asked budget problem.now (answer_of output)) }
+    ensures { IfOk result (λ output. AnswersDecided false shows asked budget problem.now (answer_of output)) }
 {
-    match search_judged(alloc, problem, encoded, budget)? {
+    match search_judged(alloc, problem, encoded, budget, watch)? {
         Judged::Proof(text) => proved(alloc, problem, encoded, text.as_slice(), budget, asked),
         Judged::Refuted { model, universals } => refuted(
             alloc,
             problem,
             universals.as_slice(),
             &model,
+            shows,
         ),
-        Judged::Nothing => run_answer(alloc, problem, encoded, budget, asked),
+        Judged::Nothing => {
+            let output = run_answer(alloc, problem, encoded, budget, asked, watch)?;
+            shown(alloc, problem, output, budget, asked, shows)
+        }
     }
 }

@@ -1,4 +1,4 @@
-// What `solve` answers to a problem's file: by the canonical run, and where that is cut early, by the clause search, whose proofs and
+// What `solve` answers to a problem's file: by the canonical run, and where that leaves the problem open, by the clause search, whose proofs and
 // models are judged before anything is told.
 #![tactic(auto)]
 
@@ -6,6 +6,7 @@ mod clauses;
 mod deciding;
 mod laws;
 mod models;
+mod shown;
 
 pub use deciding::answer;
 pub use laws::{calculus_law, causes_law, meaning_law};

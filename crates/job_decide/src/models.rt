@@ -13,17 +13,18 @@ use pri_typing::Problem;
 use std::alloc::Global;
 
 /// The answer that the problem is refuted by this model at these values of its universal constants: one word, where the problem has
-/// neither predicates nor functions.
+/// neither predicates nor functions, and the values are not asked for.
 pub fn refuted(
     alloc: Global,
     problem: &Problem,
     universals: &[i128],
     model: &Model,
+    shows: bool,
 ) -> Result<Output, Memory>
     requires { length universals.now ≡ length problem.now.universals }
-    ensures { IfOk result (λ output. answer_of output ≡ model_answer problem.now universals.now model.now) }
+    ensures { IfOk result (λ output. answer_of output ≡ model_answer shows problem.now universals.now model.now) }
 {
-    if problem.first_application.is_none() {
+    if !shows && problem.first_application.is_none() {
         return say(alloc, INVALID, b"INVALID");
     }
     let lines = print_model(alloc, problem, universals, model)?;

@@ -10,6 +10,7 @@ ghost use Rattle.std.specs.Prelude.{◌≡◌, ◌<◌, ◌^◌, length, IfOk, N
 use base_answers::status::VALID;
 use base_answers::{Output, refused_at, unknown};
 use base_budget::{ElimFault, Purse};
+use base_watch::{Event, Stage, Watch};
 use function_encoding::Encoded;
 use linear_term::Memory;
 use pri_lines::constraint_line;
@@ -19,19 +20,29 @@ use quant_elim::eliminate;
 use std::alloc::Global;
 
 /// The answer of `elim` with a budget to a problem's file of these bytes.
-pub fn answer(alloc: Global, bytes: &[u8], budget: u64) -> Result<Output, Memory>
+pub fn answer<X: Watch>(
+    alloc: Global,
+    bytes: &[u8],
+    budget: u64,
+    watch: &mut X,
+) -> Result<Output, Memory>
     requires bytes { length bytes.now < 2 ^ 32 }
     requires budget { budget < 2 ^ 32 }
     ensures { IfOk result (λ output. IsEliminated budget bytes.now (answer_of output)) }
 {
     match read_problem(alloc, bytes) {
-        Ok(problem) => problem_answer(alloc, &problem, budget),
+        Ok(problem) => problem_answer(alloc, &problem, budget, watch),
         Err(fault) => refuse(alloc, fault),
     }
 }
 
 // The answer to a problem: it is refused at its first application.
-fn problem_answer(alloc: Global, problem: &Problem, budget: u64) -> Result<Output, Memory>
+fn problem_answer<X: Watch>(
+    alloc: Global,
+    problem: &Problem,
+    budget: u64,
+    watch: &mut X,
+) -> Result<Output, Memory>
     requires well_formed { IsWellFormed problem.now }
     requires distinct { HasDistinctNames problem.now }
     requires identifiers { HasIdentifiers problem.now }
@@ -41,12 +52,17 @@ fn problem_answer(alloc: Global, problem: &Problem, budget: u64) -> Result<Outpu
 {
     match problem.first_application {
         Some(at) => refused_at(alloc, b"Impure", at),
-        None => pure_answer(alloc, problem, budget),
+        None => pure_answer(alloc, problem, budget, watch),
     }
 }
 
 // The answer to a problem without applications.
-fn pure_answer(alloc: Global, problem: &Problem, budget: u64) -> Result<Output, Memory>
+fn pure_answer<X: Watch>(
+    alloc: Global,
+    problem: &Problem,
+    budget: u64,
+    watch: &mut X,
+) -> Result<Output, Memory>
     requires well_formed { IsWellFormed problem.now }
     requires distinct { HasDistinctNames problem.now }
     requires identifiers { HasIdentifiers problem.now }
@@ -55,17 +71,18 @@ fn pure_answer(alloc: Global, problem: &Problem, budget: u64) -> Result<Output, 
     ensures { IfOk result (λ output. AnswersEncoded (AnswersElimination budget) problem.now (answer_of output)) }
 {
     match encode_problem(alloc, problem) {
-        Ok(encoded) => elimination_answer(alloc, problem, &encoded, budget),
+        Ok(encoded) => elimination_answer(alloc, problem, &encoded, budget, watch),
         Err(refusal) => refuse_encoding(alloc, refusal),
     }
 }
 
 // The answer to an encoded problem: it tells how the elimination ends that has this budget.
-fn elimination_answer(
+fn elimination_answer<X: Watch>(
     alloc: Global,
     problem: &Problem,
     encoded: &Encoded,
     budget: u64,
+    watch: &mut X,
 ) -> Result<Output, Memory>
     requires well_formed { IsWellFormed problem.now }
     requires distinct { HasDistinctNames problem.now }
@@ -76,7 +93,12 @@ fn elimination_answer(
     ensures { IfOk result (λ output. AnswersElimination budget problem.now (answer_of output)) }
 {
     let mut purse = Purse::new(budget);
-    match eliminate(alloc, &encoded.root, encoded.constants, &mut purse) {
+    let eliminated = eliminate(alloc, &encoded.root, encoded.constants, &mut purse);
+    watch.tell(Event::Ends {
+        stage: Stage::Elimination,
+        steps: purse.spent(),
+    });
+    match eliminated {
         Ok((constraint, _log)) => {
             let text = constraint_line(alloc, problem, &constraint)?;
             Ok(Output {

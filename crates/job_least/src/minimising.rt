@@ -17,6 +17,7 @@ use crate::objective::objective;
 use crate::telling::told;
 use base_answers::{Output, refused, refused_at, unknown};
 use base_budget::{ElimFault, Purse, StepFault};
+use base_watch::{Event, Stage, Watch};
 use clause_set::Dnf;
 use form_typed::TypedTerm;
 use function_encoding::Encoded;
@@ -28,23 +29,30 @@ use quant_elim::eliminate;
 use std::alloc::Global;
 
 /// The answer of `least` with a budget to a problem's file of these bytes and this term.
-pub fn answer(alloc: Global, bytes: &[u8], term: &[u8], budget: u64) -> Result<Output, Memory>
+pub fn answer<X: Watch>(
+    alloc: Global,
+    bytes: &[u8],
+    term: &[u8],
+    budget: u64,
+    watch: &mut X,
+) -> Result<Output, Memory>
     requires bytes { length bytes.now < 2 ^ 32 }
     requires budget { budget < 2 ^ 32 }
     ensures { IfOk result (λ output. IsLeastAnswer term.now budget bytes.now (answer_of output)) }
 {
     match read_problem(alloc, bytes) {
-        Ok(problem) => problem_answer(alloc, &problem, term, budget),
+        Ok(problem) => problem_answer(alloc, &problem, term, budget, watch),
         Err(fault) => refuse(alloc, fault),
     }
 }
 
 // The answer to a problem: it is refused at its first application.
-fn problem_answer(
+fn problem_answer<X: Watch>(
     alloc: Global,
     problem: &Problem,
     term: &[u8],
     budget: u64,
+    watch: &mut X,
 ) -> Result<Output, Memory>
     requires well_formed { IsWellFormed problem.now }
     requires pure { problem.now.first_application ≡ None → IsPure problem.now }
@@ -53,29 +61,36 @@ fn problem_answer(
 {
     match problem.first_application {
         Some(at) => refused_at(alloc, b"Impure", at),
-        None => pure_answer(alloc, problem, term, budget),
+        None => pure_answer(alloc, problem, term, budget, watch),
     }
 }
 
 // The answer to a problem without applications: it is refused where the text is no term of its existential constants.
-fn pure_answer(alloc: Global, problem: &Problem, text: &[u8], budget: u64) -> Result<Output, Memory>
+fn pure_answer<X: Watch>(
+    alloc: Global,
+    problem: &Problem,
+    text: &[u8],
+    budget: u64,
+    watch: &mut X,
+) -> Result<Output, Memory>
     requires well_formed { IsWellFormed problem.now }
     requires pure { IsPure problem.now }
     requires budget { budget < 2 ^ 32 }
     ensures { IfOk result (λ output. AnswersObjective text.now budget problem.now (answer_of output)) }
 {
     match objective(alloc, problem, text)? {
-        Some(term) => objective_answer(alloc, problem, &term, budget),
+        Some(term) => objective_answer(alloc, problem, &term, budget, watch),
         None => refused(alloc, b"Objective"),
     }
 }
 
 // The answer to a problem and a term: the encoding comes first.
-fn objective_answer(
+fn objective_answer<X: Watch>(
     alloc: Global,
     problem: &Problem,
     term: &TypedTerm,
     budget: u64,
+    watch: &mut X,
 ) -> Result<Output, Memory>
     requires well_formed { IsWellFormed problem.now }
     requires pure { IsPure problem.now }
@@ -85,18 +100,19 @@ fn objective_answer(
     ensures { IfOk result (λ output. AnswersEncoded (AnswersLeast budget (expression term.now)) problem.now (answer_of output)) }
 {
     match encode_problem(alloc, problem) {
-        Ok(encoded) => encoded_answer(alloc, problem, &encoded, term, budget),
+        Ok(encoded) => encoded_answer(alloc, problem, &encoded, term, budget, watch),
         Err(refusal) => refuse_encoding(alloc, refusal),
     }
 }
 
 // The answer to an encoded problem and a term: next the term is computed.
-fn encoded_answer(
+fn encoded_answer<X: Watch>(
     alloc: Global,
     problem: &Problem,
     encoded: &Encoded,
     term: &TypedTerm,
     budget: u64,
+    watch: &mut X,
 ) -> Result<Output, Memory>
     requires well_formed { IsWellFormed problem.now }
     requires pure { IsPure problem.now }
@@ -107,7 +123,7 @@ fn encoded_answer(
     ensures { IfOk result (λ output. AnswersLeast budget (expression term.now) problem.now (answer_of output)) }
 {
     match linear_term(alloc, encoded.constants, term) {
-        Ok(t) => constraint_answer(alloc, problem, encoded, &t, budget),
+        Ok(t) => constraint_answer(alloc, problem, encoded, &t, budget, watch),
         Err(StepFault::Steps) => unknown(alloc, b"steps"),
         Err(StepFault::Overflow(_)) => unknown(alloc, b"overflow"),
         Err(StepFault::Memory) => Err(Memory),
@@ -115,12 +131,13 @@ fn encoded_answer(
 }
 
 // The answer to an encoded problem and a linear term: next comes the elimination.
-fn constraint_answer(
+fn constraint_answer<X: Watch>(
     alloc: Global,
     problem: &Problem,
     encoded: &Encoded,
     t: &Term,
     budget: u64,
+    watch: &mut X,
 ) -> Result<Output, Memory>
     requires well_formed { IsWellFormed problem.now }
     requires pure { IsPure problem.now }
@@ -130,19 +147,25 @@ fn constraint_answer(
     ensures { IfOk result (λ output. AnswersConstraint problem.now t.now (record { budget = budget; spent = 0 }) (answer_of output)) }
 {
     let mut purse = Purse::new(budget);
-    match eliminate(alloc, &encoded.root, encoded.constants, &mut purse) {
-        Ok((constraint, _log)) => minimum_answer(alloc, problem, &constraint, t, &mut purse),
+    let eliminated = eliminate(alloc, &encoded.root, encoded.constants, &mut purse);
+    watch.tell(Event::Ends {
+        stage: Stage::Elimination,
+        steps: purse.spent(),
+    });
+    match eliminated {
+        Ok((constraint, _log)) => minimum_answer(alloc, problem, &constraint, t, &mut purse, watch),
         Err(fault) => cut_answer(alloc, &fault),
     }
 }
 
 // The answer over a constraint: last comes the search for the least value, with what the elimination left in the purse.
-fn minimum_answer(
+fn minimum_answer<X: Watch>(
     alloc: Global,
     problem: &Problem,
     d: &Dnf,
     t: &Term,
     purse: &mut Purse,
+    watch: &mut X,
 ) -> Result<Output, Memory>
     requires well_formed { IsWellFormed problem.now }
     requires constraint { AreOver (length problem.now.existentials) d.now }
@@ -151,7 +174,12 @@ fn minimum_answer(
     ensures { IfOk result (λ output. AnswersMinimum problem.now t.now d.now purse.old (answer_of output)) }
 {
     let names = problem.existentials.len() as u32;
-    match least(alloc, d, names, t, purse) {
+    let found = least(alloc, d, names, t, purse);
+    watch.tell(Event::Ends {
+        stage: Stage::Least,
+        steps: purse.spent(),
+    });
+    match found {
         Ok(found) => told(alloc, problem, &found),
         Err(fault) => cut_answer(alloc, &fault),
     }

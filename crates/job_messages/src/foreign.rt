@@ -82,6 +82,32 @@ pub(crate) fn is_foreign_block(text: &[u8]) -> bool {
     )
 }
 
+/// Whether a text is the name of a block of assumptions elsewhere.
+pub(crate) fn is_assumption_block(text: &[u8]) -> bool {
+    is_among(
+        text,
+        &[
+            "\\assumptions",
+            "\\assume",
+            "\\premises",
+            "\\hypotheses",
+            "\\axioms",
+            "\\given",
+        ],
+    )
+}
+
+/// Whether a text is a quantifier in words.
+pub(crate) fn is_quantifier_word(text: &[u8]) -> bool {
+    is_among(
+        text,
+        &[
+            "all", "All", "ALL", "Forall", "FORALL", "some", "Some", "any", "Exists", "EXISTS",
+            "ex",
+        ],
+    )
+}
+
 /// Whether a text is the name of a block without its backslash.
 pub(crate) fn is_block_word(text: &[u8]) -> bool {
     is_among(

@@ -1,20 +1,21 @@
 // Which lines of the `\interpolant` blocks have no formula, and why.
 
+use crate::messages::{Messages, Severity, Subject};
 use crate::page::Page;
-use crate::places::{cut, put_mark, put_place};
+use crate::places::cut;
 use crate::problem::Problem;
 use crate::run_sentences as say;
-use crate::slip::{Hole, Slip, put_slip};
+use crate::slip::{Hole, Slip};
 use linear_term::Memory;
 use pri_tokens::Terminal;
 use std::alloc::Global;
 
 /// Puts a message for each line of an answer that is no interpolant, at the sign between the two sets that it belongs to.
-pub(crate) fn put_interpolants(
+pub(crate) fn put_interpolants<'x>(
     alloc: Global,
-    page: &mut Page,
-    name: &str,
-    text: &[u8],
+    messages: &mut Messages,
+    name: &'x str,
+    text: &'x [u8],
     answer: &[u8],
     budget: Hole,
 ) -> Result<(), Memory> {
@@ -26,14 +27,15 @@ pub(crate) fn put_interpolants(
         bytes: text,
         lexemes: lexemes.as_slice(),
     };
-    put_lines(page, &problem, name, answer, budget)
+    put_lines(alloc, messages, &problem, name, answer, budget)
 }
 
 /// Puts what is said of each interpolant of an answer that was not found.
-fn put_lines(
-    page: &mut Page,
-    problem: &Problem,
-    name: &str,
+fn put_lines<'x>(
+    alloc: Global,
+    messages: &mut Messages,
+    problem: &Problem<'x>,
+    name: &'x str,
     answer: &[u8],
     budget: Hole,
 ) -> Result<(), Memory> {
@@ -51,7 +53,12 @@ fn put_lines(
             let at = cut_from(problem, next, label.number > 1);
             next = at.saturating_add(1);
             if let Some(cause) = line.strip_prefix(b"interpolant unknown: ") {
-                put_missing(page, problem, at, &label, cause, budget)?;
+                let name = label.text(alloc)?;
+                let subject = subject_at(problem, at, label.name, name.bytes());
+                messages.put(
+                    &subject,
+                    &Slip::new(missing_sentence(cause)).with_name(budget),
+                )?;
             }
         }
         let Some(behind) = behind else {
@@ -68,6 +75,18 @@ struct Label<'a> {
     name: &'a str,
     number: u64,
     total: u64,
+}
+
+impl<'a> Label<'a> {
+    /// What the message is about.
+    fn text(&self, alloc: Global) -> Result<Page, Memory> {
+        let mut text = Page::new(alloc);
+        text.put(b"interpolant ")?;
+        text.put_number(self.number)?;
+        text.put(b" of ")?;
+        text.put_number(self.total)?;
+        Ok(text)
+    }
 }
 
 /// How many lines of an answer belong to interpolants.
@@ -101,39 +120,33 @@ fn cut_from(problem: &Problem, k: usize, is_inside: bool) -> usize {
     problem.len()
 }
 
-fn put_missing(
-    page: &mut Page,
-    problem: &Problem,
+/// What the message about the interpolant at a token is about; behind the last token there is no place.
+fn subject_at<'a, 'n>(
+    problem: &Problem<'a>,
     at: usize,
-    label: &Label,
-    cause: &[u8],
-    budget: Hole,
-) -> Result<(), Memory> {
-    let sentence = match cause {
+    file: &'a str,
+    name: &'n [u8],
+) -> Subject<'a, 'n> {
+    Subject {
+        file,
+        severity: Severity::Note,
+        name,
+        spot: if at < problem.len() {
+            Some((problem.bytes, problem.offset(at)))
+        } else {
+            None
+        },
+    }
+}
+
+/// Why an interpolant was not found.
+fn missing_sentence(cause: &[u8]) -> &'static str {
+    match cause {
         b"steps" => say::INTERPOLANT_STEPS,
         b"overflow" => say::INTERPOLANT_OVERFLOW,
         b"symbols" => say::INTERPOLANT_SYMBOLS,
         b"branch" => say::INTERPOLANT_BRANCH,
         b"large" => say::INTERPOLANT_LARGE,
         _ => say::INTERPOLANT_PLAIN,
-    };
-    let is_there = at < problem.len();
-    let place = problem.offset(at);
-    if is_there {
-        put_place(page, label.name, problem.bytes, place)?;
-    } else {
-        page.put_str(label.name)?;
-        page.put(b": ")?;
     }
-    page.put(b"note: interpolant ")?;
-    page.put_number(label.number)?;
-    page.put(b" of ")?;
-    page.put_number(label.total)?;
-    page.put(b": ")?;
-    put_slip(page, &Slip::new(sentence).with_name(budget))?;
-    page.put(b"\n")?;
-    if is_there {
-        put_mark(page, problem.bytes, place)?;
-    }
-    Ok(())
 }

@@ -11,7 +11,11 @@ pub(crate) fn kind_sentence(p: &Problem, k: usize) -> &'static str {
         return say::KIND_TERM;
     }
     if is_predicate(p, k) {
-        return say::KIND_PREDICATE;
+        return if is_compared_with_formula(p, k) {
+            say::KIND_PREDICATE_EQUAL
+        } else {
+            say::KIND_PREDICATE
+        };
     }
     if p.terminal(k) != Some(Terminal::OpenParenthesis) {
         return say::KIND_FORMULA;
@@ -30,6 +34,24 @@ pub(crate) fn kind_sentence(p: &Problem, k: usize) -> &'static str {
     } else {
         say::KIND_FORMULA
     }
+}
+
+/// Whether a sign = stands between the use of a predicate at token k and `true`, `false` or another one.
+fn is_compared_with_formula(p: &Problem, k: usize) -> bool {
+    let next = k.saturating_add(1);
+    let behind = if p.terminal(next) == Some(Terminal::OpenParenthesis) {
+        behind_group(p, next)
+    } else {
+        next
+    };
+    let other = behind.saturating_add(1);
+    let is_first = p.terminal(behind) == Some(Terminal::Equal)
+        && (is_truth(p.terminal(other)) || is_predicate(p, other));
+    is_first || p.before(k, 1) == Some(Terminal::Equal) && is_truth(p.before(k, 2))
+}
+
+fn is_truth(terminal: Option<Terminal>) -> bool {
+    matches!(terminal, Some(Terminal::True | Terminal::False))
 }
 
 /// Whether token k is the name of a predicate.

@@ -1,5 +1,6 @@
 // Lines and columns of a text, and how a line of it is shown with a mark below a place.
 
+use crate::messages::Place;
 use crate::page::Page;
 use linear_term::Memory;
 
@@ -68,20 +69,14 @@ pub(crate) fn numbered_line(text: &[u8], number: u64) -> Line<'_> {
     line_at(text, text.len())
 }
 
-/// Puts `NAME:LINE:COLUMN: `.
-pub(crate) fn put_place(
-    page: &mut Page,
-    name: &str,
-    text: &[u8],
-    place: usize,
-) -> Result<(), Memory> {
+/// The line and the column of a byte of a text.
+pub(crate) fn spot_at(text: &[u8], place: usize) -> Place {
     let line = line_at(text, place);
-    page.put_str(name)?;
-    page.put(b":")?;
-    page.put_number(line.number)?;
-    page.put(b":")?;
-    page.put_number(column_of(&line, place))?;
-    page.put(b": ")
+    Place {
+        byte: place as u64,
+        line: line.number,
+        column: column_of(&line, place),
+    }
 }
 
 /// Puts the line of a place, and below it a mark at the place. Control characters are shown as blanks, and where the line is no

@@ -124,6 +124,27 @@ fn closes(terminal: Terminal) -> bool {
 }
 
 impl<'a> Problem<'a> {
+    /// Whether token k opens a bracket.
+    pub(crate) fn opens(&self, k: usize) -> bool {
+        match self.terminal(k) {
+            Some(terminal) => opens(terminal),
+            None => false,
+        }
+    }
+
+    /// Whether token k closes a bracket.
+    pub(crate) fn closes(&self, k: usize) -> bool {
+        match self.terminal(k) {
+            Some(terminal) => closes(terminal),
+            None => false,
+        }
+    }
+
+    /// The offset behind token k.
+    pub(crate) fn end_of(&self, k: usize) -> usize {
+        self.offset(k).saturating_add(self.text(k).len())
+    }
+
     /// How many tokens the file has.
     pub(crate) fn len(&self) -> usize {
         self.lexemes.len()

@@ -133,6 +133,27 @@ pub(crate) const IF_PAREN: &str =
 
 pub(crate) const PART_BRACKET: &str = "a part is written \\part[name] and its formula";
 
+pub(crate) const QUANTIFIER_FORM: &str =
+    "a quantifier is written \\forall int x; or \\exists int x; and one formula behind it";
+
+pub(crate) const COMMA: &str =
+    "formulas are joined by & (and) or | (or); a comma stands between arguments and between names";
+
+pub(crate) const GROUP: &str = "a group stands in parentheses, as (x = 1)";
+
+pub(crate) const ABSOLUTE: &str = "| is or; an absolute value is written \\abs(x)";
+
+pub(crate) const FULL_STOP: &str = "no . stands behind a formula";
+
+pub(crate) const MEMBER: &str =
+    "there are no sets; x is one of some values where 1 <= x & x <= 3, or where x = 1 | x = 4";
+
+pub(crate) const DECLARATION_VALUE: &str =
+    "a declaration gives no value; say it in \\problem, as {before} = 3 -> ..";
+
+pub(crate) const ASSUMPTIONS: &str =
+    "there is no {token}; what is assumed stands before -> in \\problem, as A & B -> C";
+
 pub(crate) const INDEX: &str = "an element of an array is a value of a function, as a(i)";
 
 pub(crate) const TIMES_MISSING: &str = "a product is written with *, as 2*x";
@@ -198,6 +219,9 @@ pub(crate) const ARITY_COUNT: &str =
 
 pub(crate) const KIND_PREDICATE: &str =
     "{token} is a predicate, which is true or false; a term has to stand here";
+
+pub(crate) const KIND_PREDICATE_EQUAL: &str =
+    "{token} is a predicate, and = compares terms; two formulas are compared with <->, and a comparison with true is the formula itself";
 
 pub(crate) const KIND_FORMULAS_EQUAL: &str =
     "this is a formula, and = compares terms; two formulas are compared with <->";

@@ -2,12 +2,14 @@
 
 use crate::answers::Refusal;
 use crate::foreign::is_among;
+use crate::messages::{Messages, Severity};
 use crate::page::Page;
-use crate::places::{cut, line_at, numbered_line, put_mark};
+use crate::places::{cut, line_at, numbered_line};
 use crate::run_sentences as say;
 use crate::slip::Slip;
-use crate::spots::{Spot, put_front, put_refused};
+use crate::spots::{Spot, numbered, put_refused};
 use linear_term::Memory;
+use std::alloc::Global;
 
 /// Where a node of a proof tree is written, and whether it is the conclusion.
 #[derive(Clone, Copy)]
@@ -18,7 +20,8 @@ struct Node {
 
 /// Puts what is said of a refused proof, which stands in this file, for the problem in the file of that name.
 pub(crate) fn put_proof_refusal(
-    page: &mut Page,
+    alloc: Global,
+    messages: &mut Messages,
     name: &str,
     text: &[u8],
     problem: &str,
@@ -30,22 +33,30 @@ pub(crate) fn put_proof_refusal(
     match refusal.name {
         b"Syntax" => {
             let slip = Slip::new(syntax_sentence(text, begin, number as usize));
-            put_refused(page, &spot(number as usize), refusal, false, &slip)
+            put_refused(messages, &spot(number as usize), refusal.name, &slip)
         }
         b"Deep" => {
             let slip = Slip::new(say::PROOF_DEEP);
-            put_refused(page, &spot(number as usize), refusal, false, &slip)
+            put_refused(messages, &spot(number as usize), refusal.name, &slip)
         }
         _ if is_clause_proof(text, begin) => {
             let first = line_at(text, begin).number;
             let line = numbered_line(text, first.saturating_add(number).saturating_sub(1));
             let sentence = clause_sentence(refusal.name, number, line.is_there);
             let slip = Slip::named(sentence, problem.as_bytes());
-            put_refused(page, &spot(line.from), refusal, true, &slip)
+            let name = numbered(alloc, refusal)?;
+            put_refused(messages, &spot(line.from), name.bytes(), &slip)
         }
         _ => {
             let node = find_node(text, begin, number);
-            put_node(page, &spot(node.at), problem, refusal, node.is_conclusion)
+            put_node(
+                alloc,
+                messages,
+                &spot(node.at),
+                problem,
+                refusal,
+                node.is_conclusion,
+            )
         }
     }
 }
@@ -148,7 +159,8 @@ fn find_node(text: &[u8], begin: usize, number: u64) -> Node {
 
 /// Puts what is said of a node, and where its log and its constraint stand.
 fn put_node(
-    page: &mut Page,
+    alloc: Global,
+    messages: &mut Messages,
     spot: &Spot,
     problem: &str,
     refusal: &Refusal,
@@ -161,12 +173,16 @@ fn put_node(
         _ => say::PROOF_COST,
     };
     let slip = Slip::named(sentence, problem.as_bytes());
-    put_front(page, spot, refusal, true, &slip)?;
+    let name = numbered(alloc, refusal)?;
+    let mut rest = Page::new(alloc);
     if !is_conclusion {
-        put_rest(page, spot)?;
+        put_rest(&mut rest, spot)?;
     }
-    page.put(b"\n")?;
-    put_mark(page, spot.text, spot.at)
+    messages.put_with(
+        &spot.subject(Severity::Error, name.bytes()),
+        &slip,
+        rest.bytes(),
+    )
 }
 
 /// Puts where the log and the constraint of the node that begins at a spot stand, behind its premises.

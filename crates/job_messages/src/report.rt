@@ -1,16 +1,19 @@
 // The lines of standard error that go with an answer.
 
 use crate::answers::find_refusal;
+use crate::assumptions::Vacuity;
 use crate::interpolants::put_interpolants;
-use crate::page::Page;
-use crate::places::cut;
+use crate::messages::{Message, Messages, Severity};
 use crate::proofs::put_proof_refusal;
 use crate::refusals::{put_lost, put_problem_refusal, put_script_refusal};
 use crate::run_sentences as say;
 use crate::slip::{Hole, Slip};
 use crate::spots::put_placeless;
+use crate::unknowns::put_unknown;
+use crate::warnings::{put_empty_types, put_unasked, put_vacuity};
 use crate::words::words_slip;
 use base_answers::status;
+use job_counts::Counts;
 use linear_term::Memory;
 use std::alloc::Global;
 use std::string::String;
@@ -56,6 +59,10 @@ pub struct Run<'a> {
     pub budget: u64,
     /// Why the file that was begun last could not be read.
     pub unread: Unread,
+    /// What the run did, where that was counted.
+    pub counts: Option<&'a Counts>,
+    /// What is known of the assumptions of the problem in FILE.
+    pub vacuity: Vacuity,
 }
 
 impl<'a> Run<'a> {
@@ -65,105 +72,112 @@ impl<'a> Run<'a> {
     }
 }
 
-/// The lines of standard error that go with an answer, each with its line feed; none where the answer says all.
-pub fn notes(alloc: Global, run: &Run) -> Result<Vec<u8>, Memory> {
-    let mut page = Page::new(alloc);
+/// The messages that go with an answer; none where the answer says all.
+pub fn notes(alloc: Global, run: &Run) -> Result<Vec<Message>, Memory> {
+    let mut messages = Messages::new(alloc);
+    if matches!(
+        run.status,
+        status::VALID | status::INVALID | status::UNKNOWN
+    ) {
+        put_warnings(alloc, &mut messages, run)?;
+    }
     match run.status {
         status::VALID => put_interpolants(
             alloc,
-            &mut page,
+            &mut messages,
             run.file,
             run.file_text.unwrap_or(b""),
             run.answer,
             Hole::Grouped(run.budget),
         )?,
-        status::UNKNOWN => put_unknown(&mut page, run)?,
-        status::FILE_REFUSED => put_refusal(alloc, &mut page, run)?,
-        status::PROOF_REFUSED => put_refused_proof(&mut page, run)?,
-        status::WORDS_REFUSED => put_words(&mut page, run)?,
-        status::SOURCE_FAILED => put_unread(&mut page, run)?,
-        status::SINK_FAILED => put_own(&mut page, say::OUTPUT_FAILED)?,
-        status::NO_MEMORY => put_own(&mut page, say::MEMORY_WANTING)?,
-        status::FILE_TOO_LONG => put_long(&mut page, run)?,
+        status::UNKNOWN => put_unknown(alloc, &mut messages, run)?,
+        status::FILE_REFUSED => put_refusal(alloc, &mut messages, run)?,
+        status::PROOF_REFUSED => put_refused_proof(alloc, &mut messages, run)?,
+        status::WORDS_REFUSED => put_words(&mut messages, run)?,
+        status::SOURCE_FAILED => put_unread(&mut messages, run)?,
+        status::SINK_FAILED => put_own(&mut messages, say::OUTPUT_FAILED)?,
+        status::NO_MEMORY => put_own(&mut messages, say::MEMORY_WANTING)?,
+        status::FILE_TOO_LONG => put_long(&mut messages, run)?,
         _ => {}
     }
-    Ok(page.into_bytes())
+    Ok(messages.into_list())
+}
+
+/// Puts what the answer to a file may hide.
+fn put_warnings(alloc: Global, messages: &mut Messages, run: &Run) -> Result<(), Memory> {
+    match run.file_text {
+        Some(text) if run.is_script => put_unasked(alloc, messages, run.file, text),
+        Some(text) => {
+            put_empty_types(alloc, messages, run.file, text)?;
+            put_vacuity(alloc, messages, run.file, text, run.vacuity)
+        }
+        None => Ok(()),
+    }
 }
 
 /// What is said where the words cannot be read from the system.
-pub fn unread_words(alloc: Global) -> Result<Vec<u8>, Memory> {
-    let mut page = Page::new(alloc);
-    put_own(&mut page, say::WORDS_UNREAD_SYSTEM)?;
-    Ok(page.into_bytes())
+pub fn unread_words(alloc: Global) -> Result<Vec<Message>, Memory> {
+    let mut messages = Messages::new(alloc);
+    put_own(&mut messages, say::WORDS_UNREAD_SYSTEM)?;
+    Ok(messages.into_list())
+}
+
+/// What is said where standard output took no more.
+pub fn failed_output(alloc: Global) -> Result<Vec<Message>, Memory> {
+    let mut messages = Messages::new(alloc);
+    put_own(&mut messages, say::OUTPUT_FAILED)?;
+    Ok(messages.into_list())
 }
 
 /// Puts an error of the program itself.
-fn put_own(page: &mut Page, sentence: &'static str) -> Result<(), Memory> {
-    put_placeless(page, "princess", b"error", &Slip::new(sentence))
+fn put_own(messages: &mut Messages, sentence: &'static str) -> Result<(), Memory> {
+    let slip = Slip::new(sentence);
+    put_placeless(messages, "princess", Severity::Error, b"", &slip)
 }
 
-fn put_unknown(page: &mut Page, run: &Run) -> Result<(), Memory> {
-    let name = run.file;
-    if run.is_script {
-        let slip = Slip::new(say::UNKNOWN_CHECK).with_name(Hole::Grouped(run.budget));
-        return put_placeless(page, name, b"note: unknown", &slip);
-    }
-    let line = cut(run.answer, b'\n').0;
-    let (label, sentence) = if line.ends_with(b"steps") {
-        (b"note: UNKNOWN: steps".as_slice(), say::STEPS_STEPS)
-    } else if line.ends_with(b"overflow") {
-        (b"note: UNKNOWN: overflow".as_slice(), say::OVERFLOW_NUMBER)
-    } else {
-        (b"note: UNKNOWN: branch".as_slice(), say::BRANCH_LENGTH)
-    };
-    put_placeless(
-        page,
-        name,
-        label,
-        &Slip::new(sentence).with_name(Hole::Grouped(run.budget)),
-    )
-}
-
-fn put_refusal(alloc: Global, page: &mut Page, run: &Run) -> Result<(), Memory> {
+fn put_refusal(alloc: Global, messages: &mut Messages, run: &Run) -> Result<(), Memory> {
     let Some(refusal) = find_refusal(run.answer, b"refused: ") else {
         return Ok(());
     };
     let name = run.file;
     match run.file_text {
-        Some(text) if run.is_script => put_script_refusal(alloc, page, name, text, &refusal),
-        Some(text) => put_problem_refusal(alloc, page, name, text, &refusal),
-        None => put_lost(page, name, &refusal),
+        Some(text) if run.is_script => put_script_refusal(alloc, messages, name, text, &refusal),
+        Some(text) => put_problem_refusal(alloc, messages, name, text, &refusal),
+        None => put_lost(messages, name, &refusal),
     }
 }
 
-fn put_refused_proof(page: &mut Page, run: &Run) -> Result<(), Memory> {
+fn put_refused_proof(alloc: Global, messages: &mut Messages, run: &Run) -> Result<(), Memory> {
     let Some(refusal) = find_refusal(run.answer, b"refused proof: ") else {
         return Ok(());
     };
     let name = run.last_name();
     match run.proof_text {
-        Some(text) => put_proof_refusal(page, name, text, run.file, &refusal),
-        None => put_lost(page, name, &refusal),
+        Some(text) => put_proof_refusal(alloc, messages, name, text, run.file, &refusal),
+        None => put_lost(messages, name, &refusal),
     }
 }
 
-fn put_words(page: &mut Page, run: &Run) -> Result<(), Memory> {
-    put_placeless(page, "princess", b"error", &words_slip(run.words))?;
-    put_placeless(page, "princess", b"note", &Slip::new(say::WORDS_HELP))
+fn put_words(messages: &mut Messages, run: &Run) -> Result<(), Memory> {
+    let slip = words_slip(run.words);
+    put_placeless(messages, "princess", Severity::Error, b"", &slip)?;
+    let help = Slip::new(say::WORDS_HELP);
+    put_placeless(messages, "princess", Severity::Note, b"", &help)
 }
 
-fn put_unread(page: &mut Page, run: &Run) -> Result<(), Memory> {
+fn put_unread(messages: &mut Messages, run: &Run) -> Result<(), Memory> {
     let sentence = match run.unread {
         Unread::Missing => say::FILE_MISSING,
         Unread::Folder => say::FILE_FOLDER,
         Unread::Forbidden => say::FILE_FORBIDDEN,
         Unread::Other => say::FILE_UNREAD,
     };
-    put_placeless(page, run.last_name(), b"error", &Slip::new(sentence))
+    let slip = Slip::new(sentence);
+    put_placeless(messages, run.last_name(), Severity::Error, b"", &slip)
 }
 
-fn put_long(page: &mut Page, run: &Run) -> Result<(), Memory> {
+fn put_long(messages: &mut Messages, run: &Run) -> Result<(), Memory> {
     let most = if run.proof.is_some() { PROOF } else { FILE };
     let slip = Slip::new(say::FILE_LONG).with_name(Hole::Grouped(most));
-    put_placeless(page, run.last_name(), b"error", &slip)
+    put_placeless(messages, run.last_name(), Severity::Error, b"", &slip)
 }

@@ -3,6 +3,16 @@
 pub(crate) const STEPS_STEPS: &str =
     "the budget of {name} steps ended before an answer; --budget N gives up to 1,000,000,000. What helps more: fewer disjunctions, fewer quantified assumptions, fewer uses of one function or predicate, only the assumptions that are needed (docs/GUIDE.md, UNKNOWN)";
 
+pub(crate) const STEPS_AT_ONCE: &str =
+    "after {name} steps one rule asked for more than the {other} steps that were left of the budget, all at once. What helps: smaller coefficients and divisors, and fewer of them in one constraint (docs/GUIDE.md, UNKNOWN)";
+
+pub(crate) const GREATEST_NUMBER: &str =
+    "the greatest number of the file; the larger coefficients and divisors are, the more cases a rule has";
+
+pub(crate) const RUN_TOOK: &str = "the canonical run took ";
+
+pub(crate) const SEARCH_TOOK: &str = "the clause search took ";
+
 pub(crate) const OVERFLOW_NUMBER: &str =
     "a number left the range from -(2^127 - 1) to 2^127 - 1, and no larger budget helps; smaller coefficients do, and fewer equations with large ones";
 
@@ -29,6 +39,32 @@ pub(crate) const INTERPOLANT_LARGE: &str =
 
 pub(crate) const INTERPOLANT_PLAIN: &str =
     "none to look for: a component of the problem is true by itself, so the sides need not contradict each other";
+
+pub(crate) const EMPTY_TYPE: &str =
+    "this type has no values, since {name} is more than {other}; with such a universal constant every problem holds, with such an existential one none does";
+
+pub(crate) const NO_CHECK: &str = "the script has no (check-sat), so it asks nothing";
+
+pub(crate) const UNASKED_ASSERTION: &str =
+    "no (check-sat) stands behind this assertion, so nothing is asked of it";
+
+pub(crate) const VACUITY_NO_ASSUMPTIONS: &str =
+    "the problem is no implication, as A -> B, so it has no assumptions to ask about";
+
+pub(crate) const VACUITY_INTENDED: &str =
+    "the conclusion is false, so VALID itself says that the assumptions before this -> contradict one another";
+
+pub(crate) const VACUITY_CONSISTENT: &str =
+    "the assumptions before this -> do not contradict one another";
+
+pub(crate) const VACUITY_CONTRADICTION: &str =
+    "the assumptions before this -> contradict one another, so the problem holds whatever is concluded";
+
+pub(crate) const VACUITY_AT_SOME: &str =
+    "at some values of the existential constants the assumptions before this -> contradict one another, so there the problem holds whatever is concluded";
+
+pub(crate) const VACUITY_UNKNOWN: &str =
+    "whether the assumptions before this -> contradict one another was not found within the budget and the limits";
 
 pub(crate) const PROOF_SYNTAX: &str =
     "no text of a proof goes on with this; docs/PROOFS.md has the grammar";

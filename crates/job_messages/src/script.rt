@@ -73,6 +73,11 @@ impl<'a> Script<'a> {
         self.terminal(k) == Some(Terminal::Open)
     }
 
+    /// Whether token k closes a list.
+    pub(crate) fn closes(&self, k: usize) -> bool {
+        self.terminal(k) == Some(Terminal::Close)
+    }
+
     /// Whether the token before token k opens a list.
     pub(crate) fn follows_open(&self, k: usize) -> bool {
         match k.checked_sub(1) {

@@ -83,6 +83,12 @@ pub(crate) const DOUBLE: &str =
 pub(crate) const KIND: &str =
     "this has the wrong sort: a Bool stands where an Int has to, or an Int where a Bool has to";
 
+pub(crate) const KIND_INT: &str = "this is an Int, and a Bool has to stand here, as a comparison";
+
+pub(crate) const KIND_BOOL: &str = "this is a Bool, and an Int has to stand here, as (ite .. 1 0)";
+
+pub(crate) const COLON: &str = "a sort stands behind its name without a colon, as (x Int)";
+
 pub(crate) const NONLINEAR: &str =
     "neither side of this product is built of numerals alone, so it is not linear; where one side has few values, write a case for each";
 

@@ -6,6 +6,7 @@ use crate::script::Script;
 use crate::script_commands::command_slip;
 use crate::script_phrases::{Phrase, infix, is_infix, is_operator, operator_for};
 use crate::script_sentences as say;
+use crate::script_sorts::{Sort, find_sort};
 use crate::slip::{Hole, Slip};
 use smt_tokens::Terminal;
 
@@ -20,7 +21,11 @@ pub(crate) fn script_slip<'a>(script: Script<'a>, name: &[u8], k: usize) -> Slip
         b"Redeclared" => redeclared_slip(script, k),
         b"Kind" => match infix(script, k) {
             Some(phrase) => Slip::new(say::INFIX).with_name(Hole::Phrase(phrase)),
-            None => Slip::new(say::KIND),
+            None => Slip::new(match find_sort(script, k) {
+                Some(Sort::Int) => say::KIND_INT,
+                Some(Sort::Bool) => say::KIND_BOOL,
+                None => say::KIND,
+            }),
         },
         b"NonLinear" => Slip::new(say::NONLINEAR),
         b"Literal" => Slip::new(say::NUMERAL),
@@ -40,6 +45,9 @@ fn syntax_slip<'a>(script: Script<'a>, k: usize) -> Slip<'a> {
     }
     if is_read_command(text) {
         return Slip::new(say::BARE);
+    }
+    if text.starts_with(b":") {
+        return Slip::new(say::COLON);
     }
     if text.starts_with(b"\"") || text.starts_with(b"|") {
         return Slip::new(say::BYTE);
@@ -276,7 +284,7 @@ fn arity_slip<'a>(script: Script<'a>, k: usize) -> Slip<'a> {
 }
 
 /// How many arguments the declaration that token k opens gives its symbol.
-fn declared_arguments(script: Script, k: usize) -> usize {
+pub(crate) fn declared_arguments(script: Script, k: usize) -> usize {
     match script.member(k, 2) {
         Some(span) if script.opens(span.from) => script.count(span.from),
         _ => 0,

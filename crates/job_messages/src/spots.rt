@@ -1,10 +1,11 @@
-// A message about a place in a file: where it is, what is wrong, and the line with a mark.
+// Messages about a refusal: where it is, and what is wrong there.
 
 use crate::answers::Refusal;
+use crate::messages::{Messages, Severity, Subject};
 use crate::page::Page;
-use crate::places::{put_mark, put_place};
-use crate::slip::{Slip, put_slip};
+use crate::slip::Slip;
 use linear_term::Memory;
+use std::alloc::Global;
 
 /// A place in a file.
 #[derive(Clone, Copy)]
@@ -15,66 +16,52 @@ pub(crate) struct Spot<'a> {
     pub(crate) at: usize,
 }
 
-/// Puts `FILE:LINE:COLUMN: error: NAME: SENTENCE`, and the line with its mark. With its number, the name is as `node 3`.
-pub(crate) fn put_refused(
-    page: &mut Page,
-    spot: &Spot,
-    refusal: &Refusal,
-    is_numbered: bool,
-    slip: &Slip,
-) -> Result<(), Memory> {
-    put_front(page, spot, refusal, is_numbered, slip)?;
-    page.put(b"\n")?;
-    put_mark(page, spot.text, spot.at)
-}
-
-/// Puts the first line of such a message without its end.
-pub(crate) fn put_front(
-    page: &mut Page,
-    spot: &Spot,
-    refusal: &Refusal,
-    is_numbered: bool,
-    slip: &Slip,
-) -> Result<(), Memory> {
-    put_place(page, spot.name, spot.text, spot.at)?;
-    page.put(b"error: ")?;
-    page.put(refusal.name)?;
-    if let Some(number) = refusal.place
-        && is_numbered
-    {
-        page.put(b" ")?;
-        page.put_number(number)?;
+impl<'a> Spot<'a> {
+    /// What a message of this name is about here.
+    pub(crate) fn subject<'n>(&self, severity: Severity, name: &'n [u8]) -> Subject<'a, 'n> {
+        Subject {
+            file: self.name,
+            severity,
+            name,
+            spot: Some((self.text, self.at)),
+        }
     }
-    page.put(b": ")?;
-    put_slip(page, slip)
 }
 
-/// Puts `FILE: LABEL: SENTENCE`, without a place.
+/// Puts an error at a place, by the name of the refusal.
+pub(crate) fn put_refused(
+    messages: &mut Messages,
+    spot: &Spot,
+    name: &[u8],
+    slip: &Slip,
+) -> Result<(), Memory> {
+    messages.put(&spot.subject(Severity::Error, name), slip)
+}
+
+/// The name of a refusal with its number, as `node 3`.
+pub(crate) fn numbered(alloc: Global, refusal: &Refusal) -> Result<Page, Memory> {
+    let mut name = Page::new(alloc);
+    name.put(refusal.name)?;
+    if let Some(number) = refusal.place {
+        name.put(b" ")?;
+        name.put_number(number)?;
+    }
+    Ok(name)
+}
+
+/// Puts a message without a place.
 pub(crate) fn put_placeless(
-    page: &mut Page,
-    name: &str,
-    label: &[u8],
+    messages: &mut Messages,
+    file: &str,
+    severity: Severity,
+    name: &[u8],
     slip: &Slip,
 ) -> Result<(), Memory> {
-    page.put_str(name)?;
-    page.put(b": ")?;
-    page.put(label)?;
-    page.put(b": ")?;
-    put_slip(page, slip)?;
-    page.put(b"\n")
-}
-
-/// Puts `FILE: error: NAME: SENTENCE`, where the place of a refusal cannot be shown.
-pub(crate) fn put_named(
-    page: &mut Page,
-    name: &str,
-    refusal: &[u8],
-    slip: &Slip,
-) -> Result<(), Memory> {
-    page.put_str(name)?;
-    page.put(b": error: ")?;
-    page.put(refusal)?;
-    page.put(b": ")?;
-    put_slip(page, slip)?;
-    page.put(b"\n")
+    let subject = Subject {
+        file,
+        severity,
+        name,
+        spot: None,
+    };
+    messages.put(&subject, slip)
 }

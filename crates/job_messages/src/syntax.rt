@@ -1,7 +1,8 @@
 // Why a problem's file is refused by its grammar: the slip at the first token with which no file goes on.
 
 use crate::foreign::{
-    begins_with_one, is_among, is_block_word, is_foreign_block, is_foreign_type, sign_for_symbol,
+    begins_with_one, is_among, is_assumption_block, is_block_word, is_foreign_block,
+    is_foreign_type, sign_for_symbol,
 };
 use crate::places::cut;
 use crate::problem::{Around, Problem, ends_term, is_block, is_constants, is_relation, is_word};
@@ -146,6 +147,9 @@ fn bad_slip<'a>(p: &Problem<'a>, k: usize, around: &Around) -> Slip<'a> {
     if is_foreign_block(text) {
         return Slip::new(say::VARIABLES);
     }
+    if is_assumption_block(text) {
+        return Slip::new(say::ASSUMPTIONS);
+    }
     if text.starts_with(b"\\") {
         return Slip::new(say::UNKNOWN_COMMAND);
     }
@@ -155,6 +159,9 @@ fn bad_slip<'a>(p: &Problem<'a>, k: usize, around: &Around) -> Slip<'a> {
     }
     if is_utf_16(rest) {
         return Slip::new(say::UTF_16);
+    }
+    if rest.starts_with("∈".as_bytes()) {
+        return Slip::new(say::MEMBER);
     }
     if let Some(sign) = sign_for_symbol(rest) {
         return Slip::named(say::OTHER_SIGN, sign.as_bytes());
@@ -182,6 +189,7 @@ fn bad_sentence(p: &Problem, k: usize) -> &'static str {
     let follows_number = p.before(k, 1) == Some(Terminal::Number);
     match p.text(k) {
         b"." | b":" if p.is_in_binder(k) => say::BINDER_END,
+        b"." if follows_number && !begins_fraction(p, k) => say::FULL_STOP,
         b"." if follows_number => say::DECIMAL,
         b"%" => say::PERCENT,
         b"/" => say::DIVISION,
@@ -195,6 +203,12 @@ fn bad_sentence(p: &Problem, k: usize) -> &'static str {
         _ if is_letter_of_name(p, k) => say::PRIME,
         _ => say::OTHER_BYTE,
     }
+}
+
+/// Whether digits or another dot stand right behind token k.
+fn begins_fraction(p: &Problem, k: usize) -> bool {
+    let next = p.text(k.saturating_add(1));
+    p.touches_next(k) && (next == b".".as_slice() || next.first().is_some_and(u8::is_ascii_digit))
 }
 
 /// Whether the byte of token k begins a letter outside of ASCII beside letters of a name.
@@ -242,6 +256,9 @@ fn declaration_sentence(p: &Problem, k: usize, around: &Around) -> &'static str 
     }
     if let Some(sentence) = type_sentence(terminal, p.before(k, 1), is_constants(around.block)) {
         return sentence;
+    }
+    if terminal == Some(Terminal::Equal) && p.before(k, 1) == Some(Terminal::Identifier) {
+        return say::DECLARATION_VALUE;
     }
     let begins = matches!(
         p.before(k, 1),

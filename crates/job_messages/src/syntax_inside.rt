@@ -1,6 +1,6 @@
 // Why the grammar refuses a token inside the formula of `\problem`.
 
-use crate::foreign::{is_among, is_foreign_type, is_remainder, sign_for_word};
+use crate::foreign::{is_among, is_foreign_type, is_quantifier_word, is_remainder, sign_for_word};
 use crate::problem::{
     Around, Problem, ends_term, is_command, is_operator, is_quantifier, is_relation, is_word,
 };
@@ -27,6 +27,9 @@ pub(crate) fn inside_slip<'a>(p: &Problem<'a>, k: usize, around: &Around) -> Sli
     if ends_term(before) {
         return ended_slip(p, k, around);
     }
+    if let Some(sentence) = begin_sentence(p, k) {
+        return Slip::new(sentence);
+    }
     if matches!(
         p.terminal(k),
         Some(
@@ -43,6 +46,16 @@ pub(crate) fn inside_slip<'a>(p: &Problem<'a>, k: usize, around: &Around) -> Sli
         return Slip::new(say::OPERAND_BEFORE);
     }
     Slip::new(say::OTHER)
+}
+
+/// The sentence at a bracket where a term or a formula has to begin: another one than `(`, or a bar.
+fn begin_sentence(p: &Problem, k: usize) -> Option<&'static str> {
+    let is_behind_bar = p.before(k, 1) == Some(Terminal::Or);
+    match p.terminal(k)? {
+        Terminal::OpenBracket | Terminal::OpenBrace => Some(say::GROUP),
+        Terminal::Or if !is_behind_bar => Some(say::ABSOLUTE),
+        _ => None,
+    }
 }
 
 /// The sentence at a token where the types and the names of a quantifier stand.
@@ -124,6 +137,15 @@ fn ended_slip<'a>(p: &Problem<'a>, k: usize, around: &Around) -> Slip<'a> {
                 sign.as_bytes(),
             ));
         }
+    }
+    if is_quantifier_word(p.text_before(k, 1)) {
+        return Slip::new(say::QUANTIFIER_FORM);
+    }
+    if is_among(p.text(k), &["in"]) {
+        return Slip::new(say::MEMBER);
+    }
+    if terminal == Some(Terminal::Comma) {
+        return Slip::new(say::COMMA);
     }
     if terminal == Some(Terminal::Semicolon) && around.depth == 1 {
         return Slip::new(say::SEMICOLON_IN_PROBLEM);

@@ -15,12 +15,24 @@ struct Seen {
     proof: bool,
     short: bool,
     calculus: bool,
+    counterexample: bool,
 }
 
 /// The commands, and the options of any of them.
 const COMMANDS: [&str; 6] = ["solve", "check", "elim", "drill", "least", "smt"];
 
-const OPTIONS: [&str; 4] = ["--budget", "--proof", "--short", "--calculus"];
+const OPTIONS: [&str; 10] = [
+    "--budget",
+    "--proof",
+    "--short",
+    "--calculus",
+    "--counterexample",
+    "--vacuous",
+    "--json",
+    "--stats",
+    "--progress",
+    "--proof-to",
+];
 
 /// What is wrong with words that name no job.
 pub(crate) fn words_slip<'a>(words: &'a [String]) -> Slip<'a> {
@@ -28,6 +40,9 @@ pub(crate) fn words_slip<'a>(words: &'a [String]) -> Slip<'a> {
         return Slip::new(say::WORDS_NONE);
     };
     let command = command.as_bytes();
+    if is_among(command, &["--quiet", "--json"]) {
+        return Slip::new(say::WORDS_TWICE).with_other(Hole::Text(command));
+    }
     if command.starts_with(b"-") {
         return Slip::new(say::WORDS_FIRST);
     }
@@ -47,6 +62,7 @@ pub(crate) fn words_slip<'a>(words: &'a [String]) -> Slip<'a> {
         proof: false,
         short: false,
         calculus: false,
+        counterexample: false,
     };
     match options_slip(command, rest, &mut seen) {
         Some(slip) => slip,
@@ -138,7 +154,10 @@ fn option_fault(command: &[u8], name: &[u8], seen: &mut Seen) -> Option<OptionFa
         b"--proof" if is_solve => mem::replace(&mut seen.proof, true),
         b"--short" if is_solve => mem::replace(&mut seen.short, true),
         b"--calculus" if is_solve => mem::replace(&mut seen.calculus, true),
+        b"--counterexample" if is_solve => mem::replace(&mut seen.counterexample, true),
         b"--quiet" => return Some(OptionFault::Quiet),
+        b"--json" | b"--stats" | b"--progress" => return Some(OptionFault::Twice),
+        b"--vacuous" | b"--proof-to" if is_solve => return Some(OptionFault::Twice),
         _ if command == b"least".as_slice() => return Some(OptionFault::Dash),
         _ => return Some(OptionFault::Unknown),
     };

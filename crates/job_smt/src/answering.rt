@@ -8,18 +8,24 @@ ghost use Rattle.std.specs.Prelude.{◌≤◌, IfOk};
 use crate::lines::answer_checks;
 use crate::refusals::refuse;
 use base_answers::Output;
+use base_watch::Watch;
 use linear_term::Memory;
 use smt_reader::script;
 use std::alloc::Global;
 
 /// The answer to a script of these bytes: why it is refused, or a line for each `check-sat` in order, by the canonical run on its
 /// problem, or the clause search, each with this budget: `unsat`, `sat` or `unknown`. The one error is want of memory.
-pub fn answer(alloc: Global, bytes: &[u8], budget: u64) -> Result<Output, Memory>
+pub fn answer<X: Watch>(
+    alloc: Global,
+    bytes: &[u8],
+    budget: u64,
+    watch: &mut X,
+) -> Result<Output, Memory>
     requires { budget ≤ most_budget }
     ensures { IfOk result (λ output. IsSmtAnswer budget bytes.now (answer_of output)) }
 {
     match script(alloc, bytes) {
-        Ok(script) => answer_checks(alloc, script.checks.as_slice(), budget),
+        Ok(script) => answer_checks(alloc, script.checks.as_slice(), budget, watch),
         Err(refusal) => refuse(alloc, refusal),
     }
 }

@@ -8,6 +8,7 @@ ghost use Rattle.model_runs.specs.Ends.{run_end};
 ghost use Rattle.std.specs.Prelude.{◌≡◌, ◌≤◌, [], IfOk};
 
 use base_budget::Purse;
+use base_watch::{Event, Stage, Watch};
 use function_encoding::{EncodeRefusal, Encoded};
 use job_clauses::{Judged, search_judged};
 use job_parts::first_part;
@@ -31,7 +32,12 @@ pub enum CheckAnswer {
 /// The answer to the check whose problem this is, without existential constants, with this budget: by the canonical run, and where that
 /// is cut within the first part of the budget, by the clause search, if its proof or model is accepted. None comes exactly where the encoding of
 /// the problem has more than 1,000,000 nodes or more than 2,000 levels. The one error is want of memory.
-pub fn check(alloc: Global, p: &Problem, budget: u64) -> Result<Option<CheckAnswer>, Memory>
+pub fn check<X: Watch>(
+    alloc: Global,
+    p: &Problem,
+    budget: u64,
+    watch: &mut X,
+) -> Result<Option<CheckAnswer>, Memory>
     requires formed { IsWellFormed p.now }
     requires alone { p.now.existentials ≡ [] }
     requires budget { budget ≤ most_budget }
@@ -39,7 +45,7 @@ pub fn check(alloc: Global, p: &Problem, budget: u64) -> Result<Option<CheckAnsw
 {
     match encode_problem(alloc, p) {
         Ok(encoded) => {
-            let answer = encoded_answer(alloc, p, &encoded, budget)?;
+            let answer = encoded_answer(alloc, p, &encoded, budget, watch)?;
             Ok(Some(answer))
         }
         Err(EncodeRefusal::Large) => Ok(None),
@@ -49,11 +55,12 @@ pub fn check(alloc: Global, p: &Problem, budget: u64) -> Result<Option<CheckAnsw
 }
 
 // The answer to the check whose encoded problem this is.
-fn encoded_answer(
+fn encoded_answer<X: Watch>(
     alloc: Global,
     p: &Problem,
     encoded: &Encoded,
     budget: u64,
+    watch: &mut X,
 ) -> Result<CheckAnswer, Memory>
     requires formed { IsWellFormed p.now }
     requires alone { p.now.existentials ≡ [] }
@@ -61,26 +68,40 @@ fn encoded_answer(
     requires budget { budget ≤ most_budget }
     ensures { IfOk result (IsCheckAnswer budget p.now) }
 {
-    match run(alloc, p, encoded, first_part(budget))? {
+    match run(alloc, p, encoded, first_part(budget), watch)? {
         CheckAnswer::Unsat => Ok(CheckAnswer::Unsat),
         CheckAnswer::Sat => Ok(CheckAnswer::Sat),
-        CheckAnswer::Unknown => match search_judged(alloc, p, encoded, budget)? {
+        CheckAnswer::Unknown => match search_judged(alloc, p, encoded, budget, watch)? {
             Judged::Proof(_) => Ok(CheckAnswer::Unsat),
             Judged::Refuted { .. } => Ok(CheckAnswer::Sat),
-            Judged::Nothing => run(alloc, p, encoded, budget),
+            Judged::Nothing => run(alloc, p, encoded, budget, watch),
         },
     }
 }
 
 // What the canonical run with this budget answers to the check whose encoded problem this is.
-fn run(alloc: Global, p: &Problem, encoded: &Encoded, budget: u64) -> Result<CheckAnswer, Memory>
+fn run<X: Watch>(
+    alloc: Global,
+    p: &Problem,
+    encoded: &Encoded,
+    budget: u64,
+    watch: &mut X,
+) -> Result<CheckAnswer, Memory>
     requires formed { IsWellFormed p.now }
     requires encoded { IsEncoded p.now encoded.now }
     requires budget { budget ≤ most_budget }
     ensures { IfOk result (λ a. a ≡ told (run_end budget p.now)) }
 {
     let mut purse = Purse::new(budget);
-    let decided = decide(alloc, &encoded.root, encoded.constants, &mut purse)?;
+    watch.tell(Event::Begins {
+        stage: Stage::Canonical,
+        budget,
+    });
+    let decided = decide(alloc, &encoded.root, encoded.constants, &mut purse, watch)?;
+    watch.tell(Event::Ends {
+        stage: Stage::Canonical,
+        steps: purse.spent(),
+    });
     Ok(answer_of(&decided))
 }
 

@@ -11,26 +11,37 @@ ghost use Rattle.std.specs.Prelude.{◌≡◌, ◌≤◌, [], IfOk};
 use crate::checking::{CheckAnswer, check};
 use base_answers::status::{UNKNOWN, VALID};
 use base_answers::{Output, refused};
+use base_watch::Watch;
 use linear_term::Memory;
 use pri_typing::Problem;
 use std::alloc::Global;
 
 /// The answer to a script with checks of these problems: a line for each, `unsat`, `sat` or `unknown`, with status 2 where one is
 /// `unknown` and 0 elsewhere; `refused: Large` where the encoding of one is too large. The one error is want of memory.
-pub fn answer_checks(alloc: Global, problems: &[Problem], budget: u64) -> Result<Output, Memory>
+pub fn answer_checks<X: Watch>(
+    alloc: Global,
+    problems: &[Problem],
+    budget: u64,
+    watch: &mut X,
+) -> Result<Output, Memory>
     requires formed { All IsWellFormed problems.now }
     requires alone { All (λ p. p.existentials ≡ []) problems.now }
     requires budget { budget ≤ most_budget }
     ensures { IfOk result (λ output. AnswersChecks budget problems.now (answer_of output)) }
 {
-    match lines(alloc, problems, budget)? {
+    match lines(alloc, problems, budget, watch)? {
         Some(output) => Ok(output),
         None => refused(alloc, b"Large"),
     }
 }
 
 // The lines of the checks with these problems, if the encoding of none is too large.
-fn lines(alloc: Global, problems: &[Problem], budget: u64) -> Result<Option<Output>, Memory>
+fn lines<X: Watch>(
+    alloc: Global,
+    problems: &[Problem],
+    budget: u64,
+    watch: &mut X,
+) -> Result<Option<Output>, Memory>
     requires formed { All IsWellFormed problems.now }
     requires alone { All (λ p. p.existentials ≡ []) problems.now }
     requires budget { budget ≤ most_budget }
@@ -39,7 +50,7 @@ fn lines(alloc: Global, problems: &[Problem], budget: u64) -> Result<Option<Outp
     let mut text = Vec::new(alloc);
     let mut status = VALID;
     for p in problems {
-        let Some(answer) = check(alloc, p, budget)? else {
+        let Some(answer) = check(alloc, p, budget, watch)? else {
             return Ok(None);
         };
         text.extend_from_slice(word(answer))?;

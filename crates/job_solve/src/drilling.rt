@@ -7,18 +7,24 @@ ghost use Rattle.std.specs.Prelude.{◌≡◌, ◌++◌, ◌≤◌, IfOk, OnOk};
 
 use super::solving::answer;
 use base_answers::Output;
+use base_watch::Watch;
 use linear_term::Memory;
 use problem_gen::drill;
 use std::alloc::Global;
 
 /// The answer of `drill` with a budget to this size, 1,000 at most.
-pub fn drilled(alloc: Global, count: u32, budget: u64) -> Result<Output, Memory>
+pub fn drilled<X: Watch>(
+    alloc: Global,
+    count: u32,
+    budget: u64,
+    watch: &mut X,
+) -> Result<Output, Memory>
     requires count { count ≤ most_count }
     requires budget { budget ≤ most_budget }
     ensures { IfOk result (λ output. IsDrilled budget count (answer_of output)) }
 {
     let problem = drill(alloc, count)?;
-    let solved = answer(alloc, problem.as_slice(), budget, None)?;
+    let solved = answer(alloc, problem.as_slice(), budget, None, watch)?;
     told(alloc, count, &solved)
 }
 

@@ -14,6 +14,7 @@ use crate::telling::valid;
 use base_answers::status::INVALID;
 use base_answers::{Output, ProofForm, say};
 use base_budget::Purse;
+use base_watch::{Event, Stage, Watch};
 use function_encoding::Encoded;
 use job_parts::with_budget;
 use linear_term::Memory;
@@ -33,13 +34,14 @@ pub enum Course {
 
 /// Runs the canonical run within the limit. Where it ends there, the answer is that of the run with the whole budget, with the
 /// proof behind it in the form that is asked for, if one is. Trees are kept where a proof is asked for.
-pub fn run_within(
+pub fn run_within<X: Watch>(
     alloc: Global,
     problem: &Problem,
     encoded: &Encoded,
     limit: u64,
     budget: u64,
     asked: Option<ProofForm>,
+    watch: &mut X,
 ) -> Result<Course, Memory>
     requires well_formed { IsWellFormed problem.now }
     requires distinct { HasDistinctNames problem.now }
@@ -51,19 +53,20 @@ pub fn run_within(
     ensures { IfOk result (RunsTo asked limit budget problem.now) }
 {
     match asked {
-        Some(_) => with_tree(alloc, problem, encoded, limit, budget, asked),
-        None => without_tree(alloc, problem, encoded, limit, budget),
+        Some(_) => with_tree(alloc, problem, encoded, limit, budget, asked, watch),
+        None => without_tree(alloc, problem, encoded, limit, budget, watch),
     }
 }
 
 // The same by a search that keeps its tree.
-fn with_tree(
+fn with_tree<X: Watch>(
     alloc: Global,
     problem: &Problem,
     encoded: &Encoded,
     limit: u64,
     budget: u64,
     asked: Option<ProofForm>,
+    watch: &mut X,
 ) -> Result<Course, Memory>
     requires well_formed { IsWellFormed problem.now }
     requires distinct { HasDistinctNames problem.now }
@@ -75,7 +78,15 @@ fn with_tree(
     ensures { IfOk result (RunsTo asked limit budget problem.now) }
 {
     let mut part = Purse::new(limit);
-    let outcome = prove(alloc, &encoded.root, encoded.constants, &mut part)?;
+    watch.tell(Event::Begins {
+        stage: Stage::Canonical,
+        budget: limit,
+    });
+    let outcome = prove(alloc, &encoded.root, encoded.constants, &mut part, watch)?;
+    watch.tell(Event::Ends {
+        stage: Stage::Canonical,
+        steps: part.spent(),
+    });
     let mut purse = with_budget(&part, budget);
     match outcome {
         Outcome::Valid {
@@ -108,12 +119,13 @@ fn with_tree(
 
 // The same without a proof. Where the run ends saturated it is made once more, with its tree kept: a counterexample is read off the
 // tree.
-fn without_tree(
+fn without_tree<X: Watch>(
     alloc: Global,
     problem: &Problem,
     encoded: &Encoded,
     limit: u64,
     budget: u64,
+    watch: &mut X,
 ) -> Result<Course, Memory>
     requires well_formed { IsWellFormed problem.now }
     requires distinct { HasDistinctNames problem.now }
@@ -125,7 +137,15 @@ fn without_tree(
     ensures { IfOk result (RunsTo None limit budget problem.now) }
 {
     let mut part = Purse::new(limit);
-    let decided = decide(alloc, &encoded.root, encoded.constants, &mut part)?;
+    watch.tell(Event::Begins {
+        stage: Stage::Canonical,
+        budget: limit,
+    });
+    let decided = decide(alloc, &encoded.root, encoded.constants, &mut part, watch)?;
+    watch.tell(Event::Ends {
+        stage: Stage::Canonical,
+        steps: part.spent(),
+    });
     let mut purse = with_budget(&part, budget);
     match decided {
         Decided::Valid {
@@ -140,7 +160,7 @@ fn without_tree(
             Ok(Course::Told(output))
         }
         Decided::Saturated { constraint: _ } => {
-            with_tree(alloc, problem, encoded, limit, budget, None)
+            with_tree(alloc, problem, encoded, limit, budget, None, watch)
         }
         Decided::Unknown { why, run: _ } => Ok(Course::Cut(why)),
     }

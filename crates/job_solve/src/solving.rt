@@ -11,6 +11,7 @@ ghost use Rattle.std.specs.Prelude.{◌≤◌, ◌<◌, ◌^◌, length, IfOk};
 use crate::running::{Course, run_within};
 use crate::telling::cause;
 use base_answers::{Output, ProofForm, unknown};
+use base_watch::Watch;
 use function_encoding::Encoded;
 use linear_term::Memory;
 use pri_problem::{encode_problem, read_problem, refuse, refuse_encoding};
@@ -19,28 +20,30 @@ use std::alloc::Global;
 
 /// The answer of `solve` with a budget to a problem's file of these bytes, with the proof behind it in the form that is asked for, if
 /// one is.
-pub fn answer(
+pub fn answer<X: Watch>(
     alloc: Global,
     bytes: &[u8],
     budget: u64,
     asked: Option<ProofForm>,
+    watch: &mut X,
 ) -> Result<Output, Memory>
     requires bytes { length bytes.now < 2 ^ 32 }
     requires budget { budget ≤ most_budget }
     ensures { IfOk result (λ output. IsSolvedAs asked budget bytes.now (answer_of output)) }
 {
     match read_problem(alloc, bytes) {
-        Ok(problem) => problem_answer(alloc, &problem, budget, asked),
+        Ok(problem) => problem_answer(alloc, &problem, budget, asked, watch),
         Err(fault) => refuse(alloc, fault),
     }
 }
 
 // The answer to a problem.
-fn problem_answer(
+fn problem_answer<X: Watch>(
     alloc: Global,
     problem: &Problem,
     budget: u64,
     asked: Option<ProofForm>,
+    watch: &mut X,
 ) -> Result<Output, Memory>
     requires well_formed { IsWellFormed problem.now }
     requires distinct { HasDistinctNames problem.now }
@@ -50,19 +53,20 @@ fn problem_answer(
     ensures { IfOk result (λ output. AnswersEncoded (AnswersRunAs asked budget) problem.now (answer_of output)) }
 {
     match encode_problem(alloc, problem) {
-        Ok(encoded) => run_answer(alloc, problem, &encoded, budget, asked),
+        Ok(encoded) => run_answer(alloc, problem, &encoded, budget, asked, watch),
         Err(refusal) => refuse_encoding(alloc, refusal),
     }
 }
 
 /// The answer to an encoded problem: it tells how the canonical run ends that has this budget. Trees are kept where a proof is asked
 /// for.
-pub fn run_answer(
+pub fn run_answer<X: Watch>(
     alloc: Global,
     problem: &Problem,
     encoded: &Encoded,
     budget: u64,
     asked: Option<ProofForm>,
+    watch: &mut X,
 ) -> Result<Output, Memory>
     requires well_formed { IsWellFormed problem.now }
     requires distinct { HasDistinctNames problem.now }
@@ -72,7 +76,7 @@ pub fn run_answer(
     requires budget { budget ≤ most_budget }
     ensures { IfOk result (λ output. AnswersRunAs asked budget problem.now (answer_of output)) }
 {
-    match run_within(alloc, problem, encoded, budget, budget, asked)? {
+    match run_within(alloc, problem, encoded, budget, budget, asked, watch)? {
         Course::Told(output) => Ok(output),
         Course::Cut(why) => unknown(alloc, cause(&why)),
     }

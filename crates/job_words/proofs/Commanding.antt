@@ -29,10 +29,10 @@ check_is = record { is_built = refl; whole = refl; places = (refl, (refl, refl))
 
 -- ---- each option once at most
 
-pub solve_once : (line : List Text) (file : Text) (n : ℕ) (a : Option ProofForm) (k : Bool) (names : NamesSolve line file n a k) → OnceEach solve_options names.us
-solve_once line file n a k names = (
+pub solve_once : (line : List Text) (file : Text) (n : ℕ) (a : Option ProofForm) (k v : Bool) (names : NamesSolve line file n a k v) → OnceEach solve_options names.us
+solve_once line file n a k v names = (
   budget_once (values_of (codes "budget") names.us) n names.budget_is,
-  (flag_once (times (codes "proof") names.us) (asks_whole a) names.proof_is, (flag_once (times (codes "short") names.us) (asks_short a) names.short_is, (flag_once (times (codes "calculus") names.us) k names.calculus_is, tt))),
+  (flag_once (times (codes "proof") names.us) (asks_whole a) names.proof_is, (flag_once (times (codes "short") names.us) (asks_short a) names.short_is, (flag_once (times (codes "calculus") names.us) k names.calculus_is, (flag_once (times (codes "counterexample") names.us) v names.shows_is, tt)))),
 )
 
 pub elim_once : (line : List Text) (file : Text) (n : ℕ) (names : NamesFile line file n) → OnceEach budget_option names.us
@@ -47,9 +47,10 @@ least_once line file term n names = (budget_once (values_of (codes "budget") nam
 abbrev pub Raised : Found → Text → Bool → Type 0
 Raised f name given = (one_text f name ≡ Some (codes "true") → given ≡ true) × (one_text f name ≡ Some (codes "false") → given ≡ false)
 
-pub solve_named : (line : List Text) (f : Found) (file : Text) (n : ℕ) (p s k : Bool) (a : Option ProofForm) → Finds (codes "FILE" ∷ []) solve_options line f → Some file ≡ first_value f (codes "FILE") → IsBudget (listed (first_value f (codes "budget"))) n
-    → Raised f (codes "proof") p → Raised f (codes "short") s → (asks_whole a ≡ p) × (asks_short a ≡ s) → Raised f (codes "calculus") k → NamesSolve line file n a k
-solve_named line f file n p s k a found is budget proof short asks calculus = record {
+pub solve_named : (line : List Text) (f : Found) (file : Text) (n : ℕ) (p s k v : Bool) (a : Option ProofForm) → Finds (codes "FILE" ∷ []) solve_options line f → Some file ≡ first_value f (codes "FILE") → IsBudget (listed (first_value f (codes "budget"))) n
+    → Raised f (codes "proof") p → Raised f (codes "short") s → (asks_whole a ≡ p) × (asks_short a ≡ s) → Raised f (codes "calculus") k → Raised f (codes "counterexample") v
+    → NamesSolve line file n a k v
+solve_named line f file n p s k v a found is budget proof short asks calculus shows = record {
   us = found.us;
   spells = found.spells;
   file_is = operand_is (codes "FILE") file solve_options line f found is;
@@ -57,6 +58,7 @@ solve_named line f file n p s k a found is budget proof short asks calculus = re
   proof_is = flag_is (codes "proof") (codes "FILE" ∷ []) solve_options line f p refl found proof.0 proof.1 ∙ ap tally (sym asks.0);
   short_is = flag_is (codes "short") (codes "FILE" ∷ []) solve_options line f s refl found short.0 short.1 ∙ ap tally (sym asks.1);
   calculus_is = flag_is (codes "calculus") (codes "FILE" ∷ []) solve_options line f k refl found calculus.0 calculus.1;
+  shows_is = flag_is (codes "counterexample") (codes "FILE" ∷ []) solve_options line f v refl found shows.0 shows.1;
 }
 
 -- not both forms are asked for
@@ -67,8 +69,8 @@ one_alone (Some Short) h = cc
 
 -- where both forms of the proof are asked for, the line names no job
 pub not_both : (line : List Text) (f : Found) (p s : Bool) → Finds (codes "FILE" ∷ []) solve_options line f → Raised f (codes "proof") p → Raised f (codes "short") s → (p && s) ≡ true
-    → (file : Text) (n : ℕ) (a : Option ProofForm) (k : Bool) → NamesSolve line file n a k → ⊥
-not_both line f p s found proof short both file n a k names =
+    → (file : Text) (n : ℕ) (a : Option ProofForm) (k v : Bool) → NamesSolve line file n a k v → ⊥
+not_both line f p s found proof short both file n a k v names =
     let us : names.us ≡ found.us = same_uses _ _ _ _ solve_is line names.us found.us names.spells found.spells in
     let proofs : asks_whole a ≡ p = one_flag (asks_whole a) p (sym names.proof_is ∙ ap (times (codes "proof")) us ∙ flag_is (codes "proof") (codes "FILE" ∷ []) solve_options line f p refl found proof.0 proof.1) in
     let shorts : asks_short a ≡ s = one_flag (asks_short a) s (sym names.short_is ∙ ap (times (codes "short")) us ∙ flag_is (codes "short") (codes "FILE" ∷ []) solve_options line f s refl found short.0 short.1) in

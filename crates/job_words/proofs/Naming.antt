@@ -13,7 +13,7 @@ use Rattle.job_words.proofs.Finds.{same_uses}
 
 -- the command of a job
 abbrev command_of : Task → Text
-command_of (solve file budget asked calculus) = codes "solve"
+command_of (solve file budget asked calculus shows) = codes "solve"
 command_of (eliminate file budget) = codes "elim"
 command_of (run_script file budget) = codes "smt"
 command_of (minimise file term budget) = codes "least"
@@ -21,8 +21,8 @@ command_of (check file proof) = codes "check"
 command_of (drill count budget) = codes "drill"
 
 -- behind a command stands a job of that command
-pub only_solve : (line : List Text) → ((f : Text) (n : ℕ) (a : Option ProofForm) (k : Bool) → NamesSolve line f n a k → ⊥) → (task : Task) → NamesJob (codes "solve" ∷ line) task → ⊥
-only_solve line none (solve f n a k) names = none f n a k names.1
+pub only_solve : (line : List Text) → ((f : Text) (n : ℕ) (a : Option ProofForm) (k v : Bool) → NamesSolve line f n a k v → ⊥) → (task : Task) → NamesJob (codes "solve" ∷ line) task → ⊥
+only_solve line none (solve f n a k v) names = none f n a k v names.1
 only_solve line none task names =
     let bad : true ≡ false = ap (bytes_eq (codes "solve")) names.0 in cc
 
@@ -69,15 +69,16 @@ same_form (Some Short) None h k = absurd cc
 same_form (Some Short) (Some Whole) h k = absurd cc
 same_form (Some Short) (Some Short) h k = refl
 
-one_solve : (line : List Text) (f g : Text) (n m : ℕ) (p q : Option ProofForm) (k l : Bool) → NamesSolve line f n p k → NamesSolve line g m q l → solve f n p k ≡ solve g m q l
-one_solve line f g n m p q k l a b =
+one_solve : (line : List Text) (f g : Text) (n m : ℕ) (p q : Option ProofForm) (k l v w : Bool) → NamesSolve line f n p k v → NamesSolve line g m q l w → solve f n p k v ≡ solve g m q l w
+one_solve line f g n m p q k l v w a b =
     let us = same_uses _ _ _ _ solve_is line a.us b.us a.spells b.spells in
     let file : f ≡ g = ap (λ l. slice_index_or l 0 []) (sym a.file_is ∙ ap operands us ∙ b.file_is) in
     let budget = one_budget (values_of (codes "budget") b.us) n m (subst (λ vs. IsBudget (values_of (codes "budget") vs) n) us a.budget_is) b.budget_is in
     let whole = one_flag (asks_whole p) (asks_whole q) (sym a.proof_is ∙ ap (times (codes "proof")) us ∙ b.proof_is) in
     let short = one_flag (asks_short p) (asks_short q) (sym a.short_is ∙ ap (times (codes "short")) us ∙ b.short_is) in
     let form = same_form p q whole short in
-    let calculus = one_flag k l (sym a.calculus_is ∙ ap (times (codes "calculus")) us ∙ b.calculus_is) in λ i. solve (file i) (budget i) (form i) (calculus i)
+    let calculus = one_flag k l (sym a.calculus_is ∙ ap (times (codes "calculus")) us ∙ b.calculus_is) in
+    let shows = one_flag v w (sym a.shows_is ∙ ap (times (codes "counterexample")) us ∙ b.shows_is) in λ i. solve (file i) (budget i) (form i) (calculus i) (shows i)
 
 one_elim : (line : List Text) (f g : Text) (n m : ℕ) → NamesFile line f n → NamesFile line g m → eliminate f n ≡ eliminate g m
 one_elim line f g n m a b =
@@ -113,7 +114,7 @@ one_drill line n m k l a b =
 
 pub one_job : (words : List Text) (a b : Task) → NamesJob words a → NamesJob words b → a ≡ b
 one_job [] a b x y = absurd x
-one_job (command ∷ line) (solve f n p k) (solve g m q l) x y = one_solve line f g n m p q k l x.1 y.1
+one_job (command ∷ line) (solve f n p k v) (solve g m q l w) x y = one_solve line f g n m p q k l v w x.1 y.1
 one_job (command ∷ line) (eliminate f n) (eliminate g m) x y = one_elim line f g n m x.1 y.1
 one_job (command ∷ line) (run_script f n) (run_script g m) x y = one_smt line f g n m x.1 y.1
 one_job (command ∷ line) (minimise f t n) (minimise g u m) x y = one_least line f g t u n m x.1 y.1

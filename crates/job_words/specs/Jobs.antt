@@ -8,12 +8,11 @@ use Rattle.job_words.specs.declared.jobs.Job.{Job}
 use Rattle.job_words.specs.declared.jobs.Job.TheVariants as job
 use Rattle.job_words.specs.Uses.{Text, Use, Options, Spells, operands, tally, times, values_of}
 
--- A job by the bytes of its words. It solves the problem in a file, with its proof in a form or without, and by the calculus alone where that
--- is asked for; gives its constraint; answers
--- the checks of the script in a file; gives the least value of a term where a problem holds; checks the proof in a file; or solves the
+-- A job by the bytes of its words. It solves the problem in a file, with its proof in a form or without, by the calculus alone where that is
+-- asked for, and with values that refute it where they are; gives its constraint; answers the checks of the script in a file; gives the least value of a term where a problem holds; checks the proof in a file; or solves the
 -- problem of a size that the program makes. All but checking a proof have a budget, a script's checks one each.
 pub data Task : Type 0 where
-  solve : (file : Text) → (budget : ℕ) → (asked : Option ProofForm) → (calculus : Bool) → Task
+  solve : (file : Text) → (budget : ℕ) → (asked : Option ProofForm) → (calculus shows : Bool) → Task
   eliminate : (file : Text) → (budget : ℕ) → Task
   run_script : (file : Text) → (budget : ℕ) → Task
   minimise : (file term : Text) → (budget : ℕ) → Task
@@ -22,7 +21,7 @@ pub data Task : Type 0 where
 
 -- a job as its words
 abbrev pub task_of : Job → Task
-task_of (job.Solve file budget asked calculus) = solve (string_bytes file) budget asked calculus
+task_of (job.Solve file budget asked calculus shows) = solve (string_bytes file) budget asked calculus shows
 task_of (job.Elim file budget) = eliminate (string_bytes file) budget
 task_of (job.Smt file budget) = run_script (string_bytes file) budget
 task_of (job.Least file term budget) = minimise (string_bytes file) (string_bytes term) budget
@@ -31,7 +30,7 @@ task_of (job.Drill count budget) = drill count budget
 
 -- the files that a job reads, in their order
 abbrev pub files_of : Task → List Text
-files_of (solve file budget asked calculus) = file ∷ []
+files_of (solve file budget asked calculus shows) = file ∷ []
 files_of (eliminate file budget) = file ∷ []
 files_of (run_script file budget) = file ∷ []
 files_of (minimise file term budget) = file ∷ []
@@ -60,9 +59,9 @@ budget_option = (codes "budget", true) ∷ []
 abbrev pub proof_options : Options
 proof_options = (codes "budget", true) ∷ (codes "proof", false) ∷ (codes "short", false) ∷ []
 
--- the options of `solve`: these, and a flag for the calculus alone
+-- the options of `solve`: these, a flag for the calculus alone, and one for a counterexample wherever there is one
 abbrev pub solve_options : Options
-solve_options = (codes "budget", true) ∷ (codes "proof", false) ∷ (codes "short", false) ∷ (codes "calculus", false) ∷ []
+solve_options = (codes "budget", true) ∷ (codes "proof", false) ∷ (codes "short", false) ∷ (codes "calculus", false) ∷ (codes "counterexample", false) ∷ []
 
 -- the proof is asked for in the first format
 abbrev pub asks_whole : Option ProofForm → Bool
@@ -76,8 +75,9 @@ asks_short None = false
 asks_short (Some Whole) = false
 asks_short (Some Short) = true
 
--- the words behind `solve` name a file and a budget, and ask for the proof by the flag of its form, and for the calculus alone by its flag
-pub record NamesSolve (line : List Text) (file : Text) (budget : ℕ) (asked : Option ProofForm) (calculus : Bool) : Type 0 where
+-- the words behind `solve` name a file and a budget, and ask for the proof by the flag of its form, for the calculus alone by its flag, and
+-- for a counterexample by its flag
+pub record NamesSolve (line : List Text) (file : Text) (budget : ℕ) (asked : Option ProofForm) (calculus shows : Bool) : Type 0 where
   pub us : List Use
   pub spells : Spells solve_options line us
   pub file_is : operands us ≡ file ∷ []
@@ -85,8 +85,9 @@ pub record NamesSolve (line : List Text) (file : Text) (budget : ℕ) (asked : O
   pub proof_is : times (codes "proof") us ≡ tally (asks_whole asked)
   pub short_is : times (codes "short") us ≡ tally (asks_short asked)
   pub calculus_is : times (codes "calculus") us ≡ tally calculus
+  pub shows_is : times (codes "counterexample") us ≡ tally shows
 
--- the words behind `elim`, or behind `smt`, name a file and a budget
+-- the words behind `elim` or `smt` name a file and a budget
 pub record NamesFile (line : List Text) (file : Text) (budget : ℕ) : Type 0 where
   pub us : List Use
   pub spells : Spells budget_option line us
@@ -118,7 +119,7 @@ pub record NamesDrill (line : List Text) (count budget : ℕ) : Type 0 where
 -- the words name the job
 abbrev pub NamesJob : List Text → Task → Type 0
 NamesJob [] task = ⊥
-NamesJob (command ∷ line) (solve file budget asked calculus) = (command ≡ codes "solve") × NamesSolve line file budget asked calculus
+NamesJob (command ∷ line) (solve file budget asked calculus shows) = (command ≡ codes "solve") × NamesSolve line file budget asked calculus shows
 NamesJob (command ∷ line) (eliminate file budget) = (command ≡ codes "elim") × NamesFile line file budget
 NamesJob (command ∷ line) (run_script file budget) = (command ≡ codes "smt") × NamesFile line file budget
 NamesJob (command ∷ line) (minimise file term budget) = (command ≡ codes "least") × NamesLeast line file term budget

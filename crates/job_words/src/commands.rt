@@ -10,7 +10,7 @@ use clap::error::ErrorKind;
 use clap::{Arg, ArgAction, ArgMatches, Command};
 use std::alloc::{AllocError, Global};
 
-// `solve FILE [--budget N] [--proof] [--short] [--calculus]`; `clap` lets the first two flags through together.
+// `solve FILE [--budget N] [--proof] [--short] [--calculus] [--counterexample]`; `clap` lets the first two flags through together.
 pub(crate) fn solve_command<'a>(alloc: Global) -> Result<Command<'a>, AllocError>
     ensures { IfOk result (λ c. app_of c ≡ command_app (codes "solve") (codes "FILE" ∷ []) solve_options) }
 {
@@ -18,7 +18,10 @@ pub(crate) fn solve_command<'a>(alloc: Global) -> Result<Command<'a>, AllocError
     let calculus = Arg::new(alloc, "calculus")
         .long("calculus")
         .action(ArgAction::SetTrue);
-    command.arg(calculus)
+    let shows = Arg::new(alloc, "counterexample")
+        .long("counterexample")
+        .action(ArgAction::SetTrue);
+    command.arg(calculus)?.arg(shows)
 }
 
 // `solve FILE [--budget N] [--proof] [--short]`

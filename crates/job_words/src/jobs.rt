@@ -9,12 +9,14 @@ use std::alloc::AllocError;
 #[derive(Debug, Drop)]
 pub enum Job {
     /// To say whether the problem in this file is valid, within a budget, and with its proof in a form, where one is asked for; by the
-    /// canonical run of the calculus alone, where that is asked for.
+    /// canonical run of the calculus alone, where that is asked for; and with values that refute it, also where it has neither predicates
+    /// nor functions, where they are asked for.
     Solve {
         file: String,
         budget: u64,
         asked: Option<ProofForm>,
         calculus: bool,
+        shows: bool,
     },
     /// To give the constraint of the problem in this file, within a budget.
     Elim {

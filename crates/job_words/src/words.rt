@@ -44,7 +44,7 @@ pub fn words_law()
     ensures { (words : List Text) (a : Task) (b : Task) → NamesJob words a → NamesJob words b → a ≡ b }
 {}
 
-// `solve FILE [--budget N] [--proof] [--short] [--calculus]`, with one of the first two flags at most
+// `solve FILE [--budget N] [--proof] [--short] [--calculus] [--counterexample]`, with one of the first two flags at most
 fn solve_job(alloc: Global, line: &[String]) -> Result<Job, WordsFault>
     ensures named { IfOk result (λ job. NamesJob (codes "solve" ∷ map string_bytes line.now) (task_of job)) }
     ensures refused { IfErr result (λ e. e ≡ WordsFault.Words → (task : Task) → NamesJob (codes "solve" ∷ map string_bytes line.now) task → ⊥) }
@@ -56,11 +56,13 @@ fn solve_job(alloc: Global, line: &[String]) -> Result<Job, WordsFault>
     let short = matches.get_flag("short");
     let asked = asked_form(whole, short)?;
     let calculus = matches.get_flag("calculus");
+    let shows = matches.get_flag("counterexample");
     Ok(Job::Solve {
         file,
         budget,
         asked,
         calculus,
+        shows,
     })
 }
 

@@ -5,7 +5,7 @@ pub(crate) const VERSION: &str = "version: 0.9.0\n";
 
 /// What `princess --help` prints.
 pub(crate) const HELP: &str = "\
-usage: princess solve FILE [--budget N] [--proof | --short] [--calculus]
+usage: princess solve FILE [--budget N] [--proof | --short] [--calculus] [--counterexample]
                                                              whether the problem of a file is valid
        princess check FILE PROOF                             whether a text proves something of the problem
        princess elim FILE [--budget N]                       the exact constraint of a problem of arithmetic
@@ -14,11 +14,17 @@ usage: princess solve FILE [--budget N] [--proof | --short] [--calculus]
        princess drill COUNT [--budget N]                     answers a made problem of COUNT parts, 1 to 1,000
        princess help | --help | -h | --version               this text; the version
        princess COMMAND --help                               this text
+       princess solve --vacuous FILE ..                      also whether its assumptions contradict one another
+       princess solve --proof-to PROOF FILE ..               the proof goes to a file of its own
        princess --quiet ..                                   nothing on standard error
+       princess --stats ..                                   what the run did, on standard error
+       princess --progress ..                                how far the run is, on standard error
+       princess --json ..                                    one object in place of the text (docs/JSON.md)
 
 N is from 1 to 1,000,000,000, and 50,000,000 where none is given. PROOF may be the whole output of `solve --proof` or
 `solve --short`. The word - as FILE or PROOF is the standard input; ./- is a file of that name.
 --calculus asks for the canonical run alone, without the clause search that takes over where that run is long.
+--counterexample shows values that refute a problem of arithmetic too, where it has no existential constants.
 
 Status  Standard output                      Meaning
 0       VALID ..                             holds; with existential constants: at SOME values, those of the line constraint

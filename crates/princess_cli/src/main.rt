@@ -10,17 +10,25 @@ mod help;
 mod request;
 
 use crate::help::{HELP, VERSION};
-use crate::request::{Request, read_request};
+use crate::request::{Manner, Request, read_request};
 use base_answers::put_all;
 use base_answers::status::{NO_MEMORY, SINK_FAILED, VALID};
+use base_watch::Unwatched;
 use form_typed::{Table, World};
+use job_counts::{Counts, Statistics};
+use job_json::{Head, JsonSink};
 use prover_input::SystemSource;
 use prover_io::{OutSink, Sink, Source};
 use prover_job::run;
-use prover_notes::{KeptSink, KeptSource, NamedFiles, SystemFiles, put_notes, put_unread_words};
+use prover_notes::{
+    KeptSink, KeptSource, Lines, Message, NamedFiles, Nowhere, Reporter, Second, SystemFiles,
+    Vacuity, greatest_memory, messages, named_file, put_messages, put_output_failed, put_stats,
+    put_unread_words, second_question,
+};
+use prover_output::{FileSink, SplitSink};
 use std::alloc::{AllocError, Global};
 use std::env;
-use std::io::ErrorKind;
+use std::io::{ErrorKind, IsTerminal};
 use std::process::ExitCode;
 
 /// The status where the words cannot be read from the system; the top call never answers it.
@@ -44,10 +52,17 @@ fn status(rt: &HostRuntime) -> u8 {
     let Ok(words) = words else {
         return NO_MEMORY;
     };
-    match read_request(words.as_slice()) {
-        Request::Help => print(rt, HELP),
-        Request::Version => print(rt, VERSION),
-        Request::Run { words, is_quiet } => answer(rt, words, is_quiet),
+    match read_request(rt.alloc(), words) {
+        Ok(Request::Help) => print(rt, HELP),
+        Ok(Request::Version) => print(rt, VERSION),
+        Ok(Request::Run { words, manner }) => {
+            if manner.is_json {
+                answer_json(rt, words.as_slice(), &manner)
+            } else {
+                answer(rt, words.as_slice(), &manner)
+            }
+        }
+        Err(_) => NO_MEMORY,
     }
 }
 
@@ -59,7 +74,7 @@ fn print(rt: &HostRuntime, text: &str) -> u8 {
     }
 }
 
-/// Whether the environment turns the notes off.
+/// Whether the environment turns the messages off.
 fn is_quiet_around(rt: &HostRuntime) -> bool {
     match env::var(rt, "PRINCESS_QUIET") {
         Ok(value) => !value.is_empty(),
@@ -67,45 +82,186 @@ fn is_quiet_around(rt: &HostRuntime) -> bool {
     }
 }
 
-/// Does the job that words name, with notes on standard error unless they are turned off, and answers the exit status.
-fn answer(rt: &HostRuntime, words: &[String], is_quiet: bool) -> u8 {
+/// How lines on the progress of a run are put to standard error.
+fn progress_lines(rt: &HostRuntime, manner: &Manner) -> Lines {
+    if !manner.is_progress {
+        Lines::None
+    } else if rt.stderr().is_terminal() {
+        Lines::Over
+    } else {
+        Lines::Below
+    }
+}
+
+/// The file to which the proof goes, if it goes to one.
+fn proof_file<'a>(rt: &'a HostRuntime, manner: &'a Manner) -> Option<FileSink<'a, HostRuntime>> {
+    match &manner.proof_file {
+        Some(path) => Some(FileSink::new(rt, path.as_str())),
+        None => None,
+    }
+}
+
+/// Does the job that words name, with messages on standard error unless they are turned off, and answers the exit status.
+fn answer<'x>(rt: &'x HostRuntime, words: &[String], manner: &'x Manner) -> u8 {
     let alloc = rt.alloc();
     let mut source = KeptSource::new(alloc, SystemSource::new(alloc, rt));
-    let mut sink = KeptSink::new(alloc, OutSink::new(rt));
+    let parted = SplitSink::new(OutSink::new(rt), proof_file(rt, manner));
+    let mut sink = KeptSink::new(alloc, parted);
     let world = Table::empty(alloc);
-    if is_quiet || is_quiet_around(rt) {
-        return run(alloc, words, &mut source, &mut sink, &world);
+    if manner.is_quiet || is_quiet_around(rt) {
+        return run(alloc, words, &mut source, &mut sink, &world, &mut Unwatched);
     }
     let files = SystemFiles::new(alloc, rt);
     let errors = rt.stderr();
     let mut noted = OutSink::new(&errors);
-    run_with_notes(
+    let progress = progress_lines(rt, manner);
+    let mut reporter = Reporter::new(alloc, OutSink::new(&errors), progress);
+    let status = run_with_notes(
         alloc,
         words,
+        manner.is_vacuous,
         &mut source,
         &mut sink,
         &world,
         &files,
         &mut noted,
-    )
+        &mut reporter,
+    );
+    if manner.is_stats {
+        let statistics = Statistics {
+            counts: reporter.counts(),
+            memory: greatest_memory(alloc, rt),
+        };
+        put_stats(alloc, words, &statistics, &source, &mut noted);
+    }
+    status
 }
 
-/// Does the job that words name, puts notes on it to a sink of their own, and answers the exit status. Notes change neither the
-/// status nor what is put to the sink of the answer.
-fn run_with_notes<S: Source, K: Sink, W: World, F: NamedFiles, N: Sink>(
+/// Does the job that words name, puts the lines of its messages to a sink of their own, and answers the exit status. Messages
+/// change neither the status nor what is put to the sink of the answer, and no more does who watches.
+fn run_with_notes<S: Source, K: Sink, W: World, F: NamedFiles, N: Sink, M: Sink>(
     alloc: Global,
     words: &[String],
+    is_vacuous: bool,
     source: &mut KeptSource<S>,
     sink: &mut KeptSink<K>,
     world: &W,
     files: &F,
     noted: &mut N,
+    reporter: &mut Reporter<M>,
 ) -> u8
     ensures answered { (task : Task) → AskFor words.now task
         → Meets (AnswersTask (⟦<KeptSource<S> as Source>⟧.bytes_of source.old) task) result
         (⟦<KeptSink<K> as Sink>⟧.taken sink.old) (⟦<KeptSink<K> as Sink>⟧.taken sink.new) }
 {
-    let status = run(alloc, words, source, sink, world);
-    put_notes(alloc, words, status, source, sink, files, noted);
+    let status = run(alloc, words, source, sink, world, reporter);
+    reporter.clear();
+    let counts = reporter.counts();
+    let told = told(
+        alloc, words, status, is_vacuous, counts, source, sink, world, files,
+    );
+    put_messages(alloc, told.as_slice(), noted);
     status
+}
+
+/// The messages that go with an answer.
+fn told<S: Source, K: Sink, W: World, F: NamedFiles>(
+    alloc: Global,
+    words: &[String],
+    status: u8,
+    is_vacuous: bool,
+    counts: &Counts,
+    source: &KeptSource<S>,
+    sink: &KeptSink<K>,
+    world: &W,
+    files: &F,
+) -> Vec<Message> {
+    let vacuity = if is_vacuous && status == VALID {
+        vacuity(alloc, words, source.text(0), world)
+    } else {
+        Vacuity::Unasked
+    };
+    messages(alloc, words, status, vacuity, counts, source, sink, files)
+}
+
+/// Whether the assumptions of the problem in a file with these bytes contradict one another: that is what a second run says.
+fn vacuity<W: World>(alloc: Global, words: &[String], text: Option<&[u8]>, world: &W) -> Vacuity {
+    match second_question(alloc, words, text) {
+        Ok(Second::Known(vacuity)) => vacuity,
+        Ok(Second::Asked { words, source, at }) => {
+            let mut source = source;
+            let status = run(
+                alloc,
+                words.as_slice(),
+                &mut source,
+                &mut Nowhere,
+                world,
+                &mut Unwatched,
+            );
+            Vacuity::by(status, at)
+        }
+        Err(_) => Vacuity::Unasked,
+    }
+}
+
+/// Does the job that words name, puts one object in place of the text to standard output, and answers the exit status.
+fn answer_json<'x>(rt: &'x HostRuntime, words: &[String], manner: &'x Manner) -> u8 {
+    let alloc = rt.alloc();
+    let Ok(head) = head(alloc, words) else {
+        return NO_MEMORY;
+    };
+    let mut source = KeptSource::new(alloc, SystemSource::new(alloc, rt));
+    let parted = SplitSink::new(
+        JsonSink::new(alloc, OutSink::new(rt), head),
+        proof_file(rt, manner),
+    );
+    let mut sink = KeptSink::new(alloc, parted);
+    let world = Table::empty(alloc);
+    let files = SystemFiles::new(alloc, rt);
+    let errors = rt.stderr();
+    let progress = progress_lines(rt, manner);
+    let mut reporter = Reporter::new(alloc, OutSink::new(&errors), progress);
+    let status = run(alloc, words, &mut source, &mut sink, &world, &mut reporter);
+    reporter.clear();
+    let counts = reporter.counts();
+    let told = told(
+        alloc,
+        words,
+        status,
+        manner.is_vacuous,
+        counts,
+        &source,
+        &sink,
+        &world,
+        &files,
+    );
+    let statistics = Statistics {
+        counts,
+        memory: greatest_memory(alloc, rt),
+    };
+    let asked = if manner.is_stats {
+        Some(&statistics)
+    } else {
+        None
+    };
+    let mut object = sink.into_sink().into_answer();
+    if status != SINK_FAILED && object.finish(status, told.as_slice(), asked).is_ok() {
+        return status;
+    }
+    if !manner.is_quiet && !is_quiet_around(rt) {
+        put_output_failed(alloc, &mut OutSink::new(&errors));
+    }
+    SINK_FAILED
+}
+
+/// What the first members of the object say: the command, and the file that a job reads.
+fn head(alloc: Global, words: &[String]) -> Result<Head, AllocError> {
+    let command = match words.first() {
+        Some(word) => Some(String::from_str(alloc, word.as_str())?),
+        None => None,
+    };
+    Ok(Head {
+        command,
+        file: named_file(alloc, words)?,
+    })
 }

@@ -1,31 +1,188 @@
 // What the words of the command line ask for, before the top call sees them.
 
+use std::alloc::{AllocError, Global};
+
+/// How a job is told of.
+#[derive(Drop)]
+pub(crate) struct Manner {
+    /// Nothing goes to standard error.
+    pub(crate) is_quiet: bool,
+    /// One object of JSON goes to standard output in place of the text.
+    pub(crate) is_json: bool,
+    /// It is also asked whether the assumptions contradict one another.
+    pub(crate) is_vacuous: bool,
+    /// What the run did is told behind it.
+    pub(crate) is_stats: bool,
+    /// How far the run is, is told while it goes on.
+    pub(crate) is_progress: bool,
+    /// The proof goes to the file of this name.
+    pub(crate) proof_file: Option<String>,
+}
+
+impl Manner {
+    /// The text alone goes to standard output, and messages to standard error.
+    const USUAL: Manner = Manner {
+        is_quiet: false,
+        is_json: false,
+        is_vacuous: false,
+        is_stats: false,
+        is_progress: false,
+        proof_file: None,
+    };
+}
+
 /// What is asked for.
-#[derive(Clone, Copy)]
-pub(crate) enum Request<'a> {
+#[derive(Drop)]
+pub(crate) enum Request {
     /// The text of help.
     Help,
     /// The version.
     Version,
-    /// The job that these words name, with notes on standard error or without.
-    Run { words: &'a [String], is_quiet: bool },
+    /// The job that these words name.
+    Run { words: Vec<String>, manner: Manner },
 }
 
-/// What these words ask for. `--quiet` as the first word turns the notes off.
-pub(crate) fn read_request<'a>(words: &'a [String]) -> Request<'a> {
-    let (words, is_quiet) = match words.split_first() {
-        Some((first, rest)) if first.as_str() == "--quiet" => (rest, true),
-        _ => (words, false),
+/// What these words ask for. `--quiet`, `--json`, `--stats` and `--progress` stand before the command, in any order, and all but the
+/// first also behind it; `--vacuous` and `--proof-to FILE` stand behind `solve`. They are taken out, so the top call sees the other
+/// words, and `--proof` where a proof goes to a file and no form of it is asked for.
+pub(crate) fn read_request(alloc: Global, words: Vec<String>) -> Result<Request, AllocError> {
+    let mut manner = Manner::USUAL;
+    let mut left = Vec::new(alloc);
+    let mut place = Place::Front;
+    for word in words {
+        if place == Place::ProofFile {
+            manner.proof_file = Some(word);
+            place = Place::Options { is_solve: true };
+        } else if takes_file(&manner, place, word.as_str()) {
+            place = Place::ProofFile;
+        } else if let Some(file) = file_behind(&manner, place, word.as_str()) {
+            manner.proof_file = Some(String::from_str(alloc, file)?);
+        } else if !takes(&mut manner, place, word.as_str()) {
+            place = place.behind(word.as_str());
+            left.push(word)?;
+        }
+    }
+    if place == Place::ProofFile {
+        left.push(String::from_str(alloc, WITHOUT_FILE)?)?;
+    }
+    if let Some(text) = asked_text(left.as_slice()) {
+        return Ok(match text {
+            Text::Help => Request::Help,
+            Text::Version => Request::Version,
+        });
+    }
+    let words = if manner.proof_file.is_some() {
+        with_proof(alloc, left)?
+    } else {
+        left
     };
-    let Some((first, rest)) = words.split_first() else {
-        return Request::Run { words, is_quiet };
+    Ok(Request::Run { words, manner })
+}
+
+/// The option before the name of the file to which a proof goes, and the same where no name stands behind it: no job has it.
+const PROOF_FILE: &str = "--proof-to";
+
+const WITHOUT_FILE: &str = "--proof-to=";
+
+/// Whether a word is that option, where it stands for the first time.
+fn takes_file(manner: &Manner, place: Place, word: &str) -> bool {
+    let is_solve = place == Place::Options { is_solve: true };
+    is_solve && word == PROOF_FILE && manner.proof_file.is_none()
+}
+
+/// The name of that file, where it stands behind the option and a sign =.
+fn file_behind<'a>(manner: &Manner, place: Place, word: &'a str) -> Option<&'a str> {
+    let is_solve = place == Place::Options { is_solve: true };
+    if !is_solve || manner.proof_file.is_some() {
+        return None;
+    }
+    match word.strip_prefix(WITHOUT_FILE) {
+        Some("") | None => None,
+        Some(file) => Some(file),
+    }
+}
+
+/// The same words with `--proof` behind the first of them, unless they ask for a form of the proof.
+fn with_proof(alloc: Global, words: Vec<String>) -> Result<Vec<String>, AllocError> {
+    let asks = words.iter().any(|word| word.as_str() == "--proof" || word.as_str() == "--short");
+    if asks {
+        return Ok(words);
+    }
+    let mut all = Vec::new(alloc);
+    for word in words {
+        let is_first = all.is_empty();
+        all.push(word)?;
+        if is_first {
+            all.push(String::from_str(alloc, "--proof")?)?;
+        }
+    }
+    Ok(all)
+}
+
+/// Where a word stands.
+#[derive(Clone, Copy, PartialEq, Eq)]
+enum Place {
+    /// Before the command.
+    Front,
+    /// Behind a command, where options stand.
+    Options { is_solve: bool },
+    /// Where the value of an option stands.
+    Value { is_solve: bool },
+    /// Where the name of the file stands to which a proof goes.
+    ProofFile,
+    /// Behind a word `--`.
+    Operands,
+}
+
+impl Place {
+    /// The place behind this word, which stands here.
+    fn behind(self, word: &str) -> Place {
+        match (self, word) {
+            (Place::Front, _) => Place::Options {
+                is_solve: word == "solve",
+            },
+            (Place::Options { .. }, "--") | (Place::Operands, _) => Place::Operands,
+            (Place::Options { is_solve }, "--budget") => Place::Value { is_solve },
+            (Place::Options { is_solve } | Place::Value { is_solve }, _) => Place::Options {
+                is_solve,
+            },
+            (Place::ProofFile, _) => Place::Options { is_solve: true },
+        }
+    }
+}
+
+/// Whether a word is taken out where it stands; then it is noted what it asks for.
+fn takes(manner: &mut Manner, place: Place, word: &str) -> bool {
+    let flag = match (place, word) {
+        (Place::Front, "--quiet") => &mut manner.is_quiet,
+        (Place::Front | Place::Options { .. }, "--json") => &mut manner.is_json,
+        (Place::Front | Place::Options { .. }, "--stats") => &mut manner.is_stats,
+        (Place::Front | Place::Options { .. }, "--progress") => &mut manner.is_progress,
+        (Place::Options { is_solve: true }, "--vacuous") => &mut manner.is_vacuous,
+        _ => return false,
     };
+    let is_first = !*flag;
+    *flag = true;
+    is_first
+}
+
+/// A text that the program prints of itself.
+#[derive(Clone, Copy)]
+enum Text {
+    Help,
+    Version,
+}
+
+/// The text that words ask for, if they ask for one.
+fn asked_text(words: &[String]) -> Option<Text> {
+    let (first, rest) = words.split_first()?;
     match first.as_str() {
-        "help" | "--help" | "-h" => Request::Help,
-        "version" | "--version" => Request::Version,
-        "solve" | "check" | "elim" | "least" | "smt" | "drill" if asks_for_help(rest) =>
-            Request::Help,
-        _ => Request::Run { words, is_quiet },
+        "help" | "--help" | "-h" => Some(Text::Help),
+        "version" | "--version" => Some(Text::Version),
+        "solve" | "check" | "elim" | "least" | "smt" | "drill" if asks_for_help(rest) => Some(
+            Text::Help,
+        ),
+        _ => None,
     }
 }
 

@@ -7,7 +7,7 @@ use Rattle.job_check.specs.Checked.{IsChecked}
 use Rattle.job_check.specs.Exactly.{IsCutAnswer}
 use Rattle.job_decide.specs.Decided.{IsDecidedAs}
 use Rattle.prover_job.specs.Runs.{AnswersWithProof, HasProof}
-use Rattle.prover_job.proofs.Output.{decided_output}
+use Rattle.prover_job.proofs.Deciding.{decided_output}
 
 abbrev status_of : Answer → ℕ
 status_of a = a.status
@@ -24,13 +24,13 @@ checked_there proof file b small few s = by_file s.bytes s.whole s.is
     by_file bytes is (too_long l e) = absurd (omega (arith, l, small, ap length is))
     by_file bytes is (within l k) = by_proof k.bytes bytes k.whole is k.is
 
-pub accepted : (form : ProofForm) (calculus : Bool) (budget : ℕ) (file : List ℕ) (a b : Answer) → AnswersSource most_of_file (IsDecidedAs calculus (Some form) budget) (Some file) a
+pub accepted : (form : ProofForm) (calculus shows : Bool) (budget : ℕ) (file : List ℕ) (a b : Answer) → AnswersSource most_of_file (IsDecidedAs calculus shows (Some form) budget) (Some file) a
     → HasProof calculus budget file a → length a.text ≤ most_of_proof → AnswersSource most_of_file (AnswersWithProof (Some a.text)) (Some file) b → (b.status ≡ 0) ⊎ ((calculus ≡ false) × IsCutAnswer b)
-accepted form calculus budget file a b solved known short checked = by_size solved.bytes solved.whole solved.is known
+accepted form calculus shows budget file a b solved known short checked = by_size solved.bytes solved.whole solved.is known
   where
-    by_size : (bytes : List ℕ) → bytes ≡ file → AnswersBytes most_of_file (IsDecidedAs calculus (Some form) budget) bytes a → HasProof calculus budget file a → (b.status ≡ 0) ⊎ ((calculus ≡ false) × IsCutAnswer b)
+    by_size : (bytes : List ℕ) → bytes ≡ file → AnswersBytes most_of_file (IsDecidedAs calculus shows (Some form) budget) bytes a → HasProof calculus budget file a → (b.status ≡ 0) ⊎ ((calculus ≡ false) × IsCutAnswer b)
     by_size bytes is (too_long l e) (inl z) = let bad = sym z ∙ ap status_of e in absurd cc
     by_size bytes is (too_long l e) (inr z) = let bad = sym z.0 ∙ ap status_of e in absurd cc
     by_size bytes is (within l h) so =
         let small : length file ≤ most_of_file = subst (λ z. length z ≤ most_of_file) is l in
-        decided_output form calculus budget file a b (subst (λ z. IsDecidedAs calculus (Some form) budget z a) is h) so (checked_there a.text file b small short checked)
+        decided_output form calculus shows budget file a b (subst (λ z. IsDecidedAs calculus shows (Some form) budget z a) is h) so (checked_there a.text file b small short checked)

@@ -5,3 +5,5 @@ mod TypedInner
 mod Output
 mod Opening
 mod Accepting
+mod ValueLines
+mod Deciding

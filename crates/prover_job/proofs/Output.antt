@@ -28,8 +28,8 @@ use Rattle.job_solve.specs.Explained.{AnswersSaturated}
 use Rattle.clause_file.specs.Verdicts.{HoldsClauseProof}
 use Rattle.form_encoding.specs.Problems.{problem_root}
 use Rattle.job_clauses.specs.Judged.{IsClauseFile}
-use Rattle.job_decide.specs.Causes.{IsRefutedEarly}
-use Rattle.job_decide.specs.Decided.{AnswersProved, IsDecidedAs, canonical, proved as by_clauses, refuted as by_model}
+use Rattle.job_decide.specs.Causes.{IsRefutedByModel}
+use Rattle.job_decide.specs.Decided.{AnswersProved}
 use Rattle.prover_job.specs.Runs as words
 use Rattle.job_solve.specs.Proved.{IsImpure, IsParted, IsSolvedAs, PrintsProofOf, ProvesInvalid}
 use Rattle.base_answers.specs.declared.form.ProofForm.{ProofForm}
@@ -43,10 +43,10 @@ use Rattle.prover_job.proofs.Lines.{AreInner, IsOfLines, IsPassed, inner_append,
 use Rattle.prover_job.proofs.Printed.{dnf_inner, solution_inner}
 use Rattle.prover_job.proofs.TypedInner.{formula_inner}
 
-abbrev status_of : Answer → ℕ
+abbrev pub status_of : Answer → ℕ
 status_of a = a.status
 
-abbrev text_of : Answer → List ℕ
+abbrev pub text_of : Answer → List ℕ
 text_of a = a.text
 
 -- ---- the lines before the proof
@@ -135,7 +135,7 @@ solved_lines budget bytes a (posed p h (runs f k)) good = end_lines budget bytes
 -- ---- the proof behind them
 
 -- behind such lines, what is printed of a proof is the part of the file that holds it
-whole_accepted : (form : ProofForm) (bytes text part : List ℕ) (v : Verdict) → IsOfLines text → PrintsProofOf form bytes v part → (b : Answer) → IsChecked (text ++ part) bytes b → b.status ≡ 0
+pub whole_accepted : (form : ProofForm) (bytes text part : List ℕ) (v : Verdict) → IsOfLines text → PrintsProofOf form bytes v part → (b : Answer) → IsChecked (text ++ part) bytes b → b.status ≡ 0
 whole_accepted form bytes text part v lines h b is =
     let printed = h.prints in
     let same : body (text ++ part) ≡ printed.text = ap (λ t. body (text ++ t)) printed.line ∙ part_after text printed.text lines in
@@ -148,7 +148,7 @@ whole_accepted form bytes text part v lines h b is =
       proves = h.proves;
     })
 
-its_proof : (form : ProofForm) (bytes part : List ℕ) → ProvesInvalid form bytes part → ¬ (PosesOne bytes IsImpure) → PrintsProofOf form bytes Invalid part
+pub its_proof : (form : ProofForm) (bytes part : List ℕ) → ProvesInvalid form bytes part → ¬ (PosesOne bytes IsImpure) → PrintsProofOf form bytes Invalid part
 its_proof form bytes part (inl h) pure = h
 its_proof form bytes part (inr h) pure = absurd (pure h.1)
 
@@ -188,32 +188,22 @@ clauses_accepted bytes p text file poses fits alone lines h b is =
     } in
     (decided whole bytes b p is poses fits).clauses (record { values = []; holds = subst (λ n. HoldsClauseProof (problem_root p).value n whole []) (sym (ap length alone)) held })
 
-proved_accepted : (form : ProofForm) (budget : ℕ) (bytes : List ℕ) (p : Problem) (a b : Answer) → Poses bytes p → Fits p → AnswersProved (Some form) budget p a → IsChecked a.text bytes b → (b.status ≡ 0) ⊎ IsCutAnswer b
+pub proved_accepted : (form : ProofForm) (budget : ℕ) (bytes : List ℕ) (p : Problem) (a b : Answer) → Poses bytes p → Fits p → AnswersProved (Some form) budget p a → IsChecked a.text bytes b → (b.status ≡ 0) ⊎ IsCutAnswer b
 proved_accepted form budget bytes p a b poses fits h is =
     clauses_accepted bytes p (closed_answer h.blocks).text h.file poses fits h.early.alone (closed_lines bytes p _ h.blocks poses h.lines) h.proof b
     (subst (λ t. IsChecked t bytes b) (ap text_of h.whole) is)
 
-so_or_cut : {n : ℕ} {C K : Type 0} → K → (n ≡ 0) ⊎ C → (n ≡ 0) ⊎ (K × C)
+pub so_or_cut : {n : ℕ} {C K : Type 0} → K → (n ≡ 0) ⊎ C → (n ≡ 0) ⊎ (K × C)
 so_or_cut k (inl z) = inl z
 so_or_cut k (inr c) = inr (k, c)
 
 -- an answer of the canonical run has its proof
-has_proof : (calculus : Bool) (budget : ℕ) (bytes : List ℕ) (a : Answer) → words.HasProof calculus budget bytes a → HasProof bytes a
+pub has_proof : (calculus : Bool) (budget : ℕ) (bytes : List ℕ) (a : Answer) → words.HasProof calculus budget bytes a → HasProof bytes a
 has_proof calculus budget bytes a (inl z) = inl z
 has_proof calculus budget bytes a (inr h) = inr (h.0, h.1)
 
 -- one by a model has none
-no_model : (calculus : Bool) (budget : ℕ) (bytes : List ℕ) (a : Answer) → calculus ≡ false → a.status ≡ 1 → IsRefutedEarly budget bytes → words.HasProof calculus budget bytes a → ⊥
-no_model calculus budget bytes a off one early (inl z) = let bad : 0 ≡ 1 = sym z ∙ one in cc
-no_model calculus budget bytes a off one early (inr (h, pure, inl on)) = let bad : true ≡ false = sym on ∙ off in cc
-no_model calculus budget bytes a off one early (inr (h, pure, inr never)) = never early
-
-pub decided_output : (form : ProofForm) (calculus : Bool) (budget : ℕ) (bytes : List ℕ) (a b : Answer) → IsDecidedAs calculus (Some form) budget bytes a → words.HasProof calculus budget bytes a → IsChecked a.text bytes b
-    → (b.status ≡ 0) ⊎ ((calculus ≡ false) × IsCutAnswer b)
-decided_output form calculus budget bytes a b (refused r h e) good is = inl (output_accepted form budget bytes a b (refused r h e) (has_proof calculus budget bytes a good) is)
-decided_output form calculus budget bytes a b (posed p h (large l e)) good is = inl (output_accepted form budget bytes a b (posed p h (large l e)) (has_proof calculus budget bytes a good) is)
-decided_output form calculus budget bytes a b (posed p h (leaves l e)) good is = inl (output_accepted form budget bytes a b (posed p h (leaves l e)) (has_proof calculus budget bytes a good) is)
-decided_output form calculus budget bytes a b (posed p h (runs f (canonical k))) good is = inl (output_accepted form budget bytes a b (posed p h (runs f k)) (has_proof calculus budget bytes a good) is)
-decided_output form calculus budget bytes a b (posed p h (runs f (by_clauses off k))) good is = so_or_cut off (proved_accepted form budget bytes p a b h f k is)
-decided_output form calculus budget bytes a b (posed p h (runs f (by_model off k))) good is =
-    absurd (no_model calculus budget bytes a off (ap status_of k.whole) (p, h, (f, k.early, (k.model, k.universals, k.is))) good)
+pub refuted_by_model : (calculus : Bool) (budget : ℕ) (bytes : List ℕ) (a : Answer) → calculus ≡ false → a.status ≡ 1 → IsRefutedByModel budget bytes → words.HasProof calculus budget bytes a → ⊥
+refuted_by_model calculus budget bytes a off one early (inl z) = let bad : 0 ≡ 1 = sym z ∙ one in cc
+refuted_by_model calculus budget bytes a off one early (inr (h, pure, inl on)) = let bad : true ≡ false = sym on ∙ off in cc
+refuted_by_model calculus budget bytes a off one early (inr (h, pure, inr never)) = never early

@@ -150,7 +150,7 @@ dnf_inner p d h =
 
 -- ---- values
 
-value_inner : (x : List ℕ) (v : ℤ) → AreInner x → AreInner (value_text x v)
+pub value_inner : (x : List ℕ) (v : ℤ) → AreInner x → AreInner (value_text x v)
 value_inner x v h = inner_append x _ h (inner_append (codes " = ") (signed_decimal v) (inner_word (codes " = ") refl) (signed_inner v))
 
 values_inner : (names : List (List ℕ)) (vs : List ℤ) → AreNames names → AreNames (value_texts names vs)

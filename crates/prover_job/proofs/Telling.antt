@@ -90,7 +90,7 @@ with_proof_status told bytes a h = bytes_status most_of_proof (λ proof. IsCheck
 
 -- each answer has a status of answers
 pub task_status : (bytes_of : List ℕ → Option (List ℕ)) (task : Task) (a : Answer) → AnswersTask bytes_of task a → IsAnswerStatus a.status
-task_status bytes_of (solve file budget asked calculus) a h = bytes_status most_of_file (IsDecidedAs calculus asked budget) (decided_status calculus asked budget) h.bytes a h.is
+task_status bytes_of (solve file budget asked calculus shows) a h = bytes_status most_of_file (IsDecidedAs calculus shows asked budget) (decided_status calculus shows asked budget) h.bytes a h.is
 task_status bytes_of (eliminate file budget) a h = bytes_status most_of_file (IsEliminated budget) (eliminated_status budget) h.bytes a h.is
 task_status bytes_of (run_script file budget) a h = bytes_status most_of_file (IsSmtAnswer budget) (smt_status budget) h.bytes a h.is
 task_status bytes_of (minimise file term budget) a h = bytes_status most_of_file (IsLeastAnswer term budget) (least_status term budget) h.bytes a h.is
@@ -130,8 +130,8 @@ meets_answer P a b ends before after is same met = meets_more (λ answer. answer
 -- ---- what a run's end means
 
 -- the answer to the bytes of a file means what answers to shorter ones do, where a long file's means nothing
-bytes_decided : (w : Meaning) (calculus : Bool) (asked : Option ProofForm) (budget : ℕ) (bytes : List ℕ) (a : Answer) → AnswersBytes most_of_file (IsDecidedAs calculus asked budget) bytes a → Means w asked bytes a
-bytes_decided w calculus asked budget bytes a (too_long l e) = record {
+bytes_decided : (w : Meaning) (calculus shows : Bool) (asked : Option ProofForm) (budget : ℕ) (bytes : List ℕ) (a : Answer) → AnswersBytes most_of_file (IsDecidedAs calculus shows asked budget) bytes a → Means w shows asked bytes a
+bytes_decided w calculus shows asked budget bytes a (too_long l e) = record {
   text = a.text;
   part = [];
   whole = sym (append-nil a.text);
@@ -141,7 +141,7 @@ bytes_decided w calculus asked budget bytes a (too_long l e) = record {
   proved = λ form on z. let bad = sym z ∙ ap (λ b. b.status) e in absurd cc;
   disproved = λ form on z. let bad = sym z ∙ ap (λ b. b.status) e in absurd cc;
 }
-bytes_decided w calculus asked budget bytes a (within l is) = decide_meaning.means w calculus asked budget bytes a is
+bytes_decided w calculus shows asked budget bytes a (within l is) = decide_meaning.means w calculus shows asked budget bytes a is
 
 bytes_means : (w : Meaning) (budget : ℕ) (bytes : List ℕ) (a : Answer) → AnswersBytes most_of_file (IsEliminated budget) bytes a → ElimMeans w bytes a
 bytes_means w budget bytes a (too_long l e) = λ z. let bad = sym z ∙ ap (λ b. b.status) e in absurd cc
@@ -152,11 +152,11 @@ given_to : (P : Answer → Type 0) (ends n : ℕ) (before after : Option (List �
 given_to P ends n before after met e six seven eight = met.whole (λ z. six (sym e ∙ z)) (λ z. seven (sym e ∙ z)) (λ z. eight (sym e ∙ z))
 
 -- at status 0 a text says of the problem that it is valid
-pub says_valid : (w : Meaning) (calculus : Bool) (asked : Option ProofForm) (budget : ℕ) (told : Option (List ℕ)) (ends : ℕ) (before after : Option (List ℕ)) → Meets (AnswersSource most_of_file (IsDecidedAs calculus asked budget) told) ends before after
+pub says_valid : (w : Meaning) (calculus shows : Bool) (asked : Option ProofForm) (budget : ℕ) (told : Option (List ℕ)) (ends : ℕ) (before after : Option (List ℕ)) → Meets (AnswersSource most_of_file (IsDecidedAs calculus shows asked budget) told) ends before after
     → ends ≡ 0 → SaysValid w asked told before after
-says_valid w calculus asked budget told ends before after met z =
+says_valid w calculus shows asked budget told ends before after met z =
     let given = given_to _ ends 0 before after met z (λ e. cc) (λ e. cc) (λ e. cc) in
-    let m = bytes_decided w calculus asked budget (given.is).bytes given.answer (given.is).is in
+    let m = bytes_decided w calculus shows asked budget (given.is).bytes given.answer (given.is).is in
     record {
       bytes = (given.is).bytes;
       whole = (given.is).whole;
@@ -169,11 +169,11 @@ says_valid w calculus asked budget told ends before after met z =
     }
 
 -- at status 1 the problem is refuted
-pub says_refuted : (calculus : Bool) (asked : Option ProofForm) (budget : ℕ) (told : Option (List ℕ)) (ends : ℕ) (before after : Option (List ℕ)) → Meets (AnswersSource most_of_file (IsDecidedAs calculus asked budget) told) ends before after → ends ≡ 1
-    → SaysRefuted asked told before after
-says_refuted calculus asked budget told ends before after met z =
+pub says_refuted : (calculus shows : Bool) (asked : Option ProofForm) (budget : ℕ) (told : Option (List ℕ)) (ends : ℕ) (before after : Option (List ℕ)) → Meets (AnswersSource most_of_file (IsDecidedAs calculus shows asked budget) told) ends before after → ends ≡ 1
+    → SaysRefuted shows asked told before after
+says_refuted calculus shows asked budget told ends before after met z =
     let given = given_to _ ends 1 before after met z (λ e. cc) (λ e. cc) (λ e. cc) in
-    let m = bytes_decided (meaning_of no_table) calculus asked budget (given.is).bytes given.answer (given.is).is in
+    let m = bytes_decided (meaning_of no_table) calculus shows asked budget (given.is).bytes given.answer (given.is).is in
     record {
       bytes = (given.is).bytes;
       whole = (given.is).whole;
@@ -280,10 +280,10 @@ says_nowhere w term budget told ends before after met z =
     }
 
 -- the answer comes exactly where its row says
-pub solve_caused : (calculus : Bool) (asked : Option ProofForm) (budget : ℕ) (told : Option (List ℕ)) (ends : ℕ) (before after : Option (List ℕ)) → Meets (AnswersSource most_of_file (IsDecidedAs calculus asked budget) told) ends before after
-    → Meets (AnswersSource most_of_file (IsCausedAs calculus asked budget) told) ends before after
-solve_caused calculus asked budget told ends before after met =
-    meets_more _ _ ends before after (source_more most_of_file (IsDecidedAs calculus asked budget) (IsCausedAs calculus asked budget) (decide_causing.causes calculus asked budget) told) met
+pub solve_caused : (calculus shows : Bool) (asked : Option ProofForm) (budget : ℕ) (told : Option (List ℕ)) (ends : ℕ) (before after : Option (List ℕ)) → Meets (AnswersSource most_of_file (IsDecidedAs calculus shows asked budget) told) ends before after
+    → Meets (AnswersSource most_of_file (IsCausedAs calculus shows asked budget) told) ends before after
+solve_caused calculus shows asked budget told ends before after met =
+    meets_more _ _ ends before after (source_more most_of_file (IsDecidedAs calculus shows asked budget) (IsCausedAs calculus shows asked budget) (decide_causing.causes calculus shows asked budget) told) met
 
 pub elim_caused : (budget : ℕ) (told : Option (List ℕ)) (ends : ℕ) (before after : Option (List ℕ)) → Meets (AnswersSource most_of_file (IsEliminated budget) told) ends before after
     → Meets (AnswersSource most_of_file (IsElimCaused budget) told) ends before after
@@ -322,7 +322,7 @@ budget_small (text ∷ more ∷ rest) n h = absurd h
 -- the numbers of a job that words name are small enough
 pub named_within : (words : List (List ℕ)) (task : Task) → NamesJob words task → IsSmallTask task
 named_within [] task h = absurd h
-named_within (command ∷ line) (solve file budget asked calculus) h = budget_small _ budget h.1.budget_is
+named_within (command ∷ line) (solve file budget asked calculus shows) h = budget_small _ budget h.1.budget_is
 named_within (command ∷ line) (eliminate file budget) h = let small = budget_small _ budget h.1.budget_is in omega (arith, small)
 named_within (command ∷ line) (run_script file budget) h = budget_small _ budget h.1.budget_is
 named_within (command ∷ line) (minimise file term budget) h = let small = budget_small _ budget h.1.budget_is in omega (arith, small)

@@ -20,7 +20,7 @@ use Rattle.itp_printer.specs.Variables.{variable_number, variable_text}
 use Rattle.prover_job.proofs.Lines.{AreInner, inner_append, inner_word}
 use Rattle.prover_job.proofs.Printed.{AreNames, commas_inner, constants_inner, decimal_inner, either_inner, front_names, identifiers_inner, indexed, signed_inner}
 
-back_names : (xs ys : List (List ℕ)) → AreNames (xs ++ ys) → AreNames ys
+pub back_names : (xs ys : List (List ℕ)) → AreNames (xs ++ ys) → AreNames ys
 back_names [] ys h = h
 back_names (x ∷ xs) ys h = back_names xs ys h.1
 

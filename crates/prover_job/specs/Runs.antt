@@ -10,7 +10,7 @@ use Rattle.base_answers.specs.Answer.{Answer}
 use Rattle.base_answers.specs.Files.{AnswersSource, most_of_file, most_of_proof}
 use Rattle.base_answers.specs.Outside.{Meets, PutsAll}
 use Rattle.job_words.specs.Jobs.{Task, solve, eliminate, run_script, minimise, check, drill, files_of, NamesJob}
-use Rattle.job_decide.specs.Causes.{IsRefutedEarly, IsSolveCaused}
+use Rattle.job_decide.specs.Causes.{IsRefutedByModel, IsSolveCaused}
 use Rattle.job_solve.specs.Proved.{IsImpure}
 use Rattle.pri_problem.specs.Answers.{PosesOne}
 use Rattle.job_decide.specs.Decided.{IsDecidedAs}
@@ -50,7 +50,7 @@ MeetsFile P told = Meets (AnswersSource most_of_file P told)
 
 -- the numbers of a job are small enough for its work
 abbrev pub IsSmallTask : Task → Type 0
-IsSmallTask (solve file budget asked calculus) = budget ≤ most_budget
+IsSmallTask (solve file budget asked calculus shows) = budget ≤ most_budget
 IsSmallTask (eliminate file budget) = budget < 2 ^ 32
 IsSmallTask (run_script file budget) = budget ≤ most_budget
 IsSmallTask (minimise file term budget) = budget < 2 ^ 32
@@ -63,7 +63,7 @@ AnswersWithProof told bytes = AnswersSource most_of_proof (λ proof. IsChecked p
 
 -- the answer of each job
 abbrev pub AnswersTask : (List ℕ → Option (List ℕ)) → Task → Answer → Type 0
-AnswersTask bytes_of (solve file budget asked calculus) = AnswersSource most_of_file (IsDecidedAs calculus asked budget) (bytes_of file)
+AnswersTask bytes_of (solve file budget asked calculus shows) = AnswersSource most_of_file (IsDecidedAs calculus shows asked budget) (bytes_of file)
 AnswersTask bytes_of (eliminate file budget) = AnswersSource most_of_file (IsEliminated budget) (bytes_of file)
 AnswersTask bytes_of (run_script file budget) = AnswersSource most_of_file (IsSmtAnswer budget) (bytes_of file)
 AnswersTask bytes_of (minimise file term budget) = AnswersSource most_of_file (IsLeastAnswer term budget) (bytes_of file)
@@ -76,7 +76,7 @@ IsJobFile task name = (file : List ℕ) × Contains (files_of task) file × (nam
 
 -- how many bytes a job moves at most: of each of its files one past what such a file has at most
 abbrev pub most_moved : Task → ℕ
-most_moved (solve file budget asked calculus) = most_of_file + 1
+most_moved (solve file budget asked calculus shows) = most_of_file + 1
 most_moved (eliminate file budget) = most_of_file + 1
 most_moved (run_script file budget) = most_of_file + 1
 most_moved (minimise file term budget) = most_of_file + 1
@@ -119,16 +119,17 @@ pub record SaysChecked (w : Meaning) (told before after : Option (List ℕ)) : T
   pub confirms : Confirms w bytes text
 
 -- the bytes of a file, where they are told, read as a problem that is refuted; the text put shows a counterexample where the problem
--- has predicates or functions, and behind it comes nothing, or the part with a proof, in the form that is asked for
-pub record SaysRefuted (asked : Option ProofForm) (told before after : Option (List ℕ)) : Type 0 where
+-- has predicates or functions, or where one is asked for and values are found, and behind it comes nothing, or the part with a proof, in the
+-- form that is asked for
+pub record SaysRefuted (shows : Bool) (asked : Option ProofForm) (told before after : Option (List ℕ)) : Type 0 where
   pub bytes : List ℕ
   pub whole : IsWhole told bytes
   pub text : List ℕ
   pub part : List ℕ
   pub put : PutsAll before after (text ++ part)
-  pub refuted : RefutesBy bytes text
+  pub refuted : RefutesBy shows bytes text
   pub none : asked ≡ None → part ≡ []
-  pub proved : (form : ProofForm) → asked ≡ Some form → ProvesInvalidBy form bytes text part
+  pub proved : (form : ProofForm) → asked ≡ Some form → ProvesInvalidBy shows form bytes text part
 
 -- the bytes of a file, where they are told, read as a problem, and the text put is a constraint that is true exactly where it holds
 pub record SaysConstraint (w : Meaning) (told before after : Option (List ℕ)) : Type 0 where
@@ -183,6 +184,6 @@ pub record IsDrillCaused (w : Meaning) (budget count : ℕ) (answer : Answer) : 
   pub caused : IsSolveCaused budget (drill_text count) solved
 
 -- A proof is printed with the answer, where one is asked for. The problem is valid, or it is invalid and has neither predicates nor
--- functions. It is not one that a model may refute where the canonical run is cut early, unless the calculus alone is asked for.
+-- functions. It is not one that a model may refute where the canonical run leaves it open, unless the calculus alone is asked for.
 abbrev pub HasProof : Bool → ℕ → List ℕ → Answer → Type 0
-HasProof calculus budget bytes a = (a.status ≡ 0) ⊎ ((a.status ≡ 1) × ¬ (PosesOne bytes IsImpure) × ((calculus ≡ true) ⊎ ¬ (IsRefutedEarly budget bytes)))
+HasProof calculus budget bytes a = (a.status ≡ 0) ⊎ ((a.status ≡ 1) × ¬ (PosesOne bytes IsImpure) × ((calculus ≡ true) ⊎ ¬ (IsRefutedByModel budget bytes)))

@@ -21,14 +21,14 @@ pub fn printed_law()
 /// at each that it is invalid where it has neither predicates nor functions: a counterexample has no proof, and what a model refutes has
 /// none. The check of a clause proof may be cut; with `--calculus` there is neither.
 pub fn output_law()
-    ensures { (form : ProofForm) (calculus : Bool) (budget : ℕ) (bytes : List ℕ) (a b : Answer) → IsDecidedAs calculus (Some form) budget bytes a
+    ensures { (form : ProofForm) (calculus shows : Bool) (budget : ℕ) (bytes : List ℕ) (a b : Answer) → IsDecidedAs calculus shows (Some form) budget bytes a
         → HasProof calculus budget bytes a → IsChecked a.text bytes b → (b.status ≡ 0) ⊎ ((calculus ≡ false) × IsCutAnswer b) }
 {}
 
 /// Both sides together: what `solve --proof` or `solve --short` puts for a file, with such an answer, `check` of the same file accepts as
 /// a proof's file, with status 0, if it has at most 64 MiB; but for cuts of the check of a clause proof.
 pub fn accepted_law()
-    ensures { (form : ProofForm) (calculus : Bool) (budget : ℕ) (file : List ℕ) (a b : Answer)
-        → AnswersSource most_of_file (IsDecidedAs calculus (Some form) budget) (Some file) a → HasProof calculus budget file a
+    ensures { (form : ProofForm) (calculus shows : Bool) (budget : ℕ) (file : List ℕ) (a b : Answer)
+        → AnswersSource most_of_file (IsDecidedAs calculus shows (Some form) budget) (Some file) a → HasProof calculus budget file a
         → length a.text ≤ most_of_proof → AnswersSource most_of_file (AnswersWithProof (Some a.text)) (Some file) b → (b.status ≡ 0) ⊎ ((calculus ≡ false) × IsCutAnswer b) }
 {}

@@ -13,6 +13,7 @@ ghost use Rattle.std.specs.Prelude.{◌≡◌, ◌≢◌, ◌⊎◌, ℕ, Bool, 
 use crate::tasks::{Stop, job_output};
 use base_answers::put_answer;
 use base_answers::status::{NO_MEMORY, SOURCE_FAILED, WORDS_REFUSED};
+use base_watch::Watch;
 use form_typed::World;
 use job_words::{Job, WordsFault, job, words_law};
 use prover_io::{Sink, Source};
@@ -23,29 +24,30 @@ use std::alloc::Global;
 /// the problem holds nowhere; 2 unknown, or a check of the script is; 3 the file is refused; 4 the proof is refused;
 /// 5 the words ask for no job; 6 the source failed; 7 the sink failed; 8 no memory; 9 the file or the proof's file is
 /// too long. `drill` answers as `solve` does to the problem that it makes. The interpretation has no call, so what is promised in
-/// it is promised in every one.
+/// it is promised in every one. Who watches is told of the searches on the way; nothing of the answer hangs on that.
 ///
 /// The first clauses say which answer is put, the next ones what it means in the interpretation, then where each answer
 /// comes, and the last ones what the run did to its files and its sink.
-pub fn run<S: Source, K: Sink, W: World>(
+pub fn run<S: Source, K: Sink, W: World, X: Watch>(
     alloc: Global,
     words: &[String],
     source: &mut S,
     sink: &mut K,
     world: &W,
+    watch: &mut X,
 ) -> u8
     ensures answered { (task : Task) → AskFor words.now task
         → Meets (AnswersTask (S.bytes_of source.old) task) result (K.taken sink.old) (K.taken sink.new) }
     ensures no_job { AskForNothing words.now
         → Meets (λ answer. answer ≡ words_answer) result (K.taken sink.old) (K.taken sink.new) }
     ensures words_refused { result ≡ 5 → AskForNothing words.now }
-    ensures valid { (file : List ℕ) (budget : ℕ) (asked : Option ProofForm) (calculus : Bool)
-        → AskFor words.now (solve file budget asked calculus)
+    ensures valid { (file : List ℕ) (budget : ℕ) (asked : Option ProofForm) (calculus shows : Bool)
+        → AskFor words.now (solve file budget asked calculus shows)
         → result ≡ 0
         → SaysValid (W.meaning world.now) asked (S.bytes_of source.old file) (K.taken sink.old) (K.taken sink.new) }
-    ensures refuted { (file : List ℕ) (budget : ℕ) (asked : Option ProofForm) (calculus : Bool)
-        → AskFor words.now (solve file budget asked calculus)
-        → result ≡ 1 → SaysRefuted asked (S.bytes_of source.old file) (K.taken sink.old) (K.taken sink.new) }
+    ensures refuted { (file : List ℕ) (budget : ℕ) (asked : Option ProofForm) (calculus shows : Bool)
+        → AskFor words.now (solve file budget asked calculus shows)
+        → result ≡ 1 → SaysRefuted shows asked (S.bytes_of source.old file) (K.taken sink.old) (K.taken sink.new) }
     ensures checked { (file proof : List ℕ) → AskFor words.now (check file proof) → result ≡ 0
         → SaysChecked (W.meaning world.now) (S.bytes_of source.old file) (K.taken sink.old) (K.taken sink.new) }
     ensures constraint { (file : List ℕ) (budget : ℕ) → AskFor words.now (eliminate file budget) → result ≡ 0
@@ -57,9 +59,9 @@ pub fn run<S: Source, K: Sink, W: World>(
         → SaysLeast (W.meaning world.now) term (S.bytes_of source.old file) (K.taken sink.old) (K.taken sink.new) }
     ensures nowhere { (file term : List ℕ) (budget : ℕ) → AskFor words.now (minimise file term budget) → result ≡ 1
         → SaysNowhere (W.meaning world.now) (S.bytes_of source.old file) }
-    ensures solve_causes { (file : List ℕ) (budget : ℕ) (asked : Option ProofForm) (calculus : Bool)
-        → AskFor words.now (solve file budget asked calculus)
-        → MeetsFile (IsCausedAs calculus asked budget) (S.bytes_of source.old file)
+    ensures solve_causes { (file : List ℕ) (budget : ℕ) (asked : Option ProofForm) (calculus shows : Bool)
+        → AskFor words.now (solve file budget asked calculus shows)
+        → MeetsFile (IsCausedAs calculus shows asked budget) (S.bytes_of source.old file)
         result (K.taken sink.old) (K.taken sink.new) }
     ensures elim_causes { (file : List ℕ) (budget : ℕ) → AskFor words.now (eliminate file budget)
         → MeetsFile (IsElimCaused budget) (S.bytes_of source.old file)
@@ -94,14 +96,20 @@ pub fn run<S: Source, K: Sink, W: World>(
 {
     words_law();
     match job(alloc, words) {
-        Ok(job) => do_job(alloc, source, sink, &job),
+        Ok(job) => do_job(alloc, source, sink, &job, watch),
         Err(WordsFault::Words) => put_answer(sink, WORDS_REFUSED, b"refused words\n"),
         Err(WordsFault::Memory) => NO_MEMORY,
     }
 }
 
 // Does a job, and answers the exit status.
-fn do_job<S: Source, K: Sink>(alloc: Global, source: &mut S, sink: &mut K, job: &Job) -> u8
+fn do_job<S: Source, K: Sink, X: Watch>(
+    alloc: Global,
+    source: &mut S,
+    sink: &mut K,
+    job: &Job,
+    watch: &mut X,
+) -> u8
     requires { IsSmallTask (task_of job.now) }
     ensures answered { Meets (AnswersTask (S.bytes_of source.old) (task_of job.now))
         result (K.taken sink.old) (K.taken sink.new) }
@@ -119,7 +127,7 @@ fn do_job<S: Source, K: Sink>(alloc: Global, source: &mut S, sink: &mut K, job: 
     ensures words { result ≢ 5 }
     ensures status { IsStatus result }
 {
-    match job_output(alloc, source, job) {
+    match job_output(alloc, source, job, watch) {
         Ok(output) => put_answer(sink, output.status, output.text.as_slice()),
         Err(Stop::Source) => SOURCE_FAILED,
         Err(Stop::Memory) => NO_MEMORY,

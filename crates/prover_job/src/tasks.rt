@@ -16,6 +16,7 @@ ghost use Rattle.std.specs.Prelude.{◌≡◌, ◌≢◌, ◌+◌, ◌<◌, ◌�
 
 use base_answers::status::FILE_TOO_LONG;
 use base_answers::{Output, ProofForm, say};
+use base_watch::Watch;
 use job_words::Job;
 use linear_term::Memory;
 use prover_io::{ReadFault, Source, read_all};
@@ -46,10 +47,11 @@ impl From<Memory> for Stop {
 }
 
 /// What a job answers.
-pub(crate) fn job_output<S: Source>(
+pub(crate) fn job_output<S: Source, X: Watch>(
     alloc: Global,
     source: &mut S,
     job: &Job,
+    watch: &mut X,
 ) -> Result<Output, Stop>
     requires { IsSmallTask (task_of job.now) }
     ensures answered { IfOk result (λ output. AnswersTask (S.bytes_of source.old) (task_of job.now) (answer_of output)) }
@@ -67,32 +69,45 @@ pub(crate) fn job_output<S: Source>(
             budget,
             asked,
             calculus,
-        } => solve_output(alloc, source, file.as_str(), *budget, *asked, *calculus),
+            shows,
+        } => solve_output(
+            alloc,
+            source,
+            file.as_str(),
+            *budget,
+            *asked,
+            *calculus,
+            *shows,
+            watch,
+        ),
         Job::Check { file, proof } => check_output(alloc, source, file.as_str(), proof.as_str()),
-        Job::Elim { file, budget } => elim_output(alloc, source, file.as_str(), *budget),
-        Job::Smt { file, budget } => smt_output(alloc, source, file.as_str(), *budget),
+        Job::Elim { file, budget } => elim_output(alloc, source, file.as_str(), *budget, watch),
+        Job::Smt { file, budget } => smt_output(alloc, source, file.as_str(), *budget, watch),
         Job::Least { file, term, budget } => least_output(
             alloc,
             source,
             file.as_str(),
             term.as_str(),
             *budget,
+            watch,
         ),
-        Job::Drill { count, budget } => Ok(job_solve::drilled(alloc, *count, *budget)?),
+        Job::Drill { count, budget } => Ok(job_solve::drilled(alloc, *count, *budget, watch)?),
     }
 }
 
 // What `solve` answers to a file, with the proof in the form that is asked for, if one is.
-fn solve_output<S: Source>(
+fn solve_output<S: Source, X: Watch>(
     alloc: Global,
     source: &mut S,
     file: &str,
     budget: u64,
     asked: Option<ProofForm>,
     calculus: bool,
+    shows: bool,
+    watch: &mut X,
 ) -> Result<Output, Stop>
     requires { budget ≤ most_budget }
-    ensures answered { IfOk result (λ output. AnswersSource most_of_file (IsDecidedAs calculus asked budget) (S.bytes_of source.old file.now) (answer_of output)) }
+    ensures answered { IfOk result (λ output. AnswersSource most_of_file (IsDecidedAs calculus shows asked budget) (S.bytes_of source.old file.now) (answer_of output)) }
     ensures rose { IsErrOf result Stop.Source → Rose (S.faults source.old) (S.faults source.new) }
     ensures broke { IsErrOf result Stop.Source → Broke (Some file.now) (S.at source.new) (S.broken source.new) }
     ensures begun { ¬ (IsErrOf result Stop.Memory) → S.at source.new ≡ Some file.now }
@@ -101,17 +116,26 @@ fn solve_output<S: Source>(
     ensures moved { GrowsAtMost (S.moved source.old) (S.moved source.new) (most_of_file + 1) }
 {
     match read_all(alloc, source, file, FILE) {
-        Ok(bytes) => Ok(job_decide::answer(alloc, bytes.as_slice(), budget, asked, calculus)?),
+        Ok(bytes) => Ok(job_decide::answer(
+            alloc,
+            bytes.as_slice(),
+            budget,
+            asked,
+            calculus,
+            shows,
+            watch,
+        )?),
         Err(fault) => unread(alloc, fault),
     }
 }
 
 // What `elim` answers to a file.
-fn elim_output<S: Source>(
+fn elim_output<S: Source, X: Watch>(
     alloc: Global,
     source: &mut S,
     file: &str,
     budget: u64,
+    watch: &mut X,
 ) -> Result<Output, Stop>
     requires { budget < 2 ^ 32 }
     ensures answered { IfOk result (λ output. AnswersSource most_of_file (IsEliminated budget) (S.bytes_of source.old file.now) (answer_of output)) }
@@ -123,17 +147,18 @@ fn elim_output<S: Source>(
     ensures moved { GrowsAtMost (S.moved source.old) (S.moved source.new) (most_of_file + 1) }
 {
     match read_all(alloc, source, file, FILE) {
-        Ok(bytes) => Ok(job_elim::answer(alloc, bytes.as_slice(), budget)?),
+        Ok(bytes) => Ok(job_elim::answer(alloc, bytes.as_slice(), budget, watch)?),
         Err(fault) => unread(alloc, fault),
     }
 }
 
 // What `smt` answers to a file.
-fn smt_output<S: Source>(
+fn smt_output<S: Source, X: Watch>(
     alloc: Global,
     source: &mut S,
     file: &str,
     budget: u64,
+    watch: &mut X,
 ) -> Result<Output, Stop>
     requires { budget ≤ most_budget }
     ensures answered { IfOk result (λ output. AnswersSource most_of_file (IsSmtAnswer budget) (S.bytes_of source.old file.now) (answer_of output)) }
@@ -145,18 +170,19 @@ fn smt_output<S: Source>(
     ensures moved { GrowsAtMost (S.moved source.old) (S.moved source.new) (most_of_file + 1) }
 {
     match read_all(alloc, source, file, FILE) {
-        Ok(bytes) => Ok(job_smt::answer(alloc, bytes.as_slice(), budget)?),
+        Ok(bytes) => Ok(job_smt::answer(alloc, bytes.as_slice(), budget, watch)?),
         Err(fault) => unread(alloc, fault),
     }
 }
 
 // What `least` answers to a file and a term.
-fn least_output<S: Source>(
+fn least_output<S: Source, X: Watch>(
     alloc: Global,
     source: &mut S,
     file: &str,
     term: &str,
     budget: u64,
+    watch: &mut X,
 ) -> Result<Output, Stop>
     requires { budget < 2 ^ 32 }
     ensures answered { IfOk result (λ output. AnswersSource most_of_file (IsLeastAnswer term.now budget) (S.bytes_of source.old file.now) (answer_of output)) }
@@ -168,7 +194,13 @@ fn least_output<S: Source>(
     ensures moved { GrowsAtMost (S.moved source.old) (S.moved source.new) (most_of_file + 1) }
 {
     match read_all(alloc, source, file, FILE) {
-        Ok(bytes) => Ok(job_least::answer(alloc, bytes.as_slice(), term.as_bytes(), budget)?),
+        Ok(bytes) => Ok(job_least::answer(
+            alloc,
+            bytes.as_slice(),
+            term.as_bytes(),
+            budget,
+            watch,
+        )?),
         Err(fault) => unread(alloc, fault),
     }
 }

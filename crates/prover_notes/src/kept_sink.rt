@@ -30,6 +30,15 @@ impl<K: Sink> KeptSink<K> {
     pub fn front(&self) -> &[u8] {
         self.front.as_slice()
     }
+
+    /// The sink to which it puts.
+    pub fn into_sink(self) -> K
+        ensures taken { K.taken result ≡ ⟦<KeptSink<K> as Sink>⟧.taken self }
+        ensures faults { K.faults result ≡ ⟦<KeptSink<K> as Sink>⟧.faults self }
+    {
+        let KeptSink { sink, front: _ } = self;
+        sink
+    }
 }
 
 impl<K: Sink> Sink for KeptSink<K> {

@@ -1,4 +1,4 @@
-// The notes of a run, put to a sink of their own.
+// The messages of a run, and their lines, put to a sink of their own.
 
 ghost use Rattle.std.specs.Prelude.{◌≤◌};
 
@@ -7,26 +7,27 @@ use crate::kept_sink::KeptSink;
 use crate::kept_source::KeptSource;
 use base_answers::put_all;
 use base_answers::status::{PROOF_REFUSED, SOURCE_FAILED};
-use job_messages::{Run, Unread, notes, unread_words};
+use job_counts::{Counts, Statistics};
+use job_messages::{
+    Message, Run, Unread, Vacuity, failed_output, lines, notes, stats, unread_words,
+};
 use job_words::{Job, job};
 use prover_io::{Sink, Source};
-use std::alloc::Global;
+use std::alloc::{AllocError, Global};
 use std::string::String;
 
-/// Puts what is to be said of a run with these words that ended with this status, from what was read and what was answered. It
-/// puts nothing where the answer says all, and where memory is wanting or the sink fails it puts less. A proof that was not held
-/// is read again.
-pub fn put_notes<S: Source, K: Sink, F: NamedFiles, N: Sink>(
+/// What is to be said of a run with these words that ended with this status, from what was read and what was answered: nothing
+/// where the answer says all, and where memory is wanting. A proof that was not held is read again.
+pub fn messages<S: Source, K: Sink, F: NamedFiles>(
     alloc: Global,
     words: &[String],
     status: u8,
+    vacuity: Vacuity,
+    counts: &Counts,
     source: &KeptSource<S>,
     sink: &KeptSink<K>,
     files: &F,
-    noted: &mut N,
-)
-    ensures { N.faults noted.old ≤ N.faults noted.new }
-{
+) -> Vec<Message> {
     let found = job(alloc, words);
     let named = match &found {
         Ok(job) => Named::by(job),
@@ -48,8 +49,40 @@ pub fn put_notes<S: Source, K: Sink, F: NamedFiles, N: Sink>(
         proof_text: again_or(&again, source.text(1)),
         budget: named.budget,
         unread: fault(status, proof.unwrap_or(named.file), files),
+        counts: Some(counts),
+        vacuity,
     };
-    if let Ok(lines) = notes(alloc, &run) {
+    match notes(alloc, &run) {
+        Ok(messages) => messages,
+        Err(_) => Vec::new(alloc),
+    }
+}
+
+/// Puts the lines of messages. Where memory is wanting or the sink fails it puts less.
+pub fn put_messages<N: Sink>(alloc: Global, messages: &[Message], noted: &mut N)
+    ensures { N.faults noted.old ≤ N.faults noted.new }
+{
+    if let Ok(lines) = lines(alloc, messages) {
+        let _ = put_all(noted, lines.as_slice());
+    }
+}
+
+/// Puts the lines that tell what a run with these words did.
+pub fn put_stats<S: Source, N: Sink>(
+    alloc: Global,
+    words: &[String],
+    statistics: &Statistics,
+    source: &KeptSource<S>,
+    noted: &mut N,
+)
+    ensures { N.faults noted.old ≤ N.faults noted.new }
+{
+    let is_script = match job(alloc, words) {
+        Ok(job) => Named::by(&job).is_script,
+        Err(_) => false,
+    };
+    let problem = if is_script { None } else { source.text(0) };
+    if let Ok(lines) = stats(alloc, statistics, problem) {
         let _ = put_all(noted, lines.as_slice());
     }
 }
@@ -75,18 +108,35 @@ fn again_or<'a>(again: &'a Option<Vec<u8>>, held: Option<&'a [u8]>) -> Option<&'
 pub fn put_unread_words<N: Sink>(alloc: Global, noted: &mut N)
     ensures { N.faults noted.old ≤ N.faults noted.new }
 {
-    if let Ok(lines) = unread_words(alloc) {
-        let _ = put_all(noted, lines.as_slice());
+    if let Ok(messages) = unread_words(alloc) {
+        put_messages(alloc, messages.as_slice(), noted);
+    }
+}
+
+/// Puts what is to be said where standard output took no more.
+pub fn put_output_failed<N: Sink>(alloc: Global, noted: &mut N)
+    ensures { N.faults noted.old ≤ N.faults noted.new }
+{
+    if let Ok(messages) = failed_output(alloc) {
+        put_messages(alloc, messages.as_slice(), noted);
+    }
+}
+
+/// The name of the file that a job reads, where words name a job that reads one.
+pub fn named_file(alloc: Global, words: &[String]) -> Result<Option<String>, AllocError> {
+    match job(alloc, words) {
+        Ok(Job::Drill { .. }) | Err(_) => Ok(None),
+        Ok(job) => Ok(Some(String::from_str(alloc, Named::by(&job).file)?)),
     }
 }
 
 /// What a job names.
 #[derive(Clone, Copy)]
-struct Named<'a> {
-    file: &'a str,
+pub(crate) struct Named<'a> {
+    pub(crate) file: &'a str,
     is_script: bool,
     proof: Option<&'a str>,
-    budget: u64,
+    pub(crate) budget: u64,
 }
 
 impl<'a> Named<'a> {
@@ -102,7 +152,7 @@ impl<'a> Named<'a> {
         if begins > 1 { self.proof } else { None }
     }
 
-    fn by(job: &'a Job) -> Named<'a> {
+    pub(crate) fn by(job: &'a Job) -> Named<'a> {
         let none = Named::NONE;
         match job {
             Job::Solve { file, budget, .. }

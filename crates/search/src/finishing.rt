@@ -21,6 +21,7 @@ use super::constraint::{made, made_at_leaf};
 use super::course::Course;
 use super::walk::{Built, Children};
 use base_budget::{ElimLog, Purse, StepFault};
+use base_watch::Walked;
 use clause_set::{Clause, Dnf, Literal, copy_literals};
 use linear_term::Memory;
 use pred_unify::Leaf;
@@ -93,6 +94,7 @@ pub fn finish(
     keeps: bool,
     course: &mut Course,
     purse: &mut Purse,
+    walked: &mut Walked,
 ) -> Result<Option<Built>, StepFault>
     requires room { (standing branch.now).count + 1 < 2 ^ 32 }
     requires budget { purse.old.budget < 2 ^ 32 }
@@ -107,6 +109,7 @@ pub fn finish(
         ..
     } = children;
     let (constraint, log) = made(alloc, branch, principal, constraints, course, purse)?;
+    walked.eliminate(log.entries.len() as u64);
     let root = kept(alloc, keeps, principal.rule(), nodes, log, &constraint)?;
     Ok(Some(Built {
         root,
@@ -123,6 +126,7 @@ pub fn finish_closed(
     keeps: bool,
     course: &mut Course,
     purse: &mut Purse,
+    walked: &mut Walked,
 ) -> Result<Option<Built>, StepFault>
     requires room { HasRoom (sequent_at leaf.now) }
     requires kinds { HasKinds leaf.now }
@@ -133,6 +137,7 @@ pub fn finish_closed(
 {
     course.back(alloc);
     let (constraint, log) = made_at_leaf(alloc, leaf, course, purse)?;
+    walked.eliminate(log.entries.len() as u64);
     let root = kept(
         alloc,
         keeps,

@@ -13,6 +13,7 @@ use super::judge::{Decided, Found, Outcome, conclude, ended, solution, stopped, 
 use super::walk::{Plan, build};
 use base_budget::{Purse, StepFault};
 use base_limits::BRANCH_LIMIT;
+use base_watch::{Event, Walked, Watch};
 use formula::Core;
 use linear_term::Memory;
 use proof_tree::{Run, know_reduced};
@@ -21,7 +22,7 @@ use std::alloc::Global;
 use tree_branch::{Branch, Passed};
 
 /// One round, with this limit on the uses of gamma.
-fn one_round(
+fn one_round<X: Watch>(
     alloc: Global,
     root: &Core,
     constants: u32,
@@ -29,6 +30,8 @@ fn one_round(
     keeps: bool,
     course: &mut Course,
     purse: &mut Purse,
+    walked: &mut Walked,
+    watch: &mut X,
 ) -> Result<Option<Found>, StepFault>
     requires searchable { IsSearchable (form root.now) constants }
     requires budget { purse.old.budget < 2 ^ 32 }
@@ -36,6 +39,10 @@ fn one_round(
 {
     course.begin_round(limit, alloc);
     let before = purse.spent();
+    watch.tell(Event::Round {
+        limit,
+        steps: before,
+    });
     let s = start(alloc, root, constants)?;
     know_reduced(&s);
     let mut branch = Branch::at(alloc, s)?;
@@ -44,7 +51,15 @@ fn one_round(
         keeps,
         passed: Passed::new(),
     };
-    match build(alloc, &mut branch, &plan, BRANCH_LIMIT, course, purse)? {
+    match build(
+        alloc,
+        &mut branch,
+        &plan,
+        BRANCH_LIMIT,
+        course,
+        purse,
+        walked,
+    )? {
         Some(tree) => {
             let charged = purse.spent() - before;
             let solved = solution(alloc, &tree.constraint, constants, course, purse)?;
@@ -56,13 +71,15 @@ fn one_round(
 }
 
 /// The rounds of a run, with rising limits: each charges its root, so the budget ends them.
-fn all_rounds(
+fn all_rounds<X: Watch>(
     alloc: Global,
     root: &Core,
     constants: u32,
     keeps: bool,
     course: &mut Course,
     purse: &mut Purse,
+    walked: &mut Walked,
+    watch: &mut X,
 ) -> Result<Found, StepFault>
     requires searchable { IsSearchable (form root.now) constants }
     requires budget { purse.old.budget < 2 ^ 32 }
@@ -71,20 +88,24 @@ fn all_rounds(
 {
     let mut limit: u32 = 0;
     loop {
-        if let Some(found) = one_round(alloc, root, constants, limit, keeps, course, purse)? {
+        if let Some(found) = one_round(
+            alloc, root, constants, limit, keeps, course, purse, walked, watch,
+        )? {
             return Ok(found);
         }
+        watch.tell(Event::Walked(*walked));
         limit += 1;
     }
 }
 
 /// The canonical run on what is left in the purse: what it finds or meets, and where it stands then.
-fn whole(
+fn whole<X: Watch>(
     alloc: Global,
     root: &Core,
     constants: u32,
     keeps: bool,
     purse: &mut Purse,
+    watch: &mut X,
 ) -> (Result<Found, StepFault>, Run)
     requires searchable { IsSearchable (form root.now) constants }
     requires budget { purse.old.budget < 2 ^ 32 }
@@ -92,13 +113,25 @@ fn whole(
 {
     let mut course = Course::new(alloc);
     let before = purse.spent();
-    let answer = all_rounds(alloc, root, constants, keeps, &mut course, purse);
+    let mut walked = Walked::new();
+    let answer = all_rounds(
+        alloc,
+        root,
+        constants,
+        keeps,
+        &mut course,
+        purse,
+        &mut walked,
+        watch,
+    );
     let run = Run {
         round: course.round,
         nodes: course.nodes,
         log: course.log,
         spent: purse.spent() - before,
     };
+    walked.pass(before.saturating_add(run.spent));
+    watch.tell(Event::Walked(walked));
     (answer, run)
 }
 
@@ -106,18 +139,20 @@ fn whole(
 /// has values that satisfy the constraint of the tree; Invalid a constraint that nothing satisfies, and comes only for a root
 /// without predicates and functions. Saturated is the same for any other root, where no rule is left that a further round
 /// could use more often. Unknown is answered exactly where the run is cut, by the budget or by a number that leaves the range,
-/// with the place, or where a branch would have more than 2,000 nodes. The tree's charges are those of the walk that checks it.
-pub fn prove(
+/// with the place, or where a branch would have more than 2,000 nodes. The tree's charges are those of the walk that checks it. Who
+/// watches is told of each round.
+pub fn prove<X: Watch>(
     alloc: Global,
     root: &Core,
     constants: u32,
     purse: &mut Purse,
+    watch: &mut X,
 ) -> Result<Outcome, Memory>
     requires searchable { IsSearchable (form root.now) constants }
     requires budget { purse.old.budget < 2 ^ 32 }
     ensures { EndsAs (form root.now) constants purse.old result purse.new }
 {
-    let (answer, run) = whole(alloc, root, constants, true, purse);
+    let (answer, run) = whole(alloc, root, constants, true, purse, watch);
     match answer {
         Ok(found) => ended(alloc, found, run),
         Err(fault) => {
@@ -128,17 +163,18 @@ pub fn prove(
 }
 
 /// The same without the tree: it keeps the branch where it stands and the constraints that are to be put together, and no more.
-pub fn decide(
+pub fn decide<X: Watch>(
     alloc: Global,
     root: &Core,
     constants: u32,
     purse: &mut Purse,
+    watch: &mut X,
 ) -> Result<Decided, Memory>
     requires searchable { IsSearchable (form root.now) constants }
     requires budget { purse.old.budget < 2 ^ 32 }
     ensures { DecidesAs (form root.now) constants purse.old result purse.new }
 {
-    let (answer, run) = whole(alloc, root, constants, false, purse);
+    let (answer, run) = whole(alloc, root, constants, false, purse, watch);
     match answer {
         Ok(found) => Ok(without_tree(found, run)),
         Err(fault) => {

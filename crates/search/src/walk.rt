@@ -17,6 +17,7 @@ use super::constraints::Constraints;
 use super::course::Course;
 use super::finishing::{finish, finish_closed};
 use base_budget::{Purse, StepFault};
+use base_watch::Walked;
 use clause_set::Dnf;
 use linear_term::Memory;
 use pred_unify::Leaf;
@@ -92,6 +93,7 @@ pub fn build(
     left: u32,
     course: &mut Course,
     purse: &mut Purse,
+    walked: &mut Walked,
 ) -> Result<Option<Built>, StepFault>
     requires within { IsWithin left (standing branch.old) }
     requires passed { IsPassed plan.now.limit branch.old plan.now.passed }
@@ -110,8 +112,17 @@ pub fn build(
         passed: branch.pass(plan.limit, &plan.passed),
     };
     match branch.principal(plan.limit, &plan.passed) {
-        Some(principal) => grow(alloc, branch, &principal, &plan, left - 1, course, purse),
-        None => close(alloc, branch, plan.keeps, course, purse),
+        Some(principal) => grow(
+            alloc,
+            branch,
+            &principal,
+            &plan,
+            left - 1,
+            course,
+            purse,
+            walked,
+        ),
+        None => close(alloc, branch, plan.keeps, course, purse, walked),
     }
 }
 
@@ -123,6 +134,7 @@ fn close(
     keeps: bool,
     course: &mut Course,
     purse: &mut Purse,
+    walked: &mut Walked,
 ) -> Result<Option<Built>, StepFault>
     requires within { (left : ℕ) × IsWithin left (standing branch.now) }
     requires budget { purse.old.budget < 2 ^ 32 }
@@ -131,10 +143,19 @@ fn close(
     ensures { (f : ℕ → q.Sequent → Traced (Option Proof)) → Makes (IsNumbered keeps (standing branch.now) course.old.nodes course.new.nodes purse.new.spent) (entered f course.old.nodes (standing branch.now) pick.Close) purse.old course.old result purse.new course.new }
 {
     course.enter(alloc);
+    walked.enter_leaf(purse.spent());
     let members = branch.members(alloc)?;
     let leaf = Leaf::of(alloc, members, branch.count())?;
     purse.step(leaf_fee(&leaf))?;
-    finish_closed(alloc, &leaf, branch.has_open_member(), keeps, course, purse)
+    finish_closed(
+        alloc,
+        &leaf,
+        branch.has_open_member(),
+        keeps,
+        course,
+        purse,
+        walked,
+    )
 }
 
 /// The canonical tree whose root has the rule with this principal.
@@ -147,6 +168,7 @@ fn grow(
     left: u32,
     course: &mut Course,
     purse: &mut Purse,
+    walked: &mut Walked,
 ) -> Result<Option<Built>, StepFault>
     requires principal { IsPrincipal branch.old principal.now }
     requires passed { IsPassed plan.now.limit branch.old plan.now.passed }
@@ -159,10 +181,11 @@ fn grow(
     ensures back { IfBuilt result (λ b. branch.new ≡ branch.old) }
 {
     course.enter(alloc);
+    walked.enter(purse.spent());
     purse.step(principal_fee(branch, principal))?;
-    match build_all(alloc, branch, principal, plan, left, course, purse)? {
+    match build_all(alloc, branch, principal, plan, left, course, purse, walked)? {
         Some(children) => finish(
-            alloc, branch, principal, children, plan.keeps, course, purse,
+            alloc, branch, principal, children, plan.keeps, course, purse, walked,
         ),
         None => Ok(None),
     }
@@ -178,6 +201,7 @@ fn build_all(
     left: u32,
     course: &mut Course,
     purse: &mut Purse,
+    walked: &mut Walked,
 ) -> Result<Option<Children>, StepFault>
     requires principal { IsPrincipal branch.old principal.now }
     requires passed { IsPassed plan.now.limit branch.old plan.now.passed }
@@ -192,7 +216,7 @@ fn build_all(
     let mut children = Children::new(alloc);
     for i in 0..branch.width(principal) {
         let entered = branch.enter(alloc, principal, i)?;
-        match build(alloc, branch, plan, left, course, purse)? {
+        match build(alloc, branch, plan, left, course, purse, walked)? {
             Some(child) => {
                 branch.leave(entered);
                 children.push(child)?;

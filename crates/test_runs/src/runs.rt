@@ -1,5 +1,6 @@
 // Runs over memory.
 
+use base_watch::Unwatched;
 use form_typed::Table;
 use prover_io::{MemorySink, MemorySource};
 use prover_job::run;
@@ -65,6 +66,7 @@ fn ends(
         &mut source,
         &mut sink,
         &Table::empty(alloc),
+        &mut Unwatched,
     );
     Ok((status, Vec::from_slice(alloc, sink.taken())?))
 }

@@ -19,8 +19,14 @@ fn named(alloc: Global, words: &[&str]) -> Result<String, Fail> {
                 budget,
                 asked,
                 calculus,
+                shows,
             },
-        ) => Ok(format!(in alloc; "solve {file} {budget} {}{}", form(asked), way(calculus))?),
+        ) => Ok(format!(in alloc;
+            "solve {file} {budget} {}{}{}",
+            form(asked),
+            way(calculus),
+            behind(shows)
+        )?),
         Ok(Job::Elim { file, budget }) => Ok(format!(in alloc; "elim {file} {budget}")?),
         Ok(Job::Least { file, term, budget }) => Ok(format!(in alloc;
             "least {file} {term} {budget}"
@@ -47,6 +53,11 @@ fn way(calculus: bool) -> &'static str {
     if calculus { " calculus" } else { "" }
 }
 
+// Whether a counterexample is asked for.
+fn behind(shows: bool) -> &'static str {
+    if shows { " counterexample" } else { "" }
+}
+
 fn check(rt: &impl Abort, alloc: Global, rows: &[(&[&str], &str)]) -> Result<(), Fail> {
     for (words, expected) in rows {
         let answer = named(alloc, words)?;
@@ -57,7 +68,7 @@ fn check(rt: &impl Abort, alloc: Global, rows: &[(&[&str], &str)]) -> Result<(),
 
 #[test]
 fn words_name_jobs(rt: HostRuntime) -> Result<(), Fail> {
-    let rows: [(&[&str], &str); 39] = [
+    let rows: [(&[&str], &str); 42] = [
         (&["solve", "f"], "solve f 50000000 plain"),
         (&["elim", "f"], "elim f 50000000"),
         (&["solve", "f", "--budget", "1"], "solve f 1 plain"),
@@ -100,6 +111,18 @@ fn words_name_jobs(rt: HostRuntime) -> Result<(), Fail> {
             &["solve", "--", "--calculus"],
             "solve --calculus 50000000 plain",
         ),
+        (
+            &["solve", "--counterexample", "f"],
+            "solve f 50000000 plain counterexample",
+        ),
+        (
+            &["solve", "--calculus", "f", "--short", "--counterexample"],
+            "solve f 50000000 short calculus counterexample",
+        ),
+        (
+            &["solve", "--", "--counterexample"],
+            "solve --counterexample 50000000 plain",
+        ),
         (&["least", "f", "a + 2*b"], "least f a + 2*b 50000000"),
         (&["least", "f", "--", "-a"], "least f -a 50000000"),
         (&["least", "--", "f", "-a"], "least f -a 50000000"),
@@ -124,7 +147,7 @@ fn words_name_jobs(rt: HostRuntime) -> Result<(), Fail> {
 
 #[test]
 fn words_name_none(rt: HostRuntime) -> Result<(), Fail> {
-    let rows: [&[&str]; 70] = [
+    let rows: [&[&str]; 72] = [
         &[],
         &["f"],
         &["f", "solve"],
@@ -144,6 +167,8 @@ fn words_name_none(rt: HostRuntime) -> Result<(), Fail> {
         &["solve", "f", "--steps"],
         &["elim", "f", "--calculus"],
         &["solve", "f", "--calculus", "--calculus"],
+        &["elim", "f", "--counterexample"],
+        &["solve", "f", "--counterexample", "--counterexample"],
         &["solve", "f", "--budg", "1"],
         &["solve", "f", "--=1"],
         &["solve", "f", "--budget"],

@@ -4,7 +4,7 @@ use Rattle.job_decide.specs.Decided.{AnswersDecided}
 use Rattle.job_decide.proofs.deciding.answer.Goals as goal
 
 pub returns-in-Ok : goal.returns-in-Ok
-returns-in-Ok c = posed_so (AnswersEncoded (AnswersDecided c.args.calculus c.args.asked c.args.budget)) _ _ c.in-Ok.ensures.posed _ c.problem_answer.ensures
+returns-in-Ok g c = posed_so (AnswersEncoded (AnswersDecided c.args.calculus c.args.shows c.args.asked c.args.budget)) _ _ c.in-Ok.ensures.posed _ c.problem_answer.ensures
 
 pub returns-in-Err : goal.returns-in-Err
-returns-in-Err c = refused_so (AnswersEncoded (AnswersDecided c.args.calculus c.args.asked c.args.budget)) _ _ c.in-Err.ensures.refused _ c.refuse.ensures
+returns-in-Err g c = refused_so (AnswersEncoded (AnswersDecided c.args.calculus c.args.shows c.args.asked c.args.budget)) _ _ c.in-Err.ensures.refused _ c.refuse.ensures

@@ -4,11 +4,11 @@ use Rattle.job_smt.proofs.Listing.{Goes, among, goes_end, goes_next, next_proble
 use Rattle.job_smt.proofs.lines.lines.Goals as goal
 
 pub returns-in_default : goal.returns-in_default
-returns-in_default c =
+returns-in_default g c =
     (c.p-item.result, among c.args.problems.now c.args.problems.now c.loop-p.p-index c.p-item.result refl c.loop-p-test.true c.p-item.is, subst (IsCheckOutcome c.args.budget c.p-item.result) c.in_default.is c.in_ok-answer.ensures)
 
 pub loop-p-preserved : goal.loop-p-preserved
-loop-p-preserved c =
+loop-p-preserved g c =
     let ps = c.args.problems.now in
     let i = c.loop-p.p-index in
     let next = goes_next c.args.budget ps (drop (i + 1) ps) (drop i ps) c.p-item.result c.in-Some.answer c.loop-p.text.items c.extend_from_slice.new.self.items c.loop-p.status
@@ -17,7 +17,7 @@ loop-p-preserved c =
     subst (λ s. Goes c.args.budget ps (drop (i + 1) ps) c.extend_from_slice.new.self.items s) (let same = c.raised-status.ensures in cc) next
 
 pub returns : goal.returns
-returns c =
+returns g c =
     let test = c.loop-p-test.false in
     goes_end c.args.budget c.args.problems.now (drop c.loop-p.p-index c.args.problems.now) c.loop-p.text.items c.loop-p.status
     (none_left c.args.problems.now c.args.problems.now c.loop-p.p-index refl (omega (arith, test))) c.loop-p.invariant

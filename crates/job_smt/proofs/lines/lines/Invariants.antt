@@ -4,4 +4,4 @@ use Rattle.job_smt.proofs.Listing.{Goes}
 use Rattle.job_smt.proofs.lines.lines.Given as goal
 
 abbrev pub invariant-loop-p : goal.invariant-loop-p
-invariant-loop-p l = Goes l.budget l.problems (drop l.p-index l.problems) l.text.items l.status
+invariant-loop-p g l = Goes l.budget l.problems (drop l.p-index l.problems) l.text.items l.status

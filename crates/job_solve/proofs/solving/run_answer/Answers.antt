@@ -9,7 +9,7 @@ use Rattle.job_solve.proofs.Printing.{alone_as, if_ok, unknown_part}
 use Rattle.job_solve.proofs.solving.run_answer.Goals as goal
 
 pub returns-in-Cut : goal.returns-in-Cut
-returns-in-Cut c =
+returns-in-Cut g c =
     let p = c.args.problem.now in
     let y = c.in-Cut.why in
     let k : IsCutBy y (run_end c.args.budget p) = subst (RunsTo c.args.asked c.args.budget c.args.budget p) c.in-Cut.is c.in_ok-output.ensures in

@@ -7,12 +7,12 @@ pub do_job-requires : goal.do_job-requires
 do_job-requires g c = named_within _ _ c.in-Ok.ensures.named
 
 pub returns-in-Ok-clause-valid : goal.returns-in-Ok-clause-valid
-returns-in-Ok-clause-valid g c = λ file budget asked calculus names zero. says_valid _ calculus asked budget (g.S.Source.bytes_of c.args.source.now file) _ _ _
-    (met_as (g.S.Source.bytes_of c.args.source.now) _ (task_of c.in-Ok.job) (solve file budget asked calculus) _ _ _ c.words_law.ensures c.in-Ok.ensures.named names c.do_job.ensures.answered) zero
+returns-in-Ok-clause-valid g c = λ file budget asked calculus shows names zero. says_valid _ calculus shows asked budget (g.S.Source.bytes_of c.args.source.now file) _ _ _
+    (met_as (g.S.Source.bytes_of c.args.source.now) _ (task_of c.in-Ok.job) (solve file budget asked calculus shows) _ _ _ c.words_law.ensures c.in-Ok.ensures.named names c.do_job.ensures.answered) zero
 
 pub returns-in-Ok-clause-refuted : goal.returns-in-Ok-clause-refuted
-returns-in-Ok-clause-refuted g c = λ file budget asked calculus names zero. says_refuted calculus asked budget (g.S.Source.bytes_of c.args.source.now file) _ _ _
-    (met_as (g.S.Source.bytes_of c.args.source.now) _ (task_of c.in-Ok.job) (solve file budget asked calculus) _ _ _ c.words_law.ensures c.in-Ok.ensures.named names c.do_job.ensures.answered) zero
+returns-in-Ok-clause-refuted g c = λ file budget asked calculus shows names zero. says_refuted calculus shows asked budget (g.S.Source.bytes_of c.args.source.now file) _ _ _
+    (met_as (g.S.Source.bytes_of c.args.source.now) _ (task_of c.in-Ok.job) (solve file budget asked calculus shows) _ _ _ c.words_law.ensures c.in-Ok.ensures.named names c.do_job.ensures.answered) zero
 
 pub returns-in-Ok-clause-checked : goal.returns-in-Ok-clause-checked
 returns-in-Ok-clause-checked g c = λ file proof names zero. says_checked _ (g.S.Source.bytes_of c.args.source.now proof) (g.S.Source.bytes_of c.args.source.now file) _ _ _
@@ -35,8 +35,8 @@ returns-in-Ok-clause-nowhere g c = λ file term budget names one. says_nowhere _
     (met_as (g.S.Source.bytes_of c.args.source.now) _ (task_of c.in-Ok.job) (minimise file term budget) _ _ _ c.words_law.ensures c.in-Ok.ensures.named names c.do_job.ensures.answered) one
 
 pub returns-in-Ok-clause-solve_causes : goal.returns-in-Ok-clause-solve_causes
-returns-in-Ok-clause-solve_causes g c = λ file budget asked calculus names. solve_caused calculus asked budget (g.S.Source.bytes_of c.args.source.now file) _ _ _
-    (met_as (g.S.Source.bytes_of c.args.source.now) _ (task_of c.in-Ok.job) (solve file budget asked calculus) _ _ _ c.words_law.ensures c.in-Ok.ensures.named names c.do_job.ensures.answered)
+returns-in-Ok-clause-solve_causes g c = λ file budget asked calculus shows names. solve_caused calculus shows asked budget (g.S.Source.bytes_of c.args.source.now file) _ _ _
+    (met_as (g.S.Source.bytes_of c.args.source.now) _ (task_of c.in-Ok.job) (solve file budget asked calculus shows) _ _ _ c.words_law.ensures c.in-Ok.ensures.named names c.do_job.ensures.answered)
 
 pub returns-in-Ok-clause-elim_causes : goal.returns-in-Ok-clause-elim_causes
 returns-in-Ok-clause-elim_causes g c = λ file budget names. elim_caused budget (g.S.Source.bytes_of c.args.source.now file) _ _ _

@@ -3,7 +3,7 @@ use Rattle.job_words.specs.Jobs.{check, drill, eliminate, minimise, run_script, 
 use Rattle.prover_job.proofs.tasks.job_output.Goals as goal
 
 pub returns-in-Solve-clause-answered : goal.returns-in-Solve-clause-answered
-returns-in-Solve-clause-answered g c = let is : task_of c.args.job.now ≡ solve c.as_str.result.now c.in-Solve.budget c.in-Solve.asked c.in-Solve.calculus = search rules in rw is c.solve_output.ensures.answered
+returns-in-Solve-clause-answered g c = let is : task_of c.args.job.now ≡ solve c.as_str.result.now c.in-Solve.budget c.in-Solve.asked c.in-Solve.calculus c.in-Solve.shows = search rules in rw is c.solve_output.ensures.answered
 
 pub returns-in-Elim-clause-answered : goal.returns-in-Elim-clause-answered
 returns-in-Elim-clause-answered g c = let is : task_of c.args.job.now ≡ eliminate c.as_str-in-Elim.result.now c.in-Elim.budget = search rules in rw is c.elim_output.ensures.answered

@@ -7,8 +7,8 @@ use Rattle.job_decide.specs.Decided.{IsDecidedAs}
 use Rattle.prover_job.proofs.tasks.solve_output.Goals as goal
 
 pub returns-in_ok-answer-in-Ok-clause-answered : goal.returns-in_ok-answer-in-Ok-clause-answered
-returns-in_ok-answer-in-Ok-clause-answered g c = whole_answered most_of_file (IsDecidedAs c.args.calculus c.args.asked c.args.budget) _ _ _ c.in-Ok.ensures.whole
+returns-in_ok-answer-in-Ok-clause-answered g c = whole_answered most_of_file (IsDecidedAs c.args.calculus c.args.shows c.args.asked c.args.budget) _ _ _ c.in-Ok.ensures.whole
     (omega (arith, c.in-Ok.ensures.within, c.as_slice.ensures.len, ap length c.as_slice.ensures.value)) (rw c.as_slice.ensures.value at c.in_ok-answer-in-Ok.ensures)
 
 pub returns-in-Err-clause-answered : goal.returns-in-Err-clause-answered
-returns-in-Err-clause-answered g c = long_so most_of_file (IsDecidedAs c.args.calculus c.args.asked c.args.budget) _ _ _ (λ e. c.in-Err.ensures.long (ap Err e)) c.unread.ensures.long
+returns-in-Err-clause-answered g c = long_so most_of_file (IsDecidedAs c.args.calculus c.args.shows c.args.asked c.args.budget) _ _ _ (λ e. c.in-Err.ensures.long (ap Err e)) c.unread.ensures.long
