@@ -18,7 +18,7 @@ use form_typed::{Table, World};
 use job_counts::{Counts, Statistics};
 use job_json::{Head, JsonSink};
 use prover_input::SystemSource;
-use prover_io::{OutSink, Sink, Source};
+use prover_io::{Failed, OutSink, Sink, Source};
 use prover_job::run;
 use prover_notes::{
     KeptSink, KeptSource, Lines, Message, NamedFiles, Nowhere, Reporter, Second, SystemFiles,
@@ -239,13 +239,15 @@ fn answer_json<'x>(rt: &'x HostRuntime, words: &[String], manner: &'x Manner) ->
         counts,
         memory: greatest_memory(alloc, rt),
     };
-    let asked = if manner.is_stats {
-        Some(&statistics)
-    } else {
-        None
-    };
     let mut object = sink.into_sink().into_answer();
-    if status != SINK_FAILED && object.finish(status, told.as_slice(), asked).is_ok() {
+    let finished = finish(
+        &mut object,
+        status,
+        told.as_slice(),
+        &statistics,
+        manner.is_stats,
+    );
+    if status != SINK_FAILED && finished.is_ok() {
         return status;
     }
     if !manner.is_quiet && !is_quiet_around(rt) {
@@ -264,4 +266,19 @@ fn head(alloc: Global, words: &[String]) -> Result<Head, AllocError> {
         command,
         file: named_file(alloc, words)?,
     })
+}
+
+/// Ends the object of a run, with what the run did where that is asked for.
+fn finish<K: Sink>(
+    object: &mut JsonSink<K>,
+    status: u8,
+    messages: &[Message],
+    statistics: &Statistics,
+    is_asked: bool,
+) -> Result<(), Failed> {
+    if is_asked {
+        object.finish(status, messages, Some(statistics))
+    } else {
+        object.finish(status, messages, None)
+    }
 }
