@@ -53,7 +53,7 @@ impl<N: Sink> Reporter<N> {
         &self.counts
     }
 
-    /// Takes away the line that may be rewritten.
+    /// Takes away the line that may be rewritten: at the end of each stage, so before an answer is put.
     pub fn clear(&mut self) {
         if self.stands {
             let _ = put_all(&mut self.sink, b"\r\x1b[K");
@@ -93,6 +93,7 @@ impl<N: Sink> Watch for Reporter<N> {
         self.counts.tell(event);
         match event {
             Event::Begins { stage, .. } => self.due = first_due(stage),
+            Event::Ends { .. } => self.clear(),
             Event::Round { steps, .. } => self.pass(steps, STEPS),
             Event::Searched(progress) => self.pass(progress.steps, SEARCH_STEPS),
             _ => {}
