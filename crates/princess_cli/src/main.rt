@@ -84,7 +84,7 @@ fn is_quiet_around(rt: &HostRuntime) -> bool {
 
 /// How lines on the progress of a run are put to standard error.
 fn progress_lines(rt: &HostRuntime, manner: &Manner) -> Lines {
-    if !manner.is_progress {
+    if !manner.is_progress || manner.is_quiet || is_quiet_around(rt) {
         Lines::None
     } else if rt.stderr().is_terminal() {
         Lines::Over
