@@ -1,8 +1,8 @@
 // The assumptions of a problem: where its formula is `A -> B`, and the same problem with `false` in the place of B.
 
-use crate::problem::{Problem, is_quantifier};
 use base_answers::status;
 use linear_term::Memory;
+use message_problems::{Problem, is_quantifier};
 use pri_tokens::Terminal;
 use std::alloc::Global;
 

@@ -1,14 +1,11 @@
 // Why a text proves nothing of a problem: the line of it that is refused.
 
-use crate::answers::Refusal;
-use crate::foreign::is_among;
-use crate::messages::{Messages, Severity};
-use crate::page::Page;
-use crate::places::{cut, line_at, numbered_line};
 use crate::run_sentences as say;
-use crate::slip::Slip;
-use crate::spots::{Spot, numbered, put_refused};
 use linear_term::Memory;
+use message_lines::{
+    Messages, Page, Refusal, Severity, Slip, Spot, cut, is_among, line_at, numbered, numbered_line,
+    put_refused,
+};
 use std::alloc::Global;
 
 /// Where a node of a proof tree is written, and whether it is the conclusion.

@@ -1,11 +1,9 @@
 // Which quantifier of a problem's file has how many instances, as far as the symbols in it tell that.
 
-use crate::messages::{Messages, Severity, Subject};
-use crate::page::Page;
-use crate::problem::{Problem, is_block, is_quantifier};
-use crate::slip::Slip;
 use base_watch::Instances;
 use linear_term::Memory;
+use message_lines::{Messages, Page, Severity, Slip, Subject};
+use message_problems::{Problem, is_block, is_quantifier};
 use pri_tokens::{Terminal, lexemes};
 use std::alloc::Global;
 

@@ -11,6 +11,8 @@ pub(crate) struct Manner {
     pub(crate) is_json: bool,
     /// It is also asked whether the assumptions contradict one another.
     pub(crate) is_vacuous: bool,
+    /// It is also asked which named assertions are not needed.
+    pub(crate) is_unused: bool,
     /// What the run did is told behind it.
     pub(crate) is_stats: bool,
     /// How far the run is, is told while it goes on.
@@ -25,6 +27,7 @@ impl Manner {
         is_quiet: false,
         is_json: false,
         is_vacuous: false,
+        is_unused: false,
         is_stats: false,
         is_progress: false,
         proof_file: None,
@@ -43,8 +46,8 @@ pub(crate) enum Request {
 }
 
 /// What these words ask for. `--quiet`, `--json`, `--stats` and `--progress` stand before the command, in any order, and all but the
-/// first also behind it; `--vacuous` and `--proof-to FILE` stand behind `solve`. They are taken out, so the top call sees the other
-/// words, and `--proof` where a proof goes to a file and no form of it is asked for.
+/// first also behind it; `--vacuous` and `--proof-to FILE` stand behind `solve`, and `--unused` behind `smt`. They are taken out, so the
+/// top call sees the other words, and `--proof` where a proof goes to a file and no form of it is asked for.
 pub(crate) fn read_request(alloc: Global, words: Vec<String>) -> Result<Request, AllocError> {
     let mut manner = Manner::USUAL;
     let mut left = Vec::new(alloc);
@@ -52,7 +55,7 @@ pub(crate) fn read_request(alloc: Global, words: Vec<String>) -> Result<Request,
     for word in words {
         if place == Place::ProofFile {
             manner.proof_file = Some(word);
-            place = Place::Options { is_solve: true };
+            place = Place::Options(Command::Solve);
         } else if takes_file(&manner, place, word.as_str()) {
             place = Place::ProofFile;
         } else if let Some(file) = file_behind(&manner, place, word.as_str()) {
@@ -86,13 +89,13 @@ const WITHOUT_FILE: &str = "--proof-to=";
 
 /// Whether a word is that option, where it stands for the first time.
 fn takes_file(manner: &Manner, place: Place, word: &str) -> bool {
-    let is_solve = place == Place::Options { is_solve: true };
+    let is_solve = place == Place::Options(Command::Solve);
     is_solve && word == PROOF_FILE && manner.proof_file.is_none()
 }
 
 /// The name of that file, where it stands behind the option and a sign =.
 fn file_behind<'a>(manner: &Manner, place: Place, word: &'a str) -> Option<&'a str> {
-    let is_solve = place == Place::Options { is_solve: true };
+    let is_solve = place == Place::Options(Command::Solve);
     if !is_solve || manner.proof_file.is_some() {
         return None;
     }
@@ -119,15 +122,23 @@ fn with_proof(alloc: Global, words: Vec<String>) -> Result<Vec<String>, AllocErr
     Ok(all)
 }
 
+/// A command, by the options that are taken out behind it.
+#[derive(Clone, Copy, PartialEq, Eq)]
+enum Command {
+    Solve,
+    Smt,
+    Other,
+}
+
 /// Where a word stands.
 #[derive(Clone, Copy, PartialEq, Eq)]
 enum Place {
     /// Before the command.
     Front,
     /// Behind a command, where options stand.
-    Options { is_solve: bool },
+    Options(Command),
     /// Where the value of an option stands.
-    Value { is_solve: bool },
+    Value(Command),
     /// Where the name of the file stands to which a proof goes.
     ProofFile,
     /// Behind a word `--`.
@@ -138,15 +149,13 @@ impl Place {
     /// The place behind this word, which stands here.
     fn behind(self, word: &str) -> Place {
         match (self, word) {
-            (Place::Front, _) => Place::Options {
-                is_solve: word == "solve",
-            },
-            (Place::Options { .. }, "--") | (Place::Operands, _) => Place::Operands,
-            (Place::Options { is_solve }, "--budget") => Place::Value { is_solve },
-            (Place::Options { is_solve } | Place::Value { is_solve }, _) => Place::Options {
-                is_solve,
-            },
-            (Place::ProofFile, _) => Place::Options { is_solve: true },
+            (Place::Front, "solve") => Place::Options(Command::Solve),
+            (Place::Front, "smt") => Place::Options(Command::Smt),
+            (Place::Front, _) => Place::Options(Command::Other),
+            (Place::Options(_), "--") | (Place::Operands, _) => Place::Operands,
+            (Place::Options(command), "--budget") => Place::Value(command),
+            (Place::Options(command) | Place::Value(command), _) => Place::Options(command),
+            (Place::ProofFile, _) => Place::Options(Command::Solve),
         }
     }
 }
@@ -155,10 +164,11 @@ impl Place {
 fn takes(manner: &mut Manner, place: Place, word: &str) -> bool {
     let flag = match (place, word) {
         (Place::Front, "--quiet") => &mut manner.is_quiet,
-        (Place::Front | Place::Options { .. }, "--json") => &mut manner.is_json,
-        (Place::Front | Place::Options { .. }, "--stats") => &mut manner.is_stats,
-        (Place::Front | Place::Options { .. }, "--progress") => &mut manner.is_progress,
-        (Place::Options { is_solve: true }, "--vacuous") => &mut manner.is_vacuous,
+        (Place::Front | Place::Options(_), "--json") => &mut manner.is_json,
+        (Place::Front | Place::Options(_), "--stats") => &mut manner.is_stats,
+        (Place::Front | Place::Options(_), "--progress") => &mut manner.is_progress,
+        (Place::Options(Command::Solve), "--vacuous") => &mut manner.is_vacuous,
+        (Place::Options(Command::Smt), "--unused") => &mut manner.is_unused,
         _ => return false,
     };
     let is_first = !*flag;

@@ -5,12 +5,11 @@ ghost use Rattle.std.specs.Prelude.{◌≤◌};
 use crate::files::NamedFiles;
 use crate::kept_sink::KeptSink;
 use crate::kept_source::KeptSource;
+use crate::second::SecondAnswers;
 use base_answers::put_all;
 use base_answers::status::{PROOF_REFUSED, SOURCE_FAILED};
 use job_counts::{Counts, Statistics};
-use job_messages::{
-    Message, Run, Unread, Vacuity, failed_output, lines, notes, stats, unread_words,
-};
+use job_messages::{Message, Run, Unread, failed_output, lines, notes, stats, unread_words};
 use job_words::{Job, job};
 use prover_io::{Sink, Source};
 use std::alloc::{AllocError, Global};
@@ -22,7 +21,7 @@ pub fn messages<S: Source, K: Sink, F: NamedFiles>(
     alloc: Global,
     words: &[String],
     status: u8,
-    vacuity: Vacuity,
+    second: &SecondAnswers,
     counts: &Counts,
     source: &KeptSource<S>,
     sink: &KeptSink<K>,
@@ -50,7 +49,8 @@ pub fn messages<S: Source, K: Sink, F: NamedFiles>(
         budget: named.budget,
         unread: fault(status, proof.unwrap_or(named.file), files),
         counts: Some(counts),
-        vacuity,
+        vacuity: second.vacuity,
+        unused: second.unused.as_slice(),
     };
     match notes(alloc, &run) {
         Ok(messages) => messages,

@@ -10,7 +10,7 @@ const TOKEN: usize = 40;
 
 /// What stands in a hole of a sentence.
 #[derive(Clone, Copy)]
-pub(crate) enum Hole<'a> {
+pub enum Hole<'a> {
     Empty,
     /// A text as it is.
     Text(&'a [u8]),
@@ -28,21 +28,21 @@ pub(crate) enum Hole<'a> {
 
 /// A sentence, and what stands in its holes.
 #[derive(Clone, Copy)]
-pub(crate) struct Slip<'a> {
-    pub(crate) sentence: &'static str,
+pub struct Slip<'a> {
+    pub sentence: &'static str,
     /// The token at the place.
-    pub(crate) token: Hole<'a>,
+    pub token: Hole<'a>,
     /// The token before it.
-    pub(crate) before: &'a [u8],
-    pub(crate) name: Hole<'a>,
-    pub(crate) other: Hole<'a>,
+    pub before: &'a [u8],
+    pub name: Hole<'a>,
+    pub other: Hole<'a>,
     /// The number of a line.
-    pub(crate) line: u64,
+    pub line: u64,
 }
 
 impl<'a> Slip<'a> {
     /// A sentence without holes, but for the tokens at the place.
-    pub(crate) fn new(sentence: &'static str) -> Slip<'a> {
+    pub fn new(sentence: &'static str) -> Slip<'a> {
         Slip {
             sentence,
             token: Hole::Empty,
@@ -54,17 +54,12 @@ impl<'a> Slip<'a> {
     }
 
     /// A sentence that names something.
-    pub(crate) fn named(sentence: &'static str, name: &'a [u8]) -> Slip<'a> {
+    pub fn named(sentence: &'static str, name: &'a [u8]) -> Slip<'a> {
         Slip::new(sentence).with_name(Hole::Text(name))
     }
 
     /// A sentence about a name that is declared in this line with so many arguments, and used with so many.
-    pub(crate) fn counted(
-        sentence: &'static str,
-        declared: usize,
-        used: usize,
-        line: u64,
-    ) -> Slip<'a> {
+    pub fn counted(sentence: &'static str, declared: usize, used: usize, line: u64) -> Slip<'a> {
         Slip {
             sentence,
             token: Hole::Empty,
@@ -76,28 +71,28 @@ impl<'a> Slip<'a> {
     }
 
     /// The same with this name.
-    pub(crate) fn with_name(self, name: Hole<'a>) -> Slip<'a> {
+    pub fn with_name(self, name: Hole<'a>) -> Slip<'a> {
         let mut slip = self;
         slip.name = name;
         slip
     }
 
     /// The same with this other name.
-    pub(crate) fn with_other(self, other: Hole<'a>) -> Slip<'a> {
+    pub fn with_other(self, other: Hole<'a>) -> Slip<'a> {
         let mut slip = self;
         slip.other = other;
         slip
     }
 
     /// The same with the number of this line.
-    pub(crate) fn with_line(self, line: u64) -> Slip<'a> {
+    pub fn with_line(self, line: u64) -> Slip<'a> {
         let mut slip = self;
         slip.line = line;
         slip
     }
 
     /// The same at this token, behind that one.
-    pub(crate) fn at(self, token: Hole<'a>, before: &'a [u8]) -> Slip<'a> {
+    pub fn at(self, token: Hole<'a>, before: &'a [u8]) -> Slip<'a> {
         let mut slip = self;
         slip.token = token;
         slip.before = before;

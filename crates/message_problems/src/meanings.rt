@@ -1,12 +1,10 @@
 // Why a problem's file is refused by what its names and expressions mean: the slip at the place of the refusal.
 
 use crate::declarations::{find_declaration, has_existential};
-use crate::foreign::{is_among, is_remainder, sign_for_word};
 use crate::kinds::kind_sentence;
-use crate::near::is_near;
 use crate::problem::{Problem, is_constants};
 use crate::problem_sentences as say;
-use crate::slip::{Hole, Slip};
+use message_lines::{Hole, Slip, is_among, is_near, is_remainder, sign_for_word};
 use pri_tokens::Terminal;
 
 /// The slip at token k, by the name of the refusal.

@@ -13,7 +13,7 @@ const CALL: usize = 40;
 
 /// A term, or the part of a command, as it has to be written.
 #[derive(Clone, Copy)]
-pub(crate) enum Phrase<'a> {
+pub enum Phrase<'a> {
     /// An operator in front of its two members; without them where there are more or fewer.
     Infix(Script<'a>, &'a [u8], Option<(Span, Span)>),
     /// The name of a function in front of the members of the list that the token opens.
@@ -23,12 +23,12 @@ pub(crate) enum Phrase<'a> {
 }
 
 /// Whether a text is an operator that stands between its members elsewhere.
-pub(crate) fn is_operator(text: &[u8]) -> bool {
+pub fn is_operator(text: &[u8]) -> bool {
     is_infix(text) || operator_for(text).is_some()
 }
 
 /// Whether a text is an operator here.
-pub(crate) fn is_infix(text: &[u8]) -> bool {
+pub fn is_infix(text: &[u8]) -> bool {
     is_among(
         text,
         &[
@@ -38,7 +38,7 @@ pub(crate) fn is_infix(text: &[u8]) -> bool {
 }
 
 /// The operator or the word that is written for one of other languages.
-pub(crate) fn operator_for(text: &[u8]) -> Option<&'static str> {
+pub fn operator_for(text: &[u8]) -> Option<&'static str> {
     paired(
         text,
         &[
@@ -77,7 +77,7 @@ pub(crate) fn operator_for(text: &[u8]) -> Option<&'static str> {
 }
 
 /// The list that token k opens with its operator in front, where that stands in the second place.
-pub(crate) fn infix<'a>(script: Script<'a>, k: usize) -> Option<Phrase<'a>> {
+pub fn infix<'a>(script: Script<'a>, k: usize) -> Option<Phrase<'a>> {
     if !script.opens(k) || script.count(k) < 3 {
         return None;
     }
@@ -90,7 +90,7 @@ pub(crate) fn infix<'a>(script: Script<'a>, k: usize) -> Option<Phrase<'a>> {
 
 /// An operator in front of the members on both its sides, of which the first has this number in the list that token k opens;
 /// without them where more follow.
-pub(crate) fn in_front<'a>(script: Script<'a>, k: usize, first: usize) -> Phrase<'a> {
+pub fn in_front<'a>(script: Script<'a>, k: usize, first: usize) -> Phrase<'a> {
     let operator = script.member_text(k, first.saturating_add(1));
     let is_whole = script.count(k) == first.saturating_add(3);
     let sides = match (

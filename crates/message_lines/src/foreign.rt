@@ -1,7 +1,7 @@
 // Words and signs of other languages, and what is written for them in a problem's file.
 
 /// Whether a text is one of these words.
-pub(crate) fn is_among(text: &[u8], words: &[&str]) -> bool {
+pub fn is_among(text: &[u8], words: &[&str]) -> bool {
     for word in words {
         if text == word.as_bytes() {
             return true;
@@ -11,7 +11,7 @@ pub(crate) fn is_among(text: &[u8], words: &[&str]) -> bool {
 }
 
 /// Whether a text begins with one of these words.
-pub(crate) fn begins_with_one(text: &[u8], words: &[&str]) -> bool {
+pub fn begins_with_one(text: &[u8], words: &[&str]) -> bool {
     for word in words {
         if text.starts_with(word.as_bytes()) {
             return true;
@@ -21,7 +21,7 @@ pub(crate) fn begins_with_one(text: &[u8], words: &[&str]) -> bool {
 }
 
 /// The second of the first pair that has this text first.
-pub(crate) fn paired(text: &[u8], pairs: &[(&str, &'static str)]) -> Option<&'static str> {
+pub fn paired(text: &[u8], pairs: &[(&str, &'static str)]) -> Option<&'static str> {
     for (word, sign) in pairs {
         if text == word.as_bytes() {
             return Some(sign);
@@ -31,7 +31,7 @@ pub(crate) fn paired(text: &[u8], pairs: &[(&str, &'static str)]) -> Option<&'st
 }
 
 /// The sign that is written for a connective in words.
-pub(crate) fn sign_for_word(text: &[u8]) -> Option<&'static str> {
+pub fn sign_for_word(text: &[u8]) -> Option<&'static str> {
     paired(
         text,
         &[
@@ -52,12 +52,12 @@ pub(crate) fn sign_for_word(text: &[u8]) -> Option<&'static str> {
 }
 
 /// Whether a text is the name of a remainder or a quotient elsewhere.
-pub(crate) fn is_remainder(text: &[u8]) -> bool {
+pub fn is_remainder(text: &[u8]) -> bool {
     is_among(text, &["mod", "div", "rem"])
 }
 
 /// Whether a text is the name of a type elsewhere.
-pub(crate) fn is_foreign_type(text: &[u8]) -> bool {
+pub fn is_foreign_type(text: &[u8]) -> bool {
     is_among(
         text,
         &[
@@ -69,7 +69,7 @@ pub(crate) fn is_foreign_type(text: &[u8]) -> bool {
 }
 
 /// Whether a text is the name of a block of declarations elsewhere.
-pub(crate) fn is_foreign_block(text: &[u8]) -> bool {
+pub fn is_foreign_block(text: &[u8]) -> bool {
     is_among(
         text,
         &[
@@ -83,7 +83,7 @@ pub(crate) fn is_foreign_block(text: &[u8]) -> bool {
 }
 
 /// Whether a text is the name of a block of assumptions elsewhere.
-pub(crate) fn is_assumption_block(text: &[u8]) -> bool {
+pub fn is_assumption_block(text: &[u8]) -> bool {
     is_among(
         text,
         &[
@@ -98,7 +98,7 @@ pub(crate) fn is_assumption_block(text: &[u8]) -> bool {
 }
 
 /// Whether a text is a quantifier in words.
-pub(crate) fn is_quantifier_word(text: &[u8]) -> bool {
+pub fn is_quantifier_word(text: &[u8]) -> bool {
     is_among(
         text,
         &[
@@ -109,7 +109,7 @@ pub(crate) fn is_quantifier_word(text: &[u8]) -> bool {
 }
 
 /// Whether a text is the name of a block without its backslash.
-pub(crate) fn is_block_word(text: &[u8]) -> bool {
+pub fn is_block_word(text: &[u8]) -> bool {
     is_among(
         text,
         &[
@@ -124,7 +124,7 @@ pub(crate) fn is_block_word(text: &[u8]) -> bool {
 }
 
 /// The sign that is written for the sign of mathematics with which a text begins.
-pub(crate) fn sign_for_symbol(text: &[u8]) -> Option<&'static str> {
+pub fn sign_for_symbol(text: &[u8]) -> Option<&'static str> {
     for (symbol, sign) in &[
         ("≤", "<="),
         ("≥", ">="),
@@ -150,4 +150,9 @@ pub(crate) fn sign_for_symbol(text: &[u8]) -> Option<&'static str> {
         }
     }
     None
+}
+
+/// Whether a text begins with the byte order mark of UTF-16.
+pub fn is_utf_16(text: &[u8]) -> bool {
+    text.starts_with(b"\xff\xfe") || text.starts_with(b"\xfe\xff")
 }

@@ -1,15 +1,11 @@
 // More errors of a script than the first: commands that are not read, names that are declared twice, and in assertions and definitions
 // names that nothing declares before them or that have another number of arguments. What a command binds somewhere is not judged in it.
 
-use crate::foreign::is_among;
-use crate::further::MOST;
-use crate::messages::Messages;
-use crate::script::{Script, Span};
-use crate::script_phrases::{infix, operator_for};
 use crate::scripts::{declared_arguments, is_read_command, script_slip};
-use crate::slip::Hole;
-use crate::spots::{Spot, put_refused};
 use linear_term::Memory;
+use message_lines::{
+    Hole, MOST, Messages, Script, Span, Spot, infix, is_among, operator_for, put_refused,
+};
 use smt_tokens::Terminal;
 
 /// How many tokens a script has at most for more than one error.

@@ -5,7 +5,7 @@ const SHORTEST: usize = 3;
 
 /// Whether two texts differ by one byte, which is another one or stands in one of them alone, or by two neighbours that are
 /// swapped.
-pub(crate) fn is_near(one: &[u8], other: &[u8]) -> bool {
+pub fn is_near(one: &[u8], other: &[u8]) -> bool {
     if one.len() < SHORTEST || other.len() < SHORTEST {
         return false;
     }
@@ -24,7 +24,7 @@ pub(crate) fn is_near(one: &[u8], other: &[u8]) -> bool {
 }
 
 /// The first of these words that is near a text.
-pub(crate) fn find_near(text: &[u8], words: &[&'static str]) -> Option<&'static str> {
+pub fn find_near(text: &[u8], words: &[&'static str]) -> Option<&'static str> {
     for word in words {
         if is_near(text, word.as_bytes()) {
             return Some(word);

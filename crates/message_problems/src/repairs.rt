@@ -1,7 +1,7 @@
 // Slips of a problem's file whose right form is known: where they stand, and what is written there.
 
-use crate::foreign::{sign_for_symbol, sign_for_word};
 use crate::problem::{Problem, ends_term, is_block, is_relation};
+use message_lines::{sign_for_symbol, sign_for_word};
 use pri_tokens::Terminal;
 
 /// What stands in place of the bytes from the first place up to the second one, and whether no declaration is lost by it.

@@ -11,19 +11,19 @@ const SHOWN: usize = 140;
 
 /// A line of a text.
 #[derive(Clone, Copy)]
-pub(crate) struct Line<'a> {
+pub struct Line<'a> {
     /// Its number, from 1 on.
-    pub(crate) number: u64,
+    pub number: u64,
     /// The offset of its first byte.
-    pub(crate) from: usize,
+    pub from: usize,
     /// Its bytes, without the line feed.
-    pub(crate) text: &'a [u8],
+    pub text: &'a [u8],
     /// Whether it is a line at all: behind the last line feed nothing need stand.
-    pub(crate) is_there: bool,
+    pub is_there: bool,
 }
 
 /// A text up to the first such byte, and what stands behind that byte.
-pub(crate) fn cut(text: &[u8], byte: u8) -> (&[u8], Option<&[u8]>) {
+pub fn cut(text: &[u8], byte: u8) -> (&[u8], Option<&[u8]>) {
     for (i, found) in text.iter().enumerate() {
         if *found == byte {
             let (front, rest) = text.split_at(i);
@@ -34,7 +34,7 @@ pub(crate) fn cut(text: &[u8], byte: u8) -> (&[u8], Option<&[u8]>) {
 }
 
 /// The line in which a byte of a text lies.
-pub(crate) fn line_at(text: &[u8], place: usize) -> Line<'_> {
+pub fn line_at(text: &[u8], place: usize) -> Line<'_> {
     let mut number: u64 = 1;
     let mut from = 0;
     for (i, byte) in text.iter().enumerate() {
@@ -56,7 +56,7 @@ pub(crate) fn line_at(text: &[u8], place: usize) -> Line<'_> {
 }
 
 /// The line with this number, from 1 on.
-pub(crate) fn numbered_line(text: &[u8], number: u64) -> Line<'_> {
+pub fn numbered_line(text: &[u8], number: u64) -> Line<'_> {
     let mut seen: u64 = 1;
     for (i, byte) in text.iter().enumerate() {
         if seen >= number {

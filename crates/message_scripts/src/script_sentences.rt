@@ -27,9 +27,6 @@ pub(crate) const BYTE_ORDER_MARK: &str = "the file begins with a byte order mark
 
 pub(crate) const UTF_16: &str = "the file is written in UTF-16; save it as UTF-8";
 
-pub(crate) const PRI: &str =
-    "this is a .pri file, which `princess solve` reads; `smt` reads scripts of SMT-LIB";
-
 pub(crate) const DEEP: &str =
     "this opens the 201st level of nesting; define-fun gives inner terms a name";
 

@@ -1,8 +1,8 @@
 // The faults of a file that the grammar takes: what is undeclared, declared twice, has another number of arguments, is of the other
 // kind, or is no linear product. A name that is declared twice is not judged where it is used.
 
-use crate::further::MOST;
 use linear_term::Memory;
+use message_lines::MOST;
 use pri_reader::{Added, Block, Declared, Expr, File, Form, Item, Name};
 use std::alloc::Global;
 

@@ -1,15 +1,12 @@
 // Why a problem's file is refused by its grammar: the slip at the first token with which no file goes on.
 
-use crate::foreign::{
-    begins_with_one, is_among, is_assumption_block, is_block_word, is_foreign_block,
-    is_foreign_type, sign_for_symbol,
-};
-use crate::places::cut;
 use crate::problem::{Around, Problem, ends_term, is_block, is_constants, is_relation, is_word};
 use crate::problem_sentences as say;
-use crate::scripts::is_utf_16;
-use crate::slip::Slip;
 use crate::syntax_inside::inside_slip;
+use message_lines::{
+    Slip, begins_with_one, cut, is_among, is_assumption_block, is_block_word, is_foreign_block,
+    is_foreign_type, is_utf_16, sign_for_symbol,
+};
 use pri_tokens::Terminal;
 
 /// The slip at token k.

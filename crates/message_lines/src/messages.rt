@@ -6,6 +6,9 @@ use crate::slip::{Slip, put_slip};
 use linear_term::Memory;
 use std::alloc::Global;
 
+/// How many errors of a file are told at most.
+pub const MOST: usize = 10;
+
 /// How grave a message is.
 #[derive(Clone, Copy, Debug, PartialEq, Eq)]
 pub enum Severity {
@@ -55,24 +58,24 @@ pub struct Message {
 
 /// What a message is about.
 #[derive(Clone, Copy)]
-pub(crate) struct Subject<'a, 'n> {
-    pub(crate) file: &'a str,
-    pub(crate) severity: Severity,
-    pub(crate) name: &'n [u8],
+pub struct Subject<'a, 'n> {
+    pub file: &'a str,
+    pub severity: Severity,
+    pub name: &'n [u8],
     /// The bytes of the file, and the place in them.
-    pub(crate) spot: Option<(&'a [u8], usize)>,
+    pub spot: Option<(&'a [u8], usize)>,
 }
 
 /// Messages in the making.
 #[derive(Drop)]
-pub(crate) struct Messages {
+pub struct Messages {
     alloc: Global,
     list: Vec<Message>,
 }
 
 impl Messages {
     /// No message.
-    pub(crate) fn new(alloc: Global) -> Messages {
+    pub fn new(alloc: Global) -> Messages {
         Messages {
             alloc,
             list: Vec::new(alloc),
@@ -80,23 +83,23 @@ impl Messages {
     }
 
     /// The messages.
-    pub(crate) fn into_list(self) -> Vec<Message> {
+    pub fn into_list(self) -> Vec<Message> {
         let Messages { alloc: _, list } = self;
         list
     }
 
     /// How many there are.
-    pub(crate) fn len(&self) -> usize {
+    pub fn len(&self) -> usize {
         self.list.len()
     }
 
     /// Adds a message.
-    pub(crate) fn put(&mut self, subject: &Subject, slip: &Slip) -> Result<(), Memory> {
+    pub fn put(&mut self, subject: &Subject, slip: &Slip) -> Result<(), Memory> {
         self.put_with(subject, slip, b"")
     }
 
     /// Adds a message with a text behind its sentence.
-    pub(crate) fn put_with(
+    pub fn put_with(
         &mut self,
         subject: &Subject,
         slip: &Slip,

@@ -5,26 +5,26 @@ use smt_tokens::{Lexeme, Terminal};
 
 /// The tokens of a script.
 #[derive(Clone, Copy)]
-pub(crate) struct Script<'a> {
-    pub(crate) bytes: &'a [u8],
-    pub(crate) lexemes: &'a [Lexeme],
+pub struct Script<'a> {
+    pub bytes: &'a [u8],
+    pub lexemes: &'a [Lexeme],
 }
 
 /// Some tokens of a script: from the first on, up to the second.
 #[derive(Clone, Copy)]
-pub(crate) struct Span {
-    pub(crate) from: usize,
-    pub(crate) to: usize,
+pub struct Span {
+    pub from: usize,
+    pub to: usize,
 }
 
 impl<'a> Script<'a> {
     /// How many tokens the script has.
-    pub(crate) fn len(&self) -> usize {
+    pub fn len(&self) -> usize {
         self.lexemes.len()
     }
 
     /// What token k is; none past the end.
-    pub(crate) fn terminal(&self, k: usize) -> Option<Terminal> {
+    pub fn terminal(&self, k: usize) -> Option<Terminal> {
         match self.lexemes.get(k) {
             Some(lexeme) => Some(lexeme.terminal),
             None => None,
@@ -32,7 +32,7 @@ impl<'a> Script<'a> {
     }
 
     /// The bytes of token k; none past the end.
-    pub(crate) fn text(&self, k: usize) -> &'a [u8] {
+    pub fn text(&self, k: usize) -> &'a [u8] {
         match self.lexemes.get(k) {
             Some(lexeme) => {
                 let rest = self.bytes.get(lexeme.at as usize..).unwrap_or(&[]);
@@ -43,7 +43,7 @@ impl<'a> Script<'a> {
     }
 
     /// The bytes of the token that many before token k.
-    pub(crate) fn text_before(&self, k: usize, many: usize) -> &'a [u8] {
+    pub fn text_before(&self, k: usize, many: usize) -> &'a [u8] {
         match k.checked_sub(many) {
             Some(i) => self.text(i),
             None => b"",
@@ -51,12 +51,12 @@ impl<'a> Script<'a> {
     }
 
     /// The bytes of the token that many behind token k.
-    pub(crate) fn text_behind(&self, k: usize, many: usize) -> &'a [u8] {
+    pub fn text_behind(&self, k: usize, many: usize) -> &'a [u8] {
         self.text(k.saturating_add(many))
     }
 
     /// The offset of token k; that of the end past the end.
-    pub(crate) fn offset(&self, k: usize) -> usize {
+    pub fn offset(&self, k: usize) -> usize {
         match self.lexemes.get(k) {
             Some(lexeme) => lexeme.at as usize,
             None => self.bytes.len(),
@@ -64,22 +64,22 @@ impl<'a> Script<'a> {
     }
 
     /// The number of the line of token k.
-    pub(crate) fn line(&self, k: usize) -> u64 {
+    pub fn line(&self, k: usize) -> u64 {
         line_at(self.bytes, self.offset(k)).number
     }
 
     /// Whether token k opens a list.
-    pub(crate) fn opens(&self, k: usize) -> bool {
+    pub fn opens(&self, k: usize) -> bool {
         self.terminal(k) == Some(Terminal::Open)
     }
 
     /// Whether token k closes a list.
-    pub(crate) fn closes(&self, k: usize) -> bool {
+    pub fn closes(&self, k: usize) -> bool {
         self.terminal(k) == Some(Terminal::Close)
     }
 
     /// Whether the token before token k opens a list.
-    pub(crate) fn follows_open(&self, k: usize) -> bool {
+    pub fn follows_open(&self, k: usize) -> bool {
         match k.checked_sub(1) {
             Some(i) => self.opens(i),
             None => false,
@@ -87,7 +87,7 @@ impl<'a> Script<'a> {
     }
 
     /// The first token at this offset or behind it.
-    pub(crate) fn token_at(&self, offset: usize) -> usize {
+    pub fn token_at(&self, offset: usize) -> usize {
         for (k, lexeme) in self.lexemes.iter().enumerate() {
             if lexeme.at as usize >= offset {
                 return k;
@@ -97,7 +97,7 @@ impl<'a> Script<'a> {
     }
 
     /// The outermost list that is open before token k.
-    pub(crate) fn outermost(&self, k: usize) -> Option<usize> {
+    pub fn outermost(&self, k: usize) -> Option<usize> {
         let mut depth: usize = 0;
         let mut outermost = None;
         for i in 0..k.min(self.len()) {
@@ -121,7 +121,7 @@ impl<'a> Script<'a> {
     }
 
     /// How many members the list that token k opens has.
-    pub(crate) fn count(&self, k: usize) -> usize {
+    pub fn count(&self, k: usize) -> usize {
         let mut depth: usize = 0;
         let mut count: usize = 0;
         for i in k.saturating_add(1)..self.len() {
@@ -144,7 +144,7 @@ impl<'a> Script<'a> {
     }
 
     /// A member of the list that token k opens, by its number from 0 on.
-    pub(crate) fn member(&self, k: usize, number: usize) -> Option<Span> {
+    pub fn member(&self, k: usize, number: usize) -> Option<Span> {
         let mut depth: usize = 0;
         let mut count: usize = 0;
         let mut found = None;
@@ -178,7 +178,7 @@ impl<'a> Script<'a> {
     }
 
     /// The first token of a member of the list that token k opens.
-    pub(crate) fn member_text(&self, k: usize, number: usize) -> &'a [u8] {
+    pub fn member_text(&self, k: usize, number: usize) -> &'a [u8] {
         match self.member(k, number) {
             Some(span) => self.text(span.from),
             None => b"",
@@ -186,12 +186,12 @@ impl<'a> Script<'a> {
     }
 
     /// Whether token k opens a list that declares or defines a symbol.
-    pub(crate) fn declares(&self, k: usize) -> bool {
+    pub fn declares(&self, k: usize) -> bool {
         self.opens(k) && is_declaration(self.text_behind(k, 1))
     }
 
     /// The list in which a name is declared or defined first.
-    pub(crate) fn declaration(&self, name: &[u8]) -> Option<usize> {
+    pub fn declaration(&self, name: &[u8]) -> Option<usize> {
         for k in 0..self.len() {
             if self.declares(k) && self.text_behind(k, 2) == name {
                 return Some(k);
@@ -201,7 +201,7 @@ impl<'a> Script<'a> {
     }
 
     /// The first list that declares or defines a name which differs from this one at most in case.
-    pub(crate) fn declaration_in_any_case(&self, name: &[u8]) -> Option<usize> {
+    pub fn declaration_in_any_case(&self, name: &[u8]) -> Option<usize> {
         for k in 0..self.len() {
             if self.declares(k) && self.text_behind(k, 2).eq_ignore_ascii_case(name) {
                 return Some(k);

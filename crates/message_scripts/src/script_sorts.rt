@@ -1,7 +1,6 @@
 // Which sort a term of a script has, as far as its first tokens and the declarations before it say.
 
-use crate::foreign::is_among;
-use crate::script::Script;
+use message_lines::{Script, is_among};
 use smt_tokens::Terminal;
 
 /// The sorts of a script.

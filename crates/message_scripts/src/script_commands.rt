@@ -1,12 +1,8 @@
 // Why a command of a script is refused: that it is not read, or not in its form.
 
-use crate::foreign::is_among;
-use crate::near::find_near;
-use crate::script::Script;
-use crate::script_phrases::{Phrase, in_front};
 use crate::script_sentences as say;
 use crate::scripts::{READ, has_operator, is_read_command};
-use crate::slip::{Hole, Slip};
+use message_lines::{Hole, Phrase, Script, Slip, find_near, in_front, is_among};
 
 /// The slip at the command that token k opens.
 pub(crate) fn command_slip<'a>(script: Script<'a>, k: usize) -> Slip<'a> {

@@ -53,7 +53,7 @@ fn declares(block: Terminal) -> bool {
 }
 
 /// Whether a file declares an existential constant.
-pub(crate) fn has_existential(p: &Problem) -> bool {
+pub fn has_existential(p: &Problem) -> bool {
     for k in 0..p.len() {
         if p.terminal(k) == Some(Terminal::ExistentialConstants)
             && p.terminal(k.saturating_add(2)) != Some(Terminal::CloseBrace)

@@ -9,16 +9,16 @@ use std::alloc::Global;
 
 /// A place in a file.
 #[derive(Clone, Copy)]
-pub(crate) struct Spot<'a> {
+pub struct Spot<'a> {
     /// The name of the file.
-    pub(crate) name: &'a str,
-    pub(crate) text: &'a [u8],
-    pub(crate) at: usize,
+    pub name: &'a str,
+    pub text: &'a [u8],
+    pub at: usize,
 }
 
 impl<'a> Spot<'a> {
     /// What a message of this name is about here.
-    pub(crate) fn subject<'n>(&self, severity: Severity, name: &'n [u8]) -> Subject<'a, 'n> {
+    pub fn subject<'n>(&self, severity: Severity, name: &'n [u8]) -> Subject<'a, 'n> {
         Subject {
             file: self.name,
             severity,
@@ -29,7 +29,7 @@ impl<'a> Spot<'a> {
 }
 
 /// Puts an error at a place, by the name of the refusal.
-pub(crate) fn put_refused(
+pub fn put_refused(
     messages: &mut Messages,
     spot: &Spot,
     name: &[u8],
@@ -39,7 +39,7 @@ pub(crate) fn put_refused(
 }
 
 /// The name of a refusal with its number, as `node 3`.
-pub(crate) fn numbered(alloc: Global, refusal: &Refusal) -> Result<Page, Memory> {
+pub fn numbered(alloc: Global, refusal: &Refusal) -> Result<Page, Memory> {
     let mut name = Page::new(alloc);
     name.put(refusal.name)?;
     if let Some(number) = refusal.place {
@@ -50,7 +50,7 @@ pub(crate) fn numbered(alloc: Global, refusal: &Refusal) -> Result<Page, Memory>
 }
 
 /// Puts a message without a place.
-pub(crate) fn put_placeless(
+pub fn put_placeless(
     messages: &mut Messages,
     file: &str,
     severity: Severity,

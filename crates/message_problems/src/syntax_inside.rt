@@ -1,11 +1,12 @@
 // Why the grammar refuses a token inside the formula of `\problem`.
 
-use crate::foreign::{is_among, is_foreign_type, is_quantifier_word, is_remainder, sign_for_word};
 use crate::problem::{
     Around, Problem, ends_term, is_command, is_operator, is_quantifier, is_relation, is_word,
 };
 use crate::problem_sentences as say;
-use crate::slip::Slip;
+use message_lines::{
+    Hole, Slip, is_among, is_foreign_type, is_quantifier_word, is_remainder, sign_for_word,
+};
 use pri_tokens::Terminal;
 
 /// The slip at token k.
@@ -133,9 +134,7 @@ fn ended_slip<'a>(p: &Problem<'a>, k: usize, around: &Around) -> Slip<'a> {
     }
     for word in [p.text(k), p.text_before(k, 1)] {
         if let Some(sign) = sign_for_word(word) {
-            return Slip::named(say::WORD_OPERATOR, word).with_other(crate::slip::Hole::Text(
-                sign.as_bytes(),
-            ));
+            return Slip::named(say::WORD_OPERATOR, word).with_other(Hole::Text(sign.as_bytes()));
         }
     }
     if is_quantifier_word(p.text_before(k, 1)) {

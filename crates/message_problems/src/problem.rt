@@ -1,13 +1,13 @@
 // The tokens of a problem's file round a place: what is open there, in which block it lies, and what a quantifier binds.
 
-use crate::places::line_at;
+use message_lines::line_at;
 use pri_tokens::{Lexeme, Terminal, TokenKind, kind_of, spelling};
 
 /// The tokens of a problem's file.
 #[derive(Clone, Copy)]
-pub(crate) struct Problem<'a> {
-    pub(crate) bytes: &'a [u8],
-    pub(crate) lexemes: &'a [Lexeme],
+pub struct Problem<'a> {
+    pub bytes: &'a [u8],
+    pub lexemes: &'a [Lexeme],
 }
 
 /// What is round a token: how many brackets are open there, the innermost of them, the block in which it stands, and how many
@@ -21,7 +21,7 @@ pub(crate) struct Around {
 }
 
 /// Whether a token begins a block.
-pub(crate) fn is_block(terminal: Option<Terminal>) -> bool {
+pub fn is_block(terminal: Option<Terminal>) -> bool {
     matches!(
         terminal,
         Some(
@@ -43,7 +43,7 @@ pub(crate) fn is_constants(terminal: Option<Terminal>) -> bool {
     )
 }
 
-pub(crate) fn is_quantifier(terminal: Option<Terminal>) -> bool {
+pub fn is_quantifier(terminal: Option<Terminal>) -> bool {
     matches!(terminal, Some(Terminal::Forall | Terminal::Exists))
 }
 
@@ -125,7 +125,7 @@ fn closes(terminal: Terminal) -> bool {
 
 impl<'a> Problem<'a> {
     /// Whether token k opens a bracket.
-    pub(crate) fn opens(&self, k: usize) -> bool {
+    pub fn opens(&self, k: usize) -> bool {
         match self.terminal(k) {
             Some(terminal) => opens(terminal),
             None => false,
@@ -133,7 +133,7 @@ impl<'a> Problem<'a> {
     }
 
     /// Whether token k closes a bracket.
-    pub(crate) fn closes(&self, k: usize) -> bool {
+    pub fn closes(&self, k: usize) -> bool {
         match self.terminal(k) {
             Some(terminal) => closes(terminal),
             None => false,
@@ -141,17 +141,17 @@ impl<'a> Problem<'a> {
     }
 
     /// The offset behind token k.
-    pub(crate) fn end_of(&self, k: usize) -> usize {
+    pub fn end_of(&self, k: usize) -> usize {
         self.offset(k).saturating_add(self.text(k).len())
     }
 
     /// How many tokens the file has.
-    pub(crate) fn len(&self) -> usize {
+    pub fn len(&self) -> usize {
         self.lexemes.len()
     }
 
     /// What token k is; none past the end.
-    pub(crate) fn terminal(&self, k: usize) -> Option<Terminal> {
+    pub fn terminal(&self, k: usize) -> Option<Terminal> {
         match self.lexemes.get(k) {
             Some(lexeme) => Some(lexeme.terminal),
             None => None,
@@ -167,7 +167,7 @@ impl<'a> Problem<'a> {
     }
 
     /// The bytes of token k; none past the end.
-    pub(crate) fn text(&self, k: usize) -> &'a [u8] {
+    pub fn text(&self, k: usize) -> &'a [u8] {
         match self.lexemes.get(k) {
             Some(lexeme) => spelling(self.bytes, lexeme),
             None => b"",
@@ -183,7 +183,7 @@ impl<'a> Problem<'a> {
     }
 
     /// The offset of token k; that of the end past the end.
-    pub(crate) fn offset(&self, k: usize) -> usize {
+    pub fn offset(&self, k: usize) -> usize {
         match self.lexemes.get(k) {
             Some(lexeme) => lexeme.at as usize,
             None => self.bytes.len(),
@@ -191,7 +191,7 @@ impl<'a> Problem<'a> {
     }
 
     /// The number of the line of token k.
-    pub(crate) fn line(&self, k: usize) -> u64 {
+    pub fn line(&self, k: usize) -> u64 {
         line_at(self.bytes, self.offset(k)).number
     }
 

@@ -2,17 +2,13 @@
 // that form in place of it. Of a file that the grammar takes, all names and expressions are gone through.
 
 use crate::faults::{Depth, Fault, list_faults};
-use crate::messages::Messages;
 use crate::problem::Problem;
-use crate::refusals::problem_slip;
+use crate::problem_refusals::problem_slip;
 use crate::repairs::{Repair, find_repair};
-use crate::spots::{Spot, put_refused};
 use linear_term::Memory;
+use message_lines::{MOST, Messages, Spot, put_refused};
 use pri_reader::{File, ReadRefusal, read};
 use std::alloc::Global;
-
-/// How many errors of a file are told at most.
-pub(crate) const MOST: usize = 10;
 
 /// How many bytes a file has at most.
 const FILE: usize = 1_048_576;

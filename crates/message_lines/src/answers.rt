@@ -4,13 +4,13 @@ use crate::places::cut;
 
 /// A refusal: its name, and the place or the number behind it.
 #[derive(Clone, Copy)]
-pub(crate) struct Refusal<'a> {
-    pub(crate) name: &'a [u8],
-    pub(crate) place: Option<u64>,
+pub struct Refusal<'a> {
+    pub name: &'a [u8],
+    pub place: Option<u64>,
 }
 
 /// The refusal that an answer names behind this label.
-pub(crate) fn find_refusal<'a>(answer: &'a [u8], label: &[u8]) -> Option<Refusal<'a>> {
+pub fn find_refusal<'a>(answer: &'a [u8], label: &[u8]) -> Option<Refusal<'a>> {
     let line = cut(answer, b'\n').0;
     let (name, behind) = cut(line.strip_prefix(label)?, b' ');
     let place = match behind {

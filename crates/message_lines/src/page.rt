@@ -5,14 +5,14 @@ use std::alloc::Global;
 
 /// Lines that grow at their end.
 #[derive(Drop)]
-pub(crate) struct Page {
+pub struct Page {
     alloc: Global,
     bytes: Vec<u8>,
 }
 
 impl Page {
     /// No line.
-    pub(crate) fn new(alloc: Global) -> Page {
+    pub fn new(alloc: Global) -> Page {
         Page {
             alloc,
             bytes: Vec::new(alloc),
@@ -25,35 +25,35 @@ impl Page {
     }
 
     /// The lines so far.
-    pub(crate) fn bytes(&self) -> &[u8] {
+    pub fn bytes(&self) -> &[u8] {
         self.bytes.as_slice()
     }
 
     /// The lines.
-    pub(crate) fn into_bytes(self) -> Vec<u8> {
+    pub fn into_bytes(self) -> Vec<u8> {
         let Page { alloc: _, bytes } = self;
         bytes
     }
 
     /// Puts a text behind the others.
-    pub(crate) fn put(&mut self, text: &[u8]) -> Result<(), Memory> {
+    pub fn put(&mut self, text: &[u8]) -> Result<(), Memory> {
         self.bytes.extend_from_slice(text)?;
         Ok(())
     }
 
     /// Puts a text behind the others.
-    pub(crate) fn put_str(&mut self, text: &str) -> Result<(), Memory> {
+    pub fn put_str(&mut self, text: &str) -> Result<(), Memory> {
         self.put(text.as_bytes())
     }
 
     /// Puts a number in decimal digits.
-    pub(crate) fn put_number(&mut self, number: u64) -> Result<(), Memory> {
+    pub fn put_number(&mut self, number: u64) -> Result<(), Memory> {
         let digits = number.to_string(self.alloc)?;
         self.put_str(digits.as_str())
     }
 
     /// Puts a number in decimal digits, with a comma before each three of them.
-    pub(crate) fn put_grouped(&mut self, number: u64) -> Result<(), Memory> {
+    pub fn put_grouped(&mut self, number: u64) -> Result<(), Memory> {
         let digits = number.to_string(self.alloc)?;
         let mut left = digits.len();
         for (i, digit) in digits.as_bytes().iter().enumerate() {
@@ -67,7 +67,7 @@ impl Page {
     }
 
     /// Puts the front of a text, and two dots where it has more than `most` bytes.
-    pub(crate) fn put_short(&mut self, text: &[u8], most: usize) -> Result<(), Memory> {
+    pub fn put_short(&mut self, text: &[u8], most: usize) -> Result<(), Memory> {
         match text.get(..most) {
             Some(front) if text.len() > most => {
                 self.put(front)?;

@@ -1,13 +1,12 @@
 // Why a script is refused: the slip at the place of the refusal, by the tokens and lists round it.
 
-use crate::foreign::{is_among, paired};
-use crate::near::is_near;
-use crate::script::Script;
 use crate::script_commands::command_slip;
-use crate::script_phrases::{Phrase, infix, is_infix, is_operator, operator_for};
 use crate::script_sentences as say;
 use crate::script_sorts::{Sort, find_sort};
-use crate::slip::{Hole, Slip};
+use message_lines::{
+    Hole, Phrase, Script, Slip, infix, is_among, is_infix, is_near, is_operator, is_utf_16,
+    operator_for, paired,
+};
 use smt_tokens::Terminal;
 
 /// The slip at token k, by the name of the refusal.
@@ -62,11 +61,6 @@ fn syntax_slip<'a>(script: Script<'a>, k: usize) -> Slip<'a> {
         return Slip::new(say::COMMENT);
     }
     Slip::new(say::OUTSIDE)
-}
-
-/// Whether a text begins with the byte order mark of UTF-16.
-pub(crate) fn is_utf_16(text: &[u8]) -> bool {
-    text.starts_with(b"\xff\xfe") || text.starts_with(b"\xfe\xff")
 }
 
 /// The slip where the script ends too early.
