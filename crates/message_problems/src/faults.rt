@@ -1,9 +1,10 @@
 // The faults of a file that the grammar takes: what is undeclared, declared twice, has another number of arguments, is of the other
 // kind, or is no linear product. A name that is declared twice is not judged where it is used.
 
+use crate::declared::{Found, Kind, Symbol, find_symbol, first_declaration};
 use linear_term::Memory;
 use message_lines::MOST;
-use pri_reader::{Added, Block, Declared, Expr, File, Form, Item, Name};
+use pri_reader::{Added, Block, Declared, Expr, File, Form, Name};
 use std::alloc::Global;
 
 /// A fault: its name, its place, and the name in the file that it is about.
@@ -20,20 +21,6 @@ pub(crate) enum Depth {
     /// Those of names alone.
     Names,
     All,
-}
-
-/// What an expression is.
-#[derive(Clone, Copy, PartialEq, Eq)]
-enum Kind {
-    Formula,
-    Term,
-}
-
-/// What a name stands for.
-#[derive(Clone, Copy)]
-struct Symbol {
-    kind: Kind,
-    arity: usize,
 }
 
 /// The bound names at a place: those of the innermost quantifier, and those around it.
@@ -170,93 +157,6 @@ impl<'a> Faults<'a> {
         self.kind(want, symbol.kind, at);
         true
     }
-}
-
-/// What a file declares by a name.
-#[derive(Clone, Copy)]
-enum Found {
-    Nothing,
-    Once(Symbol),
-    Twice,
-}
-
-impl Found {
-    /// The same with another declaration of the name.
-    fn with(self, symbol: Symbol) -> Found {
-        match self {
-            Found::Nothing => Found::Once(symbol),
-            _ => Found::Twice,
-        }
-    }
-}
-
-fn find_symbol(file: &File, text: &[u8]) -> Found {
-    let mut found = Found::Nothing;
-    for block in file.blocks.as_slice() {
-        match block {
-            Block::Universals(_, constants) | Block::Existentials(_, constants) => {
-                found = with_constants(found, constants.as_slice(), text);
-            }
-            Block::Functions(_, items) => {
-                found = with_items(found, items.as_slice(), Kind::Term, text);
-            }
-            Block::Predicates(_, items) => {
-                found = with_items(found, items.as_slice(), Kind::Formula, text);
-            }
-            Block::Problem(_, _) | Block::Interpolant(_, _) => {}
-        }
-    }
-    found
-}
-
-fn with_constants(found: Found, constants: &[Declared], text: &[u8]) -> Found {
-    let mut found = found;
-    for constant in constants {
-        if constant.name.text.as_slice() == text {
-            found = found.with(Symbol {
-                kind: Kind::Term,
-                arity: 0,
-            });
-        }
-    }
-    found
-}
-
-fn with_items(found: Found, items: &[Item], kind: Kind, text: &[u8]) -> Found {
-    let mut found = found;
-    for item in items {
-        if item.name.text.as_slice() == text {
-            found = found.with(Symbol {
-                kind,
-                arity: item.arity as usize,
-            });
-        }
-    }
-    found
-}
-
-/// The place of the first declaration of a name.
-fn first_declaration(file: &File, text: &[u8]) -> Option<u64> {
-    for block in file.blocks.as_slice() {
-        match block {
-            Block::Universals(_, constants) | Block::Existentials(_, constants) => {
-                for constant in constants.as_slice() {
-                    if constant.name.text.as_slice() == text {
-                        return Some(constant.name.at);
-                    }
-                }
-            }
-            Block::Functions(_, items) | Block::Predicates(_, items) => {
-                for item in items.as_slice() {
-                    if item.name.text.as_slice() == text {
-                        return Some(item.name.at);
-                    }
-                }
-            }
-            Block::Problem(_, _) | Block::Interpolant(_, _) => {}
-        }
-    }
-    None
 }
 
 fn is_bound(scope: &Scope, text: &[u8]) -> bool {

@@ -2,6 +2,7 @@
 #![tactic(auto)]
 
 mod declarations;
+mod declared;
 mod faults;
 mod further;
 mod kinds;
