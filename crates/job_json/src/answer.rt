@@ -3,10 +3,11 @@
 use crate::counterexample::write_counterexample;
 use crate::object::Object;
 use crate::refusal::write_refusal;
-use crate::text::{cut, first_line, labelled};
+use crate::text::{first_line, labelled};
 use crate::values::write_values;
 use job_messages::Message;
 use linear_term::Memory;
+use message_lines::cut;
 
 /// Writes the members for an answer with these lines, without those of a proof. What is known of a refusal stands in the messages.
 pub(crate) fn write_answer(

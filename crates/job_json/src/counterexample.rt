@@ -1,9 +1,10 @@
 // The lines of a counterexample: values of constants, and rows of predicates and functions.
 
 use crate::object::Object;
-use crate::text::{cut, first_line};
+use crate::text::first_line;
 use crate::values::write_value;
 use linear_term::Memory;
+use message_lines::cut;
 
 /// Writes a member for the lines behind `counterexample:`, if an answer has them.
 pub(crate) fn write_counterexample(object: &mut Object, answer: &[u8]) -> Result<(), Memory> {

@@ -6,11 +6,12 @@ use crate::answer::write_answer;
 use crate::message::write_messages;
 use crate::object::Object;
 use crate::statistics::write_statistics;
-use crate::text::cut;
+use crate::text::text_of;
 use base_answers::put_all;
 use job_counts::Statistics;
 use job_messages::Message;
 use linear_term::Memory;
+use message_lines::cut;
 use prover_io::{Failed, Sink};
 use std::alloc::Global;
 use std::string::String;
@@ -187,7 +188,7 @@ fn bytes_of(text: &Option<String>) -> Option<&[u8]> {
 
 /// Bytes as a text of JSON, between quotes.
 fn quoted(alloc: Global, bytes: &[u8]) -> Result<Vec<u8>, Memory> {
-    let text = crate::text::text_of(alloc, bytes)?;
+    let text = text_of(alloc, bytes)?;
     let mut writer = json::Writer::new(Vec::new(alloc));
     writer.string(text.as_str())?;
     Ok(writer.into_inner())

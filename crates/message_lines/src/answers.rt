@@ -21,7 +21,7 @@ pub fn find_refusal<'a>(answer: &'a [u8], label: &[u8]) -> Option<Refusal<'a>> {
 }
 
 /// The number that decimal digits write, where it has 64 bits at most.
-fn number(digits: &[u8]) -> Option<u64> {
+pub fn number(digits: &[u8]) -> Option<u64> {
     if digits.is_empty() {
         return None;
     }
