@@ -2,10 +2,10 @@
 
 ghost use Rattle.base_answers.specs.Answer.{answer_of};
 ghost use Rattle.base_limits.specs.Limits.{most_budget, most_count};
-ghost use Rattle.job_solve.specs.Drilled.{IsDrilled, drill_answer, first_line};
+ghost use Rattle.job_decide.specs.Drilled.{IsDrilled, drill_answer, first_line};
 ghost use Rattle.std.specs.Prelude.{◌≡◌, ◌++◌, ◌≤◌, IfOk, OnOk};
 
-use super::solving::answer;
+use crate::deciding::answer;
 use base_answers::Output;
 use base_watch::Watch;
 use linear_term::Memory;
@@ -24,7 +24,7 @@ pub fn drilled<X: Watch>(
     ensures { IfOk result (λ output. IsDrilled budget count (answer_of output)) }
 {
     let problem = drill(alloc, count)?;
-    let solved = answer(alloc, problem.as_slice(), budget, None, watch)?;
+    let solved = answer(alloc, problem.as_slice(), budget, None, false, false, watch)?;
     told(alloc, count, &solved)
 }
 
