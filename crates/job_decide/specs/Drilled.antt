@@ -10,7 +10,7 @@ abbrev pub first_line : List ℕ → List ℕ
 first_line [] = []
 first_line (c ∷ cs) = if c == 10 then c ∷ [] else c ∷ first_line cs
 
--- the size of the problem, and behind it the first line of an answer, with its status
+-- the size of the problem, and after it the first line of an answer, with its status
 abbrev pub drill_answer : ℕ → Answer → Answer
 drill_answer count answer = record { status = answer.status; text = codes "drill " ++ (decimal count ++ (codes ": " ++ first_line answer.text)) }
 

@@ -28,7 +28,7 @@ pub fn drilled<X: Watch>(
     told(alloc, count, &solved)
 }
 
-// The first line of an answer behind the size of its problem.
+// The first line of an answer after the size of its problem.
 fn told(alloc: Global, count: u32, solved: &Output) -> Result<Output, Memory>
     ensures { IfOk result (λ output. answer_of output ≡ drill_answer count (answer_of solved.now)) }
 {
@@ -43,7 +43,7 @@ fn told(alloc: Global, count: u32, solved: &Output) -> Result<Output, Memory>
     })
 }
 
-// The first line of a text, behind another text.
+// The first line of a text, after another text.
 fn put_first_line(text: &[u8], out: &mut Vec<u8>) -> Result<(), Memory>
     ensures { OnOk result (out.new.items ≡ out.old.items ++ first_line text.now) }
 {

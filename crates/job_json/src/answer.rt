@@ -78,7 +78,7 @@ fn write_verdict(object: &mut Object, line: &[u8]) -> Result<(), Memory> {
     object.text_member("answer", verdict)
 }
 
-/// Writes members for the lines behind the first one, and for a first one that is a constraint.
+/// Writes members for the lines after the first one, and for a first one that is a constraint.
 fn write_lines(object: &mut Object, answer: &[u8]) -> Result<(), Memory> {
     if let Some(constraint) = labelled(answer, b"constraint: ") {
         object.text_member("constraint", constraint)?;

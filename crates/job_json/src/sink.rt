@@ -96,7 +96,7 @@ impl<K: Sink> JsonSink<K> {
         }
     }
 
-    /// Takes a line, or the part of it that is there; behind the line `proof:` the object is begun.
+    /// Takes a line, or the part of it that is there; after the line `proof:` the object is begun.
     fn take_line(&mut self, piece: &[u8]) -> Result<usize, Failed>
         ensures counted { self.new.faults ≡ self.old.faults }
     {
@@ -162,7 +162,7 @@ fn front_of_object(
     Ok(object.into_bytes())
 }
 
-/// An object with the members behind those for the lines.
+/// An object with the members after those for the lines.
 fn end_of_object(
     alloc: Global,
     status: u8,

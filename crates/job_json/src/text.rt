@@ -5,13 +5,13 @@ use message_lines::cut;
 use std::alloc::Global;
 use std::string::String;
 
-/// The first line of a text, without its line feed, and the text behind it.
+/// The first line of a text, without its line feed, and the text after it.
 pub(crate) fn first_line(text: &[u8]) -> (&[u8], &[u8]) {
     let (line, behind) = cut(text, b'\n');
     (line, behind.unwrap_or(&[]))
 }
 
-/// What stands behind a label in the first line that begins with it.
+/// What stands after a label in the first line that begins with it.
 pub(crate) fn labelled<'a>(text: &'a [u8], label: &[u8]) -> Option<&'a [u8]> {
     let mut rest = text;
     for _ in 0..text.len() {

@@ -117,7 +117,7 @@ fn cut_from(problem: &Problem, k: usize, is_inside: bool) -> usize {
     problem.len()
 }
 
-/// What the message about the interpolant at a token is about; behind the last token there is no place.
+/// What the message about the interpolant at a token is about; after the last token there is no place.
 fn subject_at<'a, 'n>(
     problem: &Problem<'a>,
     at: usize,

@@ -49,7 +49,7 @@ pub fn named_assertions(alloc: Global, text: &[u8]) -> Result<Vec<NamedAssertion
     Ok(found)
 }
 
-/// The assertion that token k begins, behind this many checks, if it has a name.
+/// The assertion that token k begins, after this many checks, if it has a name.
 fn named_assertion(script: &Script, k: usize, checks: usize) -> Option<NamedAssertion> {
     let term = script.member(k, 1)?;
     if !script.opens(term.from) || script.member_text(term.from, 0) != b"!".as_slice() {
@@ -83,7 +83,7 @@ pub fn without(alloc: Global, text: &[u8], assertion: &NamedAssertion) -> Result
 }
 
 /// Whether the checks of a script with these lines of an answer do not need one of its assertions, where the script without it has these
-/// other lines: a check behind the assertion is unsat, and each that is unsat still is.
+/// other lines: a check after the assertion is unsat, and each that is unsat still is.
 pub fn is_unused(answer: &[u8], other: &[u8], assertion: &NamedAssertion) -> bool {
     let mut is_asked = false;
     let mut others = other.split(|byte| *byte == b'\n');

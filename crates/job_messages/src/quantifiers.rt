@@ -148,7 +148,7 @@ fn reaches_all(p: &Problem, k: usize, symbols: &[Symbol], instances: &Instances)
     true
 }
 
-/// The first token behind token k that closes a bracket which was open there.
+/// The first token after token k that closes a bracket which was open there.
 fn end_of_brackets(p: &Problem, k: usize) -> usize {
     let mut depth: usize = 0;
     for i in k..p.len() {

@@ -103,7 +103,7 @@ fn bound_text<'a>(p: &Problem<'a>, bound: Bound) -> &'a [u8] {
     p.bytes.get(from..to).unwrap_or(b"")
 }
 
-/// Puts a warning of a script that asks nothing, or nothing behind its last assertions.
+/// Puts a warning of a script that asks nothing, or nothing after its last assertions.
 pub(crate) fn put_unasked<'x>(
     alloc: Global,
     messages: &mut Messages,
@@ -125,7 +125,7 @@ pub(crate) fn put_unasked<'x>(
     put_warning(messages, file, text, at, &Slip::new(sentence))
 }
 
-/// What a script asks: whether it has a check, the first assertion behind its last check, and its last command.
+/// What a script asks: whether it has a check, the first assertion after its last check, and its last command.
 #[derive(Clone, Copy)]
 struct Commands {
     has_check: bool,

@@ -5,7 +5,7 @@ use message_lines::{Hole, Slip, find_near, is_among};
 use std::mem;
 use std::string::String;
 
-/// The words behind a command, as far as they were gone through.
+/// The words after a command, as far as they were gone through.
 #[derive(Clone, Copy)]
 struct Seen {
     files: usize,
@@ -108,7 +108,7 @@ fn options_slip<'a>(command: &'a [u8], words: &'a [String], seen: &mut Seen) -> 
     }
 }
 
-/// The name of an option, without a value behind a sign =.
+/// The name of an option, without a value after a sign =.
 fn option_name(word: &[u8]) -> &[u8] {
     if word.starts_with(b"--budget=") {
         b"--budget"

@@ -2,14 +2,14 @@
 
 use crate::places::cut;
 
-/// A refusal: its name, and the place or the number behind it.
+/// A refusal: its name, and the place or the number after it.
 #[derive(Clone, Copy)]
 pub struct Refusal<'a> {
     pub name: &'a [u8],
     pub place: Option<u64>,
 }
 
-/// The refusal that an answer names behind this label.
+/// The refusal that an answer names after this label.
 pub fn find_refusal<'a>(answer: &'a [u8], label: &[u8]) -> Option<Refusal<'a>> {
     let line = cut(answer, b'\n').0;
     let (name, behind) = cut(line.strip_prefix(label)?, b' ');

@@ -98,7 +98,7 @@ impl Messages {
         self.put_with(subject, slip, b"")
     }
 
-    /// Adds a message with a text behind its sentence.
+    /// Adds a message with a text after its sentence.
     pub fn put_with(
         &mut self,
         subject: &Subject,

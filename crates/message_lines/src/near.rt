@@ -33,7 +33,7 @@ pub fn find_near(text: &[u8], words: &[&'static str]) -> Option<&'static str> {
     None
 }
 
-/// What is left of two texts behind their common front.
+/// What is left of two texts after their common front.
 fn differing<'a, 'b>(one: &'a [u8], other: &'b [u8]) -> (&'a [u8], &'b [u8]) {
     for (i, byte) in one.iter().enumerate() {
         if other.get(i) != Some(byte) {

@@ -35,13 +35,13 @@ impl Page {
         bytes
     }
 
-    /// Puts a text behind the others.
+    /// Puts a text after the others.
     pub fn put(&mut self, text: &[u8]) -> Result<(), Memory> {
         self.bytes.extend_from_slice(text)?;
         Ok(())
     }
 
-    /// Puts a text behind the others.
+    /// Puts a text after the others.
     pub fn put_str(&mut self, text: &str) -> Result<(), Memory> {
         self.put(text.as_bytes())
     }

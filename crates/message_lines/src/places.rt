@@ -18,11 +18,11 @@ pub struct Line<'a> {
     pub from: usize,
     /// Its bytes, without the line feed.
     pub text: &'a [u8],
-    /// Whether it is a line at all: behind the last line feed nothing need stand.
+    /// Whether it is a line at all: after the last line feed nothing need stand.
     pub is_there: bool,
 }
 
-/// A text up to the first such byte, and what stands behind that byte.
+/// A text up to the first such byte, and what stands after that byte.
 pub fn cut(text: &[u8], byte: u8) -> (&[u8], Option<&[u8]>) {
     for (i, found) in text.iter().enumerate() {
         if *found == byte {

@@ -50,7 +50,7 @@ impl<'a> Script<'a> {
         }
     }
 
-    /// The bytes of the token that many behind token k.
+    /// The bytes of the token that many after token k.
     pub fn text_behind(&self, k: usize, many: usize) -> &'a [u8] {
         self.text(k.saturating_add(many))
     }
@@ -86,7 +86,7 @@ impl<'a> Script<'a> {
         }
     }
 
-    /// The first token at this offset or behind it.
+    /// The first token at this offset or after it.
     pub fn token_at(&self, offset: usize) -> usize {
         for (k, lexeme) in self.lexemes.iter().enumerate() {
             if lexeme.at as usize >= offset {

@@ -91,7 +91,7 @@ impl<'a> Slip<'a> {
         slip
     }
 
-    /// The same at this token, behind that one.
+    /// The same at this token, after that one.
     pub fn at(self, token: Hole<'a>, before: &'a [u8]) -> Slip<'a> {
         let mut slip = self;
         slip.token = token;

@@ -13,7 +13,7 @@ use std::alloc::Global;
 /// How many bytes a file has at most.
 const FILE: usize = 1_048_576;
 
-/// Puts the errors of a problem's file behind its first one, which has this name and place.
+/// Puts the errors of a problem's file after its first one, which has this name and place.
 pub(crate) fn put_further<'x>(
     alloc: Global,
     messages: &mut Messages,
@@ -37,7 +37,7 @@ pub(crate) fn put_further<'x>(
     }
 }
 
-/// Puts the errors behind slips of which each but the last one has a known form: the file is read again with it.
+/// Puts the errors after slips of which each but the last one has a known form: the file is read again with it.
 fn put_behind_slips<'x>(
     alloc: Global,
     messages: &mut Messages,
@@ -84,7 +84,7 @@ fn put_behind_slips<'x>(
     Ok(())
 }
 
-/// The name and the place of a refusal by the grammar; for want of memory place 0.
+/// The name and the place of a refusal by the grammar; place 0 if memory runs out.
 fn refused_at(refusal: ReadRefusal) -> (&'static [u8], usize) {
     match refusal {
         ReadRefusal::Syntax(at) => (b"Syntax", at as usize),

@@ -100,7 +100,7 @@ fn is_formula(p: &Problem, k: usize) -> bool {
     false
 }
 
-/// The first token behind the group that token k opens.
+/// The first token after the group that token k opens.
 fn behind_group(p: &Problem, k: usize) -> usize {
     let mut depth: usize = 0;
     for i in k..p.len() {

@@ -140,7 +140,7 @@ impl<'a> Problem<'a> {
         }
     }
 
-    /// The offset behind token k.
+    /// The offset after token k.
     pub fn end_of(&self, k: usize) -> usize {
         self.offset(k).saturating_add(self.text(k).len())
     }
@@ -201,7 +201,7 @@ impl<'a> Problem<'a> {
         next < self.len() && self.offset(k).saturating_add(self.text(k).len()) == self.offset(next)
     }
 
-    /// The first token at this offset or behind it.
+    /// The first token at this offset or after it.
     pub(crate) fn token_at(&self, offset: usize) -> usize {
         for (k, lexeme) in self.lexemes.iter().enumerate() {
             if lexeme.at as usize >= offset {
@@ -273,7 +273,7 @@ impl<'a> Problem<'a> {
         None
     }
 
-    /// Whether the last command up to token k is a quantifier, with none of `;`, `)` and `}` behind it.
+    /// Whether the last command up to token k is a quantifier, with none of `;`, `)` and `}` after it.
     pub(crate) fn begins_binder(&self, k: usize) -> bool {
         for i in (0..k.saturating_add(1).min(self.len())).rev() {
             match self.terminal(i) {
@@ -333,7 +333,7 @@ impl<'a> Problem<'a> {
         )
     }
 
-    /// How many arguments stand in the parentheses behind token k.
+    /// How many arguments stand in the parentheses after token k.
     pub(crate) fn arguments(&self, k: usize) -> usize {
         let open = k.saturating_add(1);
         if self.terminal(open) != Some(Terminal::OpenParenthesis)

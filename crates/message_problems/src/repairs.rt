@@ -45,7 +45,7 @@ pub(crate) fn find_repair(p: &Problem, k: usize) -> Option<Repair> {
     block_repair(p, k)
 }
 
-/// The repair of a sign of another language that is two tokens here: the refused one is the second, or behind a relation the first.
+/// The repair of a sign of another language that is two tokens here: the refused one is the second, or after a relation the first.
 fn glued_repair(p: &Problem, k: usize) -> Option<Repair> {
     let first = k.checked_sub(1)?;
     if p.touches_next(first) {
@@ -102,7 +102,7 @@ fn byte_repair(p: &Problem, k: usize) -> Option<Repair> {
     Repair::fitting(from, behind_character(p.bytes, from), sign)
 }
 
-/// The offset behind the character that begins at an offset.
+/// The offset after the character that begins at an offset.
 fn behind_character(bytes: &[u8], from: usize) -> usize {
     let rest = bytes.get(from..).unwrap_or(&[]);
     for (i, byte) in rest.iter().enumerate() {

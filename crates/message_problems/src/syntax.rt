@@ -92,7 +92,7 @@ fn end_slip<'a>(p: &Problem<'a>, around: &Around) -> Slip<'a> {
     Slip::new(say::NO_PROBLEM)
 }
 
-/// Signs of other languages that are two tokens here, with nothing between them: the refused one is the second, or behind a
+/// Signs of other languages that are two tokens here, with nothing between them: the refused one is the second, or after a
 /// relation the first.
 fn glued(p: &Problem, k: usize) -> Option<&'static str> {
     let first = k.checked_sub(1)?;
@@ -202,7 +202,7 @@ fn bad_sentence(p: &Problem, k: usize) -> &'static str {
     }
 }
 
-/// Whether digits or another dot stand right behind token k.
+/// Whether digits or another dot stand right after token k.
 fn begins_fraction(p: &Problem, k: usize) -> bool {
     let next = p.text(k.saturating_add(1));
     p.touches_next(k) && (next == b".".as_slice() || next.first().is_some_and(u8::is_ascii_digit))

@@ -106,7 +106,7 @@ fn begins_binder_before(p: &Problem, k: usize) -> bool {
     }
 }
 
-/// The sentence at token k behind a bound name or a comma between bound names.
+/// The sentence at token k after a bound name or a comma between bound names.
 fn bound_sentence(p: &Problem, k: usize) -> Option<&'static str> {
     let before = p.before(k, 1);
     if is_word(p.terminal(k)) && before == Some(Terminal::Comma) && begins_binder_before(p, k) {

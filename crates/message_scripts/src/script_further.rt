@@ -58,7 +58,7 @@ struct Refused<'a> {
     command: usize,
 }
 
-/// Puts the errors of a script behind its first one, which has this name and stands at this token.
+/// Puts the errors of a script after its first one, which has this name and stands at this token.
 pub(crate) fn put_further_commands<'x>(
     messages: &mut Messages,
     file: &'x str,

@@ -13,7 +13,7 @@ pub(crate) struct Manner {
     pub(crate) is_vacuous: bool,
     /// It is also asked which named assertions are not needed.
     pub(crate) is_unused: bool,
-    /// What the run did is told behind it.
+    /// What the run did is told after it.
     pub(crate) is_stats: bool,
     /// How far the run is, is told while it goes on.
     pub(crate) is_progress: bool,
@@ -46,7 +46,7 @@ pub(crate) enum Request {
 }
 
 /// What these words ask for. `--quiet`, `--json`, `--stats` and `--progress` stand before the command, in any order, and all but the
-/// first also behind it; `--vacuous` and `--proof-to FILE` stand behind `solve`, and `--unused` behind `smt`. They are taken out, so the
+/// first also after it; `--vacuous` and `--proof-to FILE` stand after `solve`, and `--unused` after `smt`. They are taken out, so the
 /// top call sees the other words, and `--proof` where a proof goes to a file and no form of it is asked for.
 pub(crate) fn read_request(alloc: Global, words: Vec<String>) -> Result<Request, AllocError> {
     let mut manner = Manner::USUAL;
@@ -82,7 +82,7 @@ pub(crate) fn read_request(alloc: Global, words: Vec<String>) -> Result<Request,
     Ok(Request::Run { words, manner })
 }
 
-/// The option before the name of the file to which a proof goes, and the same where no name stands behind it: no job has it.
+/// The option before the name of the file to which a proof goes, and the same where no name stands after it: no job has it.
 const PROOF_FILE: &str = "--proof-to";
 
 const WITHOUT_FILE: &str = "--proof-to=";
@@ -93,7 +93,7 @@ fn takes_file(manner: &Manner, place: Place, word: &str) -> bool {
     is_solve && word == PROOF_FILE && manner.proof_file.is_none()
 }
 
-/// The name of that file, where it stands behind the option and a sign =.
+/// The name of that file, where it stands after the option and a sign =.
 fn file_behind<'a>(manner: &Manner, place: Place, word: &'a str) -> Option<&'a str> {
     let is_solve = place == Place::Options(Command::Solve);
     if !is_solve || manner.proof_file.is_some() {
@@ -105,7 +105,7 @@ fn file_behind<'a>(manner: &Manner, place: Place, word: &'a str) -> Option<&'a s
     }
 }
 
-/// The same words with `--proof` behind the first of them, unless they ask for a form of the proof.
+/// The same words with `--proof` after the first of them, unless they ask for a form of the proof.
 fn with_proof(alloc: Global, words: Vec<String>) -> Result<Vec<String>, AllocError> {
     let asks = words.iter().any(|word| word.as_str() == "--proof" || word.as_str() == "--short");
     if asks {
@@ -122,7 +122,7 @@ fn with_proof(alloc: Global, words: Vec<String>) -> Result<Vec<String>, AllocErr
     Ok(all)
 }
 
-/// A command, by the options that are taken out behind it.
+/// A command, by the options that are taken out after it.
 #[derive(Clone, Copy, PartialEq, Eq)]
 enum Command {
     Solve,
@@ -135,18 +135,18 @@ enum Command {
 enum Place {
     /// Before the command.
     Front,
-    /// Behind a command, where options stand.
+    /// After a command, where options stand.
     Options(Command),
     /// Where the value of an option stands.
     Value(Command),
     /// Where the name of the file stands to which a proof goes.
     ProofFile,
-    /// Behind a word `--`.
+    /// After a word `--`.
     Operands,
 }
 
 impl Place {
-    /// The place behind this word, which stands here.
+    /// The place after this word, which stands here.
     fn behind(self, word: &str) -> Place {
         match (self, word) {
             (Place::Front, "solve") => Place::Options(Command::Solve),
@@ -196,7 +196,7 @@ fn asked_text(words: &[String]) -> Option<Text> {
     }
 }
 
-/// Whether the words behind a command ask for help: `-h` as the first of them, or `--help` before a word `--`.
+/// Whether the words after a command ask for help: `-h` as the first of them, or `--help` before a word `--`.
 fn asks_for_help(words: &[String]) -> bool {
     if let Some(first) = words.first()
         && first.as_str() == "-h"

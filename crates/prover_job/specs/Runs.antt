@@ -98,7 +98,7 @@ AreBegun bytes_of task before after = after ≡ before ++ files_of task
 abbrev pub BrokeAt : Task → Option (List ℕ) → Bool → Type 0
 BrokeAt task name broken = (file : List ℕ) × Contains (files_of task) file × Broke (Some file) name broken
 
--- the bytes of a file, where they are told, read as a problem of which the text put says that it is valid; behind it comes nothing,
+-- the bytes of a file, where they are told, read as a problem of which the text put says that it is valid; after it comes nothing,
 -- or the part with a proof of that, in the form that is asked for
 pub record SaysValid (w : Meaning) (asked : Option ProofForm) (told before after : Option (List ℕ)) : Type 0 where
   pub bytes : List ℕ
@@ -119,7 +119,7 @@ pub record SaysChecked (w : Meaning) (told before after : Option (List ℕ)) : T
   pub confirms : Confirms w bytes text
 
 -- the bytes of a file, where they are told, read as a problem that is refuted; the text put shows a counterexample where the problem
--- has predicates or functions, or where one is asked for and values are found, and behind it comes nothing, or the part with a proof, in the
+-- has predicates or functions, or where one is asked for and values are found, and after it comes nothing, or the part with a proof, in the
 -- form that is asked for
 pub record SaysRefuted (shows : Bool) (asked : Option ProofForm) (told before after : Option (List ℕ)) : Type 0 where
   pub bytes : List ℕ

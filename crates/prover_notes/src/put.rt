@@ -16,7 +16,7 @@ use std::alloc::{AllocError, Global};
 use std::string::String;
 
 /// What is to be said of a run with these words that ended with this status, from what was read and what was answered: nothing
-/// where the answer says all, and where memory is wanting. A proof that was not held is read again.
+/// where the answer says all, and where memory runs out. A proof that was not held is read again.
 pub fn messages<S: Source, K: Sink, F: NamedFiles>(
     alloc: Global,
     words: &[String],
@@ -58,7 +58,7 @@ pub fn messages<S: Source, K: Sink, F: NamedFiles>(
     }
 }
 
-/// Puts the lines of messages. Where memory is wanting or the sink fails it puts less.
+/// Puts the lines of messages. Where memory runs out or the sink fails it puts less.
 pub fn put_messages<N: Sink>(alloc: Global, messages: &[Message], noted: &mut N)
     ensures { N.faults noted.old ≤ N.faults noted.new }
 {

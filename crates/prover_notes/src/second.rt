@@ -32,7 +32,7 @@ impl Sink for Nowhere {
 pub enum Second {
     /// It is not asked, or its answer is this one.
     Known(Vacuity),
-    /// The words and the source of a run that answers it, and the place of the sign `->` behind the assumptions.
+    /// The words and the source of a run that answers it, and the place of the sign `->` after the assumptions.
     Asked {
         words: Vec<String>,
         source: MemorySource,
