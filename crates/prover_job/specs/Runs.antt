@@ -1,5 +1,5 @@
 -- What a run answers to its words over a source of named bytes, and what its end means.
-use Rattle.std.specs.Prelude.{◌≡◌, ◌⊎◌, ◌+◌, ◌≤◌, ◌<◌, ◌^◌, ℕ, Bool, true, List, [], ◌∷◌, ◌++◌, length, map, Option, Some, None, Contains, String, string_bytes}
+use Rattle.std.specs.Prelude.{◌≡◌, ◌⊎◌, ◌+◌, ◌≤◌, ◌<◌, ◌^◌, ℕ, Bool, true, false, List, [], ◌∷◌, ◌++◌, length, map, Option, Some, None, Contains, String, string_bytes}
 use Rattle.std.specs.declared.alloc.Global.{Global}
 use Rattle.base_limits.specs.Limits.{most_budget, most_count}
 use Rattle.form_typed.specs.Truth.{Meaning}
