@@ -1,4 +1,3 @@
 pub mod Showing
 pub mod Means
 pub mod Causing
-mod FirstLines

@@ -1,5 +1,4 @@
 pub mod Shown
 pub mod Decided
-pub mod Drilled
 pub mod Meaning
 pub mod Causes

@@ -2,6 +2,7 @@ pub mod Causing
 pub mod Exactly
 pub mod Grounded
 pub mod Meaning
+mod FirstLines
 mod Outcomes
 mod Own
 pub mod Saturated
