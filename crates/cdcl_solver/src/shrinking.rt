@@ -2,6 +2,7 @@
 
 use crate::modelling::{Refutation, refutation_of};
 use crate::squeezing::squeezed;
+use crate::target::Target;
 use base_budget::Purse;
 use cdcl_fuel::{Fault, Fuel};
 use cdcl_models::{Judge, Model, shrink};
@@ -90,17 +91,29 @@ fn is_false_below(
 #[derive(Drop)]
 struct Judgement<'a> {
     alloc: Global,
-    root: &'a Core,
-    universals: u32,
+    target: Target<'a>,
     best: Option<Refutation>,
 }
 
 impl Judge for Judgement<'_> {
     fn is_false(&mut self, model: &Model, fuel: &mut Fuel) -> Result<bool, Fault> {
-        let found = refutation_of(self.alloc, model, self.universals)?;
+        let Target {
+            root,
+            values,
+            universals,
+        } = self.target;
+        let found = refutation_of(self.alloc, model, universals)?;
+        let mut at = Vec::from_slice(self.alloc, values)?;
+        at.extend_from_slice(found.values.as_slice())?;
         let mut purse = Purse::new(fuel.left());
-        let values = found.values.as_slice();
-        let outcome = is_false_below(self.alloc, &mut purse, self.root, &found.model, values, 0);
+        let outcome = is_false_below(
+            self.alloc,
+            &mut purse,
+            root,
+            &found.model,
+            at.as_slice(),
+            values.len(),
+        );
         fuel.spend(purse.spent())?;
         match outcome {
             Ok(true) => {
@@ -118,15 +131,13 @@ impl Judge for Judgement<'_> {
 /// Whether the root is seen to be false in the model, at the values of its first constants for the root's first for-alls.
 pub(crate) fn judged(
     alloc: Global,
-    root: &Core,
-    universals: u32,
+    target: Target<'_>,
     model: &Model,
     fuel: &mut Fuel,
 ) -> Result<bool, Fault> {
     let mut judgement = Judgement {
         alloc,
-        root,
-        universals,
+        target,
         best: None,
     };
     judgement.is_false(model, fuel)
@@ -167,22 +178,19 @@ fn judge_all(
     Ok(())
 }
 
-/// The model of a search with smaller numbers, looked for in at most `steps` steps, at values of the root's first `universals`
-/// for-alls. Where the root is not seen to be false in the model, the model stays as it is.
+/// The model of a search with smaller numbers, looked for in at most `steps` steps, at values of the root's first for-alls. Where the root is not seen to be false in the model, the model stays as it is.
 pub(crate) fn shrunk(
     alloc: Global,
-    root: &Core,
+    target: Target<'_>,
     found: Model,
-    universals: u32,
     steps: u64,
 ) -> Result<Refutation, Fault> {
     let mut found = found;
-    found.constants.truncate(universals as usize);
-    let first = refutation_of(alloc, &found, universals)?;
+    found.constants.truncate(target.universals as usize);
+    let first = refutation_of(alloc, &found, target.universals)?;
     let mut judgement = Judgement {
         alloc,
-        root,
-        universals,
+        target,
         best: None,
     };
     if let Err(Fault::Memory) = judge_all(alloc, found, &mut judgement, steps) {

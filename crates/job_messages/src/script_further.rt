@@ -133,8 +133,8 @@ fn put_again<'x>(
     k: usize,
 ) -> Result<(), Memory> {
     let name = k.saturating_add(2);
-    match refused.script.declaration_before(refused.script.text(name), k) {
-        Some(found) if found != refused.command => {
+    match refused.script.declaration(refused.script.text(name)) {
+        Some(found) if found < k && found != refused.command => {
             put_error(messages, file, refused, b"Redeclared", name)
         }
         _ => Ok(()),
@@ -206,11 +206,10 @@ fn name_fault(refused: &Refused, i: usize) -> Option<&'static [u8]> {
     if found > i {
         return Some(b"Undeclared");
     }
-    match script.declaration_before(name, i) {
-        Some(found) if found != refused.command && has_other_arguments(script, found, i) => {
-            Some(b"Arity")
-        }
-        _ => None,
+    if found != refused.command && has_other_arguments(script, found, i) {
+        Some(b"Arity")
+    } else {
+        None
     }
 }
 

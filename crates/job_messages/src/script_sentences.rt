@@ -59,9 +59,6 @@ pub(crate) const CASE: &str = "{token} is declared nowhere before; {name} is, in
 
 pub(crate) const LATER: &str = "{token} is declared in line {line}, behind this";
 
-pub(crate) const GONE: &str =
-    "{token} is declared in line {line}, in a level that is left by pop, or before a reset";
-
 pub(crate) const REDECLARED: &str =
     "{token} is declared or defined before, or is the name of an operator";
 
@@ -107,9 +104,8 @@ pub(crate) const DIVISION: &str =
 pub(crate) const DIVISIBLE: &str =
     "there is no divisible; x is a multiple of 4 where (exists ((q Int)) (= x (* 4 q)))";
 
-pub(crate) const LEVELS: &str = "this push opens the 10,001st level, and 10,000 is the limit";
-
-pub(crate) const LEVELS_LEFT: &str = "this pop leaves more levels than are open";
+pub(crate) const STACK: &str =
+    "there is no {name}; write a script for each question, or let the assertions grow from one check-sat to the next";
 
 pub(crate) const NO_MODEL: &str =
     "{name} is not read: `sat` prints no model; leave the command out";
@@ -151,15 +147,6 @@ pub(crate) const FORM_ASSERT: &str =
     "assert takes one term; several are joined by and, as (assert (and (> x 3) (< x 9)))";
 
 pub(crate) const FORM_CHECK_SAT: &str = "a check is written (check-sat), without more";
-
-pub(crate) const FORM_ASSUMING: &str =
-    "a check of assumptions is written (check-sat-assuming (a (< x 3)))";
-
-pub(crate) const FORM_PUSH: &str = "a level is opened by (push 1); several by their number";
-
-pub(crate) const FORM_POP: &str = "a level is left by (pop 1); several by their number";
-
-pub(crate) const FORM_RESET: &str = "a new beginning is written ({name}), without more";
 
 pub(crate) const FORM_EXIT: &str = "the end is written (exit), without more";
 

@@ -29,7 +29,6 @@ pub(crate) fn script_slip<'a>(script: Script<'a>, name: &[u8], k: usize) -> Slip
         },
         b"NonLinear" => Slip::new(say::NONLINEAR),
         b"Literal" => Slip::new(say::NUMERAL),
-        b"Deep" if script.outermost(k).is_none() => Slip::new(say::LEVELS),
         b"Deep" => Slip::new(say::DEEP),
         b"Many" => Slip::new(say::MANY),
         _ => Slip::new(say::LARGE),
@@ -90,7 +89,7 @@ fn end_slip<'a>(script: Script<'a>) -> Slip<'a> {
 }
 
 /// The commands that are read.
-pub(crate) const READ: [&str; 14] = [
+pub(crate) const READ: [&str; 9] = [
     "set-logic",
     "set-info",
     "set-option",
@@ -99,11 +98,6 @@ pub(crate) const READ: [&str; 14] = [
     "define-fun",
     "assert",
     "check-sat",
-    "check-sat-assuming",
-    "push",
-    "pop",
-    "reset",
-    "reset-assertions",
     "exit",
 ];
 
@@ -219,11 +213,6 @@ fn undeclared_slip<'a>(script: Script<'a>, k: usize) -> Slip<'a> {
     if joins_members(name) {
         return Slip::new(say::NO_BLANK);
     }
-    if let Some(found) = script.declaration(name)
-        && found < k
-    {
-        return Slip::new(say::GONE).with_line(script.line(found.saturating_add(2)));
-    }
     let Some(found) = script.declaration_in_any_case(name) else {
         return near_slip(script, name);
     };
@@ -283,7 +272,7 @@ fn arity_slip<'a>(script: Script<'a>, k: usize) -> Slip<'a> {
     if is_infix(name) && !follows_open {
         return Slip::new(say::CHAIN);
     }
-    let Some(found) = script.declaration_before(name, k) else {
+    let Some(found) = script.declaration(name) else {
         return Slip::new(say::ARITY);
     };
     let used = match k.checked_sub(1) {
@@ -303,9 +292,11 @@ pub(crate) fn declared_arguments(script: Script, k: usize) -> usize {
 }
 
 fn redeclared_slip<'a>(script: Script<'a>, k: usize) -> Slip<'a> {
-    match script.declaration_before(script.text(k), k) {
-        Some(found) => Slip::new(say::AGAIN).with_line(script.line(found)),
-        None => Slip::new(say::REDECLARED),
+    match script.declaration(script.text(k)) {
+        Some(found) if found.saturating_add(2) < k => {
+            Slip::new(say::AGAIN).with_line(script.line(found))
+        }
+        _ => Slip::new(say::REDECLARED),
     }
 }
 

@@ -2,4 +2,3 @@ pub mod Forms
 pub mod Tables
 pub mod Least
 pub mod Fitting
-pub mod Marks

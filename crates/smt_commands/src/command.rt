@@ -1,6 +1,6 @@
 // Which lists are commands. Where a command has a sort or a term, any S-expression may stand for its form.
 
-ghost use Rattle.smt_commands.specs.Commands.{command_by, command_of, declares, defines, is_argument, is_keyword, levels_of, members_of, symbol_of};
+ghost use Rattle.smt_commands.specs.Commands.{command_by, command_of, declares, defines, is_argument, is_keyword, members_of, symbol_of};
 ghost use Rattle.smt_commands.specs.Views.{form_of, items_of, symbol_is};
 ghost use Rattle.smt_lists.specs.Expressions.{expr};
 ghost use Rattle.std.specs.List.{list_all};
@@ -28,14 +28,7 @@ pub enum Command<'a> {
     /// A symbol is defined, with its arguments, its sort and its term.
     Define(Name<'a>, &'a [Sexp], &'a Sexp, &'a Sexp),
     Assert(&'a Sexp),
-    /// A check, with the terms that are assumed for it.
-    CheckSat(&'a [Sexp]),
-    /// So many assertion levels more.
-    Push(u128),
-    /// So many assertion levels fewer.
-    Pop(u128),
-    /// Nothing before counts any longer.
-    Reset,
+    CheckSat,
     Exit,
 }
 
@@ -67,11 +60,7 @@ fn by_word(word: Word, rest: &[Sexp]) -> Option<Command<'_>>
         Word::DeclareFun => declare_fun(rest),
         Word::DefineFun => define_fun(rest),
         Word::Assert => assert(rest),
-        Word::CheckSat => alone(rest, Command::CheckSat(&[])),
-        Word::CheckSatAssuming => check_assuming(rest),
-        Word::Push => push(rest),
-        Word::Pop => pop(rest),
-        Word::Reset | Word::ResetAssertions => alone(rest, Command::Reset),
+        Word::CheckSat => alone(rest, Command::CheckSat),
         Word::Exit => alone(rest, Command::Exit),
     }
 }
@@ -184,65 +173,6 @@ fn assert(rest: &[Sexp]) -> Option<Command<'_>>
 {
     let (term, end) = rest.split_first()?;
     alone(end, Command::Assert(term))
-}
-
-/// `check-sat-assuming` with a list of terms.
-fn check_assuming(rest: &[Sexp]) -> Option<Command<'_>>
-    ensures exact { option_map form_of result ≡ command_by w.CheckSatAssuming (map expr rest.now) }
-{
-    let (list, end) = rest.split_first()?;
-    if !end.is_empty() {
-        return None;
-    }
-    let terms = members(list)?;
-    Some(Command::CheckSat(terms))
-}
-
-/// `push` with a numeral, or one level.
-fn push(rest: &[Sexp]) -> Option<Command<'_>>
-    ensures exact { option_map form_of result ≡ command_by w.Push (map expr rest.now) }
-{
-    let Some((count, end)) = rest.split_first() else {
-        return Some(Command::Push(1));
-    };
-    if !end.is_empty() {
-        return None;
-    }
-    let count = levels(count)?;
-    Some(Command::Push(count))
-}
-
-/// `pop` with a numeral, or one level.
-fn pop(rest: &[Sexp]) -> Option<Command<'_>>
-    ensures exact { option_map form_of result ≡ command_by w.Pop (map expr rest.now) }
-{
-    let Some((count, end)) = rest.split_first() else {
-        return Some(Command::Pop(1));
-    };
-    if !end.is_empty() {
-        return None;
-    }
-    let count = levels(count)?;
-    Some(Command::Pop(count))
-}
-
-/// How many levels an S-expression says.
-#[tactic(auto, using(crate::proofs::Forms::views))]
-fn levels(e: &Sexp) -> Option<u128>
-    ensures exact { result ≡ levels_of (expr e.now) }
-{
-    match e {
-        Sexp::Atom(a) => match &a.kind {
-            AtomKind::Numeral(count) => Some(count.unsigned_abs()),
-            AtomKind::Symbol(_)
-            | AtomKind::LargeNumeral
-            | AtomKind::Decimal
-            | AtomKind::Hash
-            | AtomKind::StringLiteral
-            | AtomKind::Keyword => None,
-        },
-        Sexp::List(_, _) => None,
-    }
 }
 
 /// The command, where nothing stands behind it.

@@ -8,7 +8,6 @@ mod laws;
 mod operators;
 mod order;
 mod refusal;
-mod scopes;
 mod table;
 mod words;
 
@@ -20,5 +19,4 @@ pub use laws::least_law;
 pub use operators::{is_reserved, is_unlisted};
 pub use order::sooner;
 pub use refusal::ScriptRefusal;
-pub use scopes::Scopes;
 pub use table::{Entry, Table};

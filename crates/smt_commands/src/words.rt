@@ -14,11 +14,6 @@ pub enum Word {
     DefineFun,
     Assert,
     CheckSat,
-    CheckSatAssuming,
-    Push,
-    Pop,
-    Reset,
-    ResetAssertions,
     Exit,
 }
 
@@ -49,21 +44,6 @@ pub fn find_word(text: &[u8]) -> Option<Word>
     }
     if text == b"check-sat".as_slice() {
         return Some(Word::CheckSat);
-    }
-    if text == b"check-sat-assuming".as_slice() {
-        return Some(Word::CheckSatAssuming);
-    }
-    if text == b"push".as_slice() {
-        return Some(Word::Push);
-    }
-    if text == b"pop".as_slice() {
-        return Some(Word::Pop);
-    }
-    if text == b"reset".as_slice() {
-        return Some(Word::Reset);
-    }
-    if text == b"reset-assertions".as_slice() {
-        return Some(Word::ResetAssertions);
     }
     if text == b"exit".as_slice() {
         return Some(Word::Exit);

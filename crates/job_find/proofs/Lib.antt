@@ -1,0 +1,3 @@
+mod Finding
+pub mod Means
+mod Told
