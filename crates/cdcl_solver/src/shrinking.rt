@@ -2,10 +2,9 @@
 
 use crate::modelling::{Refutation, refutation_of};
 use crate::squeezing::squeezed;
-use crate::target::Target;
 use base_budget::Purse;
 use cdcl_fuel::{Fault, Fuel};
-use cdcl_models::{Judge, Model, shrink};
+use cdcl_models::{Judge, Model, RootTruth, shrink};
 use formula::Core;
 use model_check::is_false;
 use model_formulas::Fault as Cut;
@@ -91,33 +90,41 @@ fn is_false_below(
 #[derive(Drop)]
 struct Judgement<'a> {
     alloc: Global,
-    target: Target<'a>,
+    root: &'a Core,
+    universals: u32,
+    /// What sees at little cost that the root is true in many of the models that are no counterexample.
+    truth: Option<RootTruth>,
+    /// How many models were judged to be one.
+    accepted: u64,
     best: Option<Refutation>,
+}
+
+/// Whether something sees that the root is true in the model.
+fn is_seen_true(
+    truth: &mut Option<RootTruth>,
+    model: &Model,
+    fuel: &mut Fuel,
+) -> Result<bool, Fault> {
+    match truth {
+        Some(truth) => truth.is_true(model, fuel),
+        None => Ok(false),
+    }
 }
 
 impl Judge for Judgement<'_> {
     fn is_false(&mut self, model: &Model, fuel: &mut Fuel) -> Result<bool, Fault> {
-        let Target {
-            root,
-            values,
-            universals,
-        } = self.target;
-        let found = refutation_of(self.alloc, model, universals)?;
-        let mut at = Vec::from_slice(self.alloc, values)?;
-        at.extend_from_slice(found.values.as_slice())?;
+        if is_seen_true(&mut self.truth, model, fuel)? {
+            return Ok(false);
+        }
+        let found = refutation_of(self.alloc, model, self.universals)?;
         let mut purse = Purse::new(fuel.left());
-        let outcome = is_false_below(
-            self.alloc,
-            &mut purse,
-            root,
-            &found.model,
-            at.as_slice(),
-            values.len(),
-        );
+        let values = found.values.as_slice();
+        let outcome = is_false_below(self.alloc, &mut purse, self.root, &found.model, values, 0);
         fuel.spend(purse.spent())?;
         match outcome {
             Ok(true) => {
                 self.best = Some(found);
+                self.accepted = self.accepted.saturating_add(1);
                 Ok(true)
             }
             Ok(false) => Ok(false),
@@ -131,13 +138,17 @@ impl Judge for Judgement<'_> {
 /// Whether the root is seen to be false in the model, at the values of its first constants for the root's first for-alls.
 pub(crate) fn judged(
     alloc: Global,
-    target: Target<'_>,
+    root: &Core,
+    universals: u32,
     model: &Model,
     fuel: &mut Fuel,
 ) -> Result<bool, Fault> {
     let mut judgement = Judgement {
         alloc,
-        target,
+        root,
+        universals,
+        truth: None,
+        accepted: 0,
         best: None,
     };
     judgement.is_false(model, fuel)
@@ -159,8 +170,8 @@ fn with_gaps(
     Ok(found)
 }
 
-/// Judges the model, and then smaller ones: first with smaller gaps, then number by number, twice, since one number may be in the way
-/// of another.
+/// Judges the model, and then smaller ones: first with smaller gaps, then number by number, and again where that made
+/// one smaller, since one number may be in the way of another.
 fn judge_all(
     alloc: Global,
     found: Model,
@@ -173,24 +184,42 @@ fn judge_all(
     }
     let mut found = with_gaps(alloc, found, judgement, &mut fuel)?;
     for _ in 0..PASSES {
+        let before = judgement.accepted;
         found = shrink(alloc, found, judgement, &mut fuel)?;
+        if judgement.accepted == before {
+            break;
+        }
     }
     Ok(())
 }
 
-/// The model of a search with smaller numbers, looked for in at most `steps` steps, at values of the root's first for-alls. Where the root is not seen to be false in the model, the model stays as it is.
+/// What sees that the root is true in a model; None where nothing does.
+fn truth_of(alloc: Global, root: &Core, universals: u32) -> Result<Option<RootTruth>, Fault> {
+    match RootTruth::new(alloc, root, universals) {
+        Err(Fault::Memory) => Err(Fault::Memory),
+        Err(_) => Ok(None),
+        found => found,
+    }
+}
+
+/// The model of a search with smaller numbers, looked for in at most `steps` steps, at values of the root's first `universals`
+/// for-alls. Where the root is not seen to be false in the model, the model stays as it is.
 pub(crate) fn shrunk(
     alloc: Global,
-    target: Target<'_>,
+    root: &Core,
     found: Model,
+    universals: u32,
     steps: u64,
 ) -> Result<Refutation, Fault> {
     let mut found = found;
-    found.constants.truncate(target.universals as usize);
-    let first = refutation_of(alloc, &found, target.universals)?;
+    found.constants.truncate(universals as usize);
+    let first = refutation_of(alloc, &found, universals)?;
     let mut judgement = Judgement {
         alloc,
-        target,
+        root,
+        universals,
+        truth: truth_of(alloc, root, universals)?,
+        accepted: 0,
         best: None,
     };
     if let Err(Fault::Memory) = judge_all(alloc, found, &mut judgement, steps) {

@@ -43,18 +43,18 @@ pub(crate) enum Request {
 }
 
 /// What these words ask for. `--quiet`, `--json`, `--stats` and `--progress` stand before the command, in any order, and all but the
-/// first also behind it; `--vacuous` stands behind `solve`, and `--proof-to FILE` behind `solve` or `find`. They are taken out, so the top call
-/// sees the other words, and `--proof` where a proof goes to a file and no form of it is asked for.
+/// first also behind it; `--vacuous` and `--proof-to FILE` stand behind `solve`. They are taken out, so the top call sees the other
+/// words, and `--proof` where a proof goes to a file and no form of it is asked for.
 pub(crate) fn read_request(alloc: Global, words: Vec<String>) -> Result<Request, AllocError> {
     let mut manner = Manner::USUAL;
     let mut left = Vec::new(alloc);
     let mut place = Place::Front;
     for word in words {
-        if let Place::ProofFile { command } = place {
+        if place == Place::ProofFile {
             manner.proof_file = Some(word);
-            place = Place::Options { command };
-        } else if let Some(command) = takes_file(&manner, place, word.as_str()) {
-            place = Place::ProofFile { command };
+            place = Place::Options { is_solve: true };
+        } else if takes_file(&manner, place, word.as_str()) {
+            place = Place::ProofFile;
         } else if let Some(file) = file_behind(&manner, place, word.as_str()) {
             manner.proof_file = Some(String::from_str(alloc, file)?);
         } else if !takes(&mut manner, place, word.as_str()) {
@@ -62,7 +62,7 @@ pub(crate) fn read_request(alloc: Global, words: Vec<String>) -> Result<Request,
             left.push(word)?;
         }
     }
-    if let Place::ProofFile { .. } = place {
+    if place == Place::ProofFile {
         left.push(String::from_str(alloc, WITHOUT_FILE)?)?;
     }
     if let Some(text) = asked_text(left.as_slice()) {
@@ -84,24 +84,16 @@ const PROOF_FILE: &str = "--proof-to";
 
 const WITHOUT_FILE: &str = "--proof-to=";
 
-/// The command behind which a word is that option, where it stands for the first time.
-fn takes_file(manner: &Manner, place: Place, word: &str) -> Option<Command> {
-    match place {
-        Place::Options { command } if command.has_proof() => {
-            let is_first = word == PROOF_FILE && manner.proof_file.is_none();
-            if is_first { Some(command) } else { None }
-        }
-        _ => None,
-    }
+/// Whether a word is that option, where it stands for the first time.
+fn takes_file(manner: &Manner, place: Place, word: &str) -> bool {
+    let is_solve = place == Place::Options { is_solve: true };
+    is_solve && word == PROOF_FILE && manner.proof_file.is_none()
 }
 
 /// The name of that file, where it stands behind the option and a sign =.
 fn file_behind<'a>(manner: &Manner, place: Place, word: &'a str) -> Option<&'a str> {
-    let has_proof = match place {
-        Place::Options { command } => command.has_proof(),
-        _ => false,
-    };
-    if !has_proof || manner.proof_file.is_some() {
+    let is_solve = place == Place::Options { is_solve: true };
+    if !is_solve || manner.proof_file.is_some() {
         return None;
     }
     match word.strip_prefix(WITHOUT_FILE) {
@@ -127,40 +119,17 @@ fn with_proof(alloc: Global, words: Vec<String>) -> Result<Vec<String>, AllocErr
     Ok(all)
 }
 
-/// A command, as far as its options differ here.
-#[derive(Clone, Copy, PartialEq, Eq)]
-enum Command {
-    Solve,
-    Find,
-    Other,
-}
-
-impl Command {
-    fn of(word: &str) -> Command {
-        match word {
-            "solve" => Command::Solve,
-            "find" => Command::Find,
-            _ => Command::Other,
-        }
-    }
-
-    /// Whether it prints proofs.
-    fn has_proof(self) -> bool {
-        self == Command::Solve || self == Command::Find
-    }
-}
-
 /// Where a word stands.
 #[derive(Clone, Copy, PartialEq, Eq)]
 enum Place {
     /// Before the command.
     Front,
     /// Behind a command, where options stand.
-    Options { command: Command },
+    Options { is_solve: bool },
     /// Where the value of an option stands.
-    Value { command: Command },
+    Value { is_solve: bool },
     /// Where the name of the file stands to which a proof goes.
-    ProofFile { command: Command },
+    ProofFile,
     /// Behind a word `--`.
     Operands,
 }
@@ -170,14 +139,14 @@ impl Place {
     fn behind(self, word: &str) -> Place {
         match (self, word) {
             (Place::Front, _) => Place::Options {
-                command: Command::of(word),
+                is_solve: word == "solve",
             },
             (Place::Options { .. }, "--") | (Place::Operands, _) => Place::Operands,
-            (Place::Options { command }, "--budget") => Place::Value { command },
-            (Place::Options { command } | Place::Value { command }, _) => Place::Options {
-                command,
+            (Place::Options { is_solve }, "--budget") => Place::Value { is_solve },
+            (Place::Options { is_solve } | Place::Value { is_solve }, _) => Place::Options {
+                is_solve,
             },
-            (Place::ProofFile { command }, _) => Place::Options { command },
+            (Place::ProofFile, _) => Place::Options { is_solve: true },
         }
     }
 }
@@ -189,12 +158,7 @@ fn takes(manner: &mut Manner, place: Place, word: &str) -> bool {
         (Place::Front | Place::Options { .. }, "--json") => &mut manner.is_json,
         (Place::Front | Place::Options { .. }, "--stats") => &mut manner.is_stats,
         (Place::Front | Place::Options { .. }, "--progress") => &mut manner.is_progress,
-        (
-            Place::Options {
-                command: Command::Solve,
-            },
-            "--vacuous",
-        ) => &mut manner.is_vacuous,
+        (Place::Options { is_solve: true }, "--vacuous") => &mut manner.is_vacuous,
         _ => return false,
     };
     let is_first = !*flag;
@@ -215,8 +179,9 @@ fn asked_text(words: &[String]) -> Option<Text> {
     match first.as_str() {
         "help" | "--help" | "-h" => Some(Text::Help),
         "version" | "--version" => Some(Text::Version),
-        "solve" | "check" | "elim" | "find" | "least" | "smt" | "drill" if asks_for_help(rest) =>
-            Some(Text::Help),
+        "solve" | "check" | "elim" | "least" | "smt" | "drill" if asks_for_help(rest) => Some(
+            Text::Help,
+        ),
         _ => None,
     }
 }

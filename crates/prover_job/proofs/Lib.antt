@@ -7,4 +7,3 @@ mod Opening
 mod Accepting
 mod ValueLines
 mod Deciding
-mod Finding

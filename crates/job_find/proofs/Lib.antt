@@ -1,3 +1,0 @@
-mod Finding
-pub mod Means
-mod Told

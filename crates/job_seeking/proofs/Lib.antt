@@ -1,2 +1,0 @@
-pub mod Overs
-pub mod Seeking
