@@ -13,7 +13,8 @@ _princess() {
     case $command in --quiet | --json | --stats | --progress) command=${COMP_WORDS[2]} ;; esac
     case $command:$word in
         solve:-*) mapfile -t COMPREPLY < <(compgen -W '--budget --proof --short --proof-to --calculus --counterexample --vacuous --json --stats --progress' -- "$word") ;;
-        elim:-* | least:-* | smt:-* | drill:-*) mapfile -t COMPREPLY < <(compgen -W '--budget --json --stats --progress' -- "$word") ;;
+        smt:-*) mapfile -t COMPREPLY < <(compgen -W '--budget --unused --json --stats --progress' -- "$word") ;;
+        elim:-* | least:-* | drill:-*) mapfile -t COMPREPLY < <(compgen -W '--budget --json --stats --progress' -- "$word") ;;
         solve:* | elim:* | least:* | smt:* | check:*) compopt -o filenames 2>/dev/null; mapfile -t COMPREPLY < <(compgen -f -- "$word") ;;
     esac
 }

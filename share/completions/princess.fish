@@ -20,5 +20,6 @@ complete -c princess -n '__fish_seen_subcommand_from solve' -l short -d 'print a
 complete -c princess -n '__fish_seen_subcommand_from solve' -l calculus -d 'the canonical run alone'
 complete -c princess -n '__fish_seen_subcommand_from solve' -l counterexample -d 'values that refute a problem of arithmetic'
 complete -c princess -n '__fish_seen_subcommand_from solve' -l vacuous -d 'ask whether the assumptions contradict one another'
+complete -c princess -n '__fish_seen_subcommand_from smt' -l unused -d 'ask which named assertions are not needed'
 complete -c princess -n '__fish_seen_subcommand_from solve' -l proof-to -r -F -d 'put the proof into a file'
 complete -c princess -n '__fish_seen_subcommand_from solve check elim least smt' -F

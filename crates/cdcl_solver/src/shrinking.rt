@@ -4,7 +4,7 @@ use crate::modelling::{Refutation, refutation_of};
 use crate::squeezing::squeezed;
 use base_budget::Purse;
 use cdcl_fuel::{Fault, Fuel};
-use cdcl_models::{Judge, Model, RootTruth, shrink};
+use cdcl_models::{Judge, Model, shrink};
 use formula::Core;
 use model_check::is_false;
 use model_formulas::Fault as Cut;
@@ -92,30 +92,11 @@ struct Judgement<'a> {
     alloc: Global,
     root: &'a Core,
     universals: u32,
-    /// What sees at little cost that the root is true in many of the models that are no counterexample.
-    truth: Option<RootTruth>,
-    /// How many models were judged to be one.
-    accepted: u64,
     best: Option<Refutation>,
-}
-
-/// Whether something sees that the root is true in the model.
-fn is_seen_true(
-    truth: &mut Option<RootTruth>,
-    model: &Model,
-    fuel: &mut Fuel,
-) -> Result<bool, Fault> {
-    match truth {
-        Some(truth) => truth.is_true(model, fuel),
-        None => Ok(false),
-    }
 }
 
 impl Judge for Judgement<'_> {
     fn is_false(&mut self, model: &Model, fuel: &mut Fuel) -> Result<bool, Fault> {
-        if is_seen_true(&mut self.truth, model, fuel)? {
-            return Ok(false);
-        }
         let found = refutation_of(self.alloc, model, self.universals)?;
         let mut purse = Purse::new(fuel.left());
         let values = found.values.as_slice();
@@ -124,7 +105,6 @@ impl Judge for Judgement<'_> {
         match outcome {
             Ok(true) => {
                 self.best = Some(found);
-                self.accepted = self.accepted.saturating_add(1);
                 Ok(true)
             }
             Ok(false) => Ok(false),
@@ -147,8 +127,6 @@ pub(crate) fn judged(
         alloc,
         root,
         universals,
-        truth: None,
-        accepted: 0,
         best: None,
     };
     judgement.is_false(model, fuel)
@@ -170,8 +148,8 @@ fn with_gaps(
     Ok(found)
 }
 
-/// Judges the model, and then smaller ones: first with smaller gaps, then number by number, and again where that made
-/// one smaller, since one number may be in the way of another.
+/// Judges the model, and then smaller ones: first with smaller gaps, then number by number, twice, since one number may be in the way
+/// of another.
 fn judge_all(
     alloc: Global,
     found: Model,
@@ -184,22 +162,9 @@ fn judge_all(
     }
     let mut found = with_gaps(alloc, found, judgement, &mut fuel)?;
     for _ in 0..PASSES {
-        let before = judgement.accepted;
         found = shrink(alloc, found, judgement, &mut fuel)?;
-        if judgement.accepted == before {
-            break;
-        }
     }
     Ok(())
-}
-
-/// What sees that the root is true in a model; None where nothing does.
-fn truth_of(alloc: Global, root: &Core, universals: u32) -> Result<Option<RootTruth>, Fault> {
-    match RootTruth::new(alloc, root, universals) {
-        Err(Fault::Memory) => Err(Fault::Memory),
-        Err(_) => Ok(None),
-        found => found,
-    }
 }
 
 /// The model of a search with smaller numbers, looked for in at most `steps` steps, at values of the root's first `universals`
@@ -218,8 +183,6 @@ pub(crate) fn shrunk(
         alloc,
         root,
         universals,
-        truth: truth_of(alloc, root, universals)?,
-        accepted: 0,
         best: None,
     };
     if let Err(Fault::Memory) = judge_all(alloc, found, &mut judgement, steps) {

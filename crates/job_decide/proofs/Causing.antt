@@ -36,7 +36,7 @@ silent_so shows asked budget bytes a is other =
       caused = solve_so budget bytes s.plain s.solved;
     }
 
--- an answer of the canonical run, with the values that are shown behind it
+-- an answer of the canonical run, with the values that are shown after it
 shown_so : (shows : Bool) (asked : Option ProofForm) (budget : ℕ) (bytes : List ℕ) (p : Problem) (a : Answer) → Poses bytes p → Fits p → AnswersShown shows asked budget p a → IsSolveCausedAs shows asked budget bytes a
 shown_so shows asked budget bytes p a h f k =
     record {
@@ -57,8 +57,8 @@ causes calculus shows asked budget bytes a (refused r h e) = canonical_cause (si
 causes calculus shows asked budget bytes a (posed p h (large l e)) = canonical_cause (silent_so shows asked budget bytes a (posed p h (large l e)) (apart 3 a (ap status_of e) (λ z. cc)))
 causes calculus shows asked budget bytes a (posed p h (leaves l e)) = canonical_cause (silent_so shows asked budget bytes a (posed p h (leaves l e)) (apart 2 a (ap status_of e) (λ z. cc)))
 causes calculus shows asked budget bytes a (posed p h (runs f (canonical k))) = canonical_cause (shown_so shows asked budget bytes p a h f k)
-causes calculus shows asked budget bytes a (posed p h (runs f (proved off k))) = proved_cause off (ap status_of k.whole) (p, h, (f, k.early, (k.file, k.proof)))
-causes calculus shows asked budget bytes a (posed p h (runs f (refuted off k))) = refuted_cause off (ap status_of k.whole) (p, h, (f, k.early, (k.model, k.universals, k.is)))
+causes calculus shows asked budget bytes a (posed p h (runs f (proved off k))) = proved_cause off (ap status_of k.whole) (p, h, (f, k.left_open, (k.file, k.proof)))
+causes calculus shows asked budget bytes a (posed p h (runs f (refuted off k))) = refuted_cause off (ap status_of k.whole) (p, h, (f, k.left_open, (k.model, k.universals, k.is)))
 
 solved_as_status : (asked : Option ProofForm) (budget : ℕ) (bytes : List ℕ) (a : Answer) → IsSolvedAs asked budget bytes a → IsAnswerStatus a.status
 solved_as_status asked budget bytes a h = let s = parted asked budget bytes a h in subst (λ b. IsAnswerStatus b.status) (sym s.whole) (solved_status budget bytes s.plain s.solved)

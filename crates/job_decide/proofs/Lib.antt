@@ -1,3 +1,4 @@
 pub mod Showing
 pub mod Means
 pub mod Causing
+mod FirstLines

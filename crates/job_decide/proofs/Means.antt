@@ -80,7 +80,7 @@ its_part (Some wanted) form file on = refl
 proved_means : (w : Meaning) (shows : Bool) (asked : Option ProofForm) (budget : ℕ) (bytes : List ℕ) (p : Problem) (a : Answer) → Poses bytes p → Fits p → AnswersProved asked budget p a → Means w shows asked bytes a
 proved_means w shows asked budget bytes p a poses fits h =
     let formed = reads_formed bytes p poses.reads in
-    let none = h.early.alone in
+    let none = h.left_open.alone in
     let holds = clauses_hold w p h.file formed none h.proof in
     record {
       text = (closed_answer h.blocks).text;
@@ -104,11 +104,11 @@ refuted_means w shows asked budget bytes p a poses h =
     let refutes : RefutesInModel shows bytes (model_answer shows p h.universals h.model).text = record {
       problem = p;
       reads = poses.reads;
-      refuted = refuting.refuted p h.model h.universals h.early.alone h.is;
+      refuted = refuting.refuted p h.model h.universals h.left_open.alone h.is;
       model = h.model;
       universals = h.universals;
       is = h.is;
-      everywhere = λ pure v. fails_anywhere p h.universals (meaning_of h.model) v (reads_formed bytes p poses.reads) pure (let none = ap length h.early.alone in let fit = h.is.fit in omega (arith, none, fit)) h.is.fails;
+      everywhere = λ pure v. fails_anywhere p h.universals (meaning_of h.model) v (reads_formed bytes p poses.reads) pure (let none = ap length h.left_open.alone in let fit = h.is.fit in omega (arith, none, fit)) h.is.fails;
       told = refl;
     } in
     record {

@@ -1,4 +1,4 @@
--- The answer of the canonical run, with the values that are shown behind it.
+-- The answer of the canonical run, with the values that are shown after it.
 use Rattle.std.proofs.Common.{◌≡◌, ◌∙◌, ℕ, ℤ, Bool, true, false, List, [], ◌∷◌, ◌++◌, length, drop, Option, None, Some, MatchOption, Result, Ok, Err, IfOk, refl, sym, ap, subst, append-nil, length-append, codes, arith, ◌<◌}
 use Rattle.base_answers.specs.Answer.{Answer, answer_of, line, says_line}
 use Rattle.base_answers.specs.declared.output.Output.{Output}
@@ -41,7 +41,7 @@ invalid_plain budget p a formed pure (branch stands is e) one = let bad = sym on
 invalid_plain budget p a formed pure (steps stands is e) one = let bad = sym one ∙ ap (λ (b : Answer). b.status) e in absurd cc
 invalid_plain budget p a formed pure (overflow numbers stands is e) one = let bad = sym one ∙ ap (λ (b : Answer). b.status) e in absurd cc
 
--- the same place, where the answer has a part behind it
+-- the same place, where the answer has a part after it
 pub shown_before : (shows : Bool) (p : Problem) (plain a : Answer) (part : List ℕ) → a ≡ extended plain part → AreToShow shows p a → AreToShow shows p plain
 shown_before shows p plain a part whole h = record { asked = h.asked; invalid = sym (ap (λ (b : Answer). b.status) whole) ∙ h.invalid; alone = h.alone; pure = h.pure }
 

@@ -20,12 +20,12 @@ pub record IsSolveCaused (budget : ℕ) (bytes : List ℕ) (answer : Answer) : T
   pub decides : SolveDecides budget bytes answer
   pub enough : IsEnough budget bytes
 
--- the lines behind an answer to these bytes: those of the problem that they pose, and none where the answer is not that it is invalid
+-- the lines after an answer to these bytes: those of the problem that they pose, and none where the answer is not that it is invalid
 pub data IsShownSo (shows : Bool) (budget : ℕ) (bytes : List ℕ) (answer : Answer) (lines : List ℕ) : Type 0 where
   by_problem : PosesOne bytes (λ p. Fits p × AreShownLines shows budget p answer lines) → IsShownSo shows budget bytes answer lines
   elsewhere : answer.status ≢ 1 → lines ≡ [] → IsShownSo shows budget bytes answer lines
 
--- such an answer with the values behind it that are shown, and then the proof, where these are asked for
+-- such an answer with the values after it that are shown, and then the proof, where these are asked for
 pub record IsSolveCausedAs (shows : Bool) (asked : Option ProofForm) (budget : ℕ) (bytes : List ℕ) (answer : Answer) : Type 0 where
   pub plain : Answer
   pub lines : List ℕ

@@ -17,7 +17,7 @@ use Rattle.pri_problem.specs.Answers.{AnswersFile}
 use Rattle.pri_problem.specs.Encoded.{AnswersEncoded}
 use Rattle.pri_typing.specs.declared.problem.Problem.{Problem}
 
--- what is printed of the proof: the line `proof:` and behind it the file, whichever form is asked for; nothing where none is
+-- what is printed of the proof: the line `proof:` and after it the file, whichever form is asked for; nothing where none is
 abbrev pub clause_part : Option ProofForm → List ℕ → List ℕ
 clause_part None file = []
 clause_part (Some form) file = line (codes "proof:") ++ file
@@ -39,7 +39,7 @@ pub record IsLeftOpen (budget : ℕ) (p : Problem) : Type 0 where
 
 -- the answer that the problem is valid, by a clause proof, with the lines of its `\interpolant` blocks
 pub record AnswersProved (asked : Option ProofForm) (budget : ℕ) (p : Problem) (answer : Answer) : Type 0 where
-  pub early : IsLeftOpen budget p
+  pub left_open : IsLeftOpen budget p
   pub file : List ℕ
   pub proof : IsClauseFile p file
   pub blocks : List ℕ
@@ -53,7 +53,7 @@ model_answer shows p us m = record { status = 1; text = line (codes "INVALID") +
 
 -- the answer that the problem is refuted, by a finite model
 pub record AnswersRefuted (shows : Bool) (budget : ℕ) (p : Problem) (answer : Answer) : Type 0 where
-  pub early : IsLeftOpen budget p
+  pub left_open : IsLeftOpen budget p
   pub model : Model
   pub universals : List ℤ
   pub is : IsModelCounterexample p [] model universals

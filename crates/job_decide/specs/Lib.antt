@@ -1,4 +1,5 @@
 pub mod Shown
 pub mod Decided
+pub mod Drilled
 pub mod Meaning
 pub mod Causes

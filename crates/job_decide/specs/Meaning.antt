@@ -16,7 +16,7 @@ use Rattle.pri_problem.specs.Reads.{Reads}
 use Rattle.pri_typing.specs.Problems.{IsPure, IsRefuted}
 use Rattle.pri_typing.specs.declared.problem.Problem.{Problem}
 
--- the part is the line `proof:`, and behind it a clause proof of the problem that the bytes pose
+-- the part is the line `proof:`, and after it a clause proof of the problem that the bytes pose
 pub record PrintsClauses (bytes part : List ℕ) : Type 0 where
   pub problem : Problem
   pub poses : Poses bytes problem
@@ -50,7 +50,7 @@ RefutesBy shows bytes text = Refutes bytes text ⊎ RefutesInModel shows bytes t
 abbrev pub ProvesInvalidBy : Bool → ProofForm → List ℕ → List ℕ → List ℕ → Type 0
 ProvesInvalidBy shows form bytes text part = ProvesInvalid form bytes part ⊎ ((part ≡ []) × RefutesInModel shows bytes text)
 
--- What an answer to a file of these bytes means: a text, and behind it a part with the proof, if one is asked for. At VALID the bytes
+-- What an answer to a file of these bytes means: a text, and after it a part with the proof, if one is asked for. At VALID the bytes
 -- read as a problem of which the text says that it is valid, and the part proves that; at INVALID as one that is refuted.
 pub record Means (w : Meaning) (shows : Bool) (asked : Option ProofForm) (bytes : List ℕ) (answer : Answer) : Type 0 where
   pub text : List ℕ

@@ -1,4 +1,4 @@
--- The values that `solve` shows behind an INVALID, where they are asked for.
+-- The values that `solve` shows after an INVALID, where they are asked for.
 use Rattle.std.specs.Prelude.{◌≡◌, ℕ, ℤ, Bool, true, List, [], Option, None}
 use Rattle.base_answers.specs.Answer.{Answer}
 use Rattle.base_answers.specs.declared.form.ProofForm.{ProofForm}
@@ -21,7 +21,7 @@ pub data AreShownLines (shows : Bool) (budget : ℕ) (p : Problem) (answer : Ans
   values : (vs : List ℤ) → AreToShow shows p answer → AreFalseValues budget p vs → lines ≡ model_text p vs no_model → AreShownLines shows budget p answer lines
   nothing : ((vs : List ℤ) → AreToShow shows p answer → ¬ (AreFalseValues budget p vs)) → lines ≡ [] → AreShownLines shows budget p answer lines
 
--- the answer of the canonical run, with such lines behind it, and then its proof, if one is asked for
+-- the answer of the canonical run, with such lines after it, and then its proof, if one is asked for
 pub record AnswersShown (shows : Bool) (asked : Option ProofForm) (budget : ℕ) (p : Problem) (answer : Answer) : Type 0 where
   pub plain : Answer
   pub answers : AnswersRun budget p plain

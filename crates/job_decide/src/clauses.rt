@@ -19,7 +19,7 @@ use pri_typing::Problem;
 use std::alloc::Global;
 
 /// The answer that the problem is valid, with the lines of its `\interpolant` blocks on a purse with the whole budget, and with the
-/// clause proof behind it, where a proof is asked for.
+/// clause proof after it, where a proof is asked for.
 pub fn proved(
     alloc: Global,
     problem: &Problem,
@@ -33,7 +33,7 @@ pub fn proved(
     requires identifiers { HasIdentifiers problem.now }
     requires cuts { IsCuttable problem.now }
     requires encoded { IsEncoded problem.now encoded.now }
-    requires early { IsLeftOpen budget problem.now }
+    requires left_open { IsLeftOpen budget problem.now }
     requires proof { IsClauseFile problem.now text.now }
     requires budget { budget ≤ most_budget }
     ensures { IfOk result (λ output. AnswersProved asked budget problem.now (answer_of output)) }
@@ -43,7 +43,7 @@ pub fn proved(
     with_clauses(plain, text, asked)
 }
 
-// The answer with the proof behind it, where one is asked for.
+// The answer with the proof after it, where one is asked for.
 fn with_clauses(plain: Output, proof: &[u8], asked: Option<ProofForm>) -> Result<Output, Memory>
     ensures { IfOk result (λ output. answer_of output ≡ extended (answer_of plain) (clause_part asked proof.now)) }
 {

@@ -24,7 +24,7 @@ use pri_problem::{encode_problem, read_problem, refuse, refuse_encoding};
 use pri_typing::Problem;
 use std::alloc::Global;
 
-/// The answer of `solve` with a budget to a problem's file of these bytes, with the proof behind it in the form that is asked for, if
+/// The answer of `solve` with a budget to a problem's file of these bytes, with the proof after it in the form that is asked for, if
 /// one is. With `calculus` it is the answer of the canonical run alone. With `shows` an INVALID of a problem without existential constants
 /// shows values of the universal constants also where it has neither predicates nor functions.
 pub fn answer<X: Watch>(
@@ -152,7 +152,7 @@ fn by_clauses<X: Watch>(
     requires identifiers { HasIdentifiers problem.now }
     requires cuts { IsCuttable problem.now }
     requires encoded { IsEncoded problem.now encoded.now }
-    requires early { IsLeftOpen budget problem.now }
+    requires left_open { IsLeftOpen budget problem.now }
     requires budget { budget ≤ most_budget }
     ensures { IfOk result (λ output. AnswersDecided false shows asked budget problem.now (answer_of output)) }
 {

@@ -1,4 +1,4 @@
-// The values that refute a problem without predicates and functions, shown behind an INVALID of the canonical run.
+// The values that refute a problem without predicates and functions, shown after an INVALID of the canonical run.
 
 ghost use Rattle.base_answers.specs.Answer.{answer_of, line, says_line};
 ghost use Rattle.base_limits.specs.Limits.{most_budget};
@@ -23,7 +23,7 @@ use std::alloc::Global;
 // How many bytes the line `INVALID` has.
 const FIRST_LINE: usize = 8;
 
-/// The answer of the canonical run, with values that refute the problem behind its first line, where they are to be shown and the run of
+/// The answer of the canonical run, with values that refute the problem after its first line, where they are to be shown and the run of
 /// the negated problem finds them.
 pub fn shown(
     alloc: Global,
@@ -60,7 +60,7 @@ fn are_to_show(problem: &Problem, output: &Output, shows: bool) -> bool
         && problem.first_application.is_none()
 }
 
-// The answer INVALID, with these values behind its first line.
+// The answer INVALID, with these values after its first line.
 fn with_values(
     alloc: Global,
     problem: &Problem,
@@ -85,7 +85,7 @@ fn with_values(
     })
 }
 
-// What stands behind the first n bytes of a text.
+// What stands after the first n bytes of a text.
 fn behind(text: &[u8], n: usize) -> &[u8]
     ensures { (first part : List ℕ) → length first ≡ n → text.now ≡ first ++ part → result.now ≡ part }
 {

@@ -3,10 +3,11 @@
 use crate::counterexample::write_counterexample;
 use crate::object::Object;
 use crate::refusal::write_refusal;
-use crate::text::{cut, first_line, labelled};
+use crate::text::{first_line, labelled};
 use crate::values::write_values;
 use job_messages::Message;
 use linear_term::Memory;
+use message_lines::cut;
 
 /// Writes the members for an answer with these lines, without those of a proof. What is known of a refusal stands in the messages.
 pub(crate) fn write_answer(
@@ -77,7 +78,7 @@ fn write_verdict(object: &mut Object, line: &[u8]) -> Result<(), Memory> {
     object.text_member("answer", verdict)
 }
 
-/// Writes members for the lines behind the first one, and for a first one that is a constraint.
+/// Writes members for the lines after the first one, and for a first one that is a constraint.
 fn write_lines(object: &mut Object, answer: &[u8]) -> Result<(), Memory> {
     if let Some(constraint) = labelled(answer, b"constraint: ") {
         object.text_member("constraint", constraint)?;

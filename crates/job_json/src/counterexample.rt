@@ -1,11 +1,12 @@
 // The lines of a counterexample: values of constants, and rows of predicates and functions.
 
 use crate::object::Object;
-use crate::text::{cut, first_line};
+use crate::text::first_line;
 use crate::values::write_value;
 use linear_term::Memory;
+use message_lines::cut;
 
-/// Writes a member for the lines behind `counterexample:`, if an answer has them.
+/// Writes a member for the lines after `counterexample:`, if an answer has them.
 pub(crate) fn write_counterexample(object: &mut Object, answer: &[u8]) -> Result<(), Memory> {
     let Some(lines) = counterexample(answer) else {
         return Ok(());
@@ -23,7 +24,7 @@ pub(crate) fn write_counterexample(object: &mut Object, answer: &[u8]) -> Result
     object.close()
 }
 
-/// What stands behind the line `counterexample:`.
+/// What stands after the line `counterexample:`.
 fn counterexample(answer: &[u8]) -> Option<&[u8]> {
     let mut rest = answer;
     for _ in 0..answer.len() {

@@ -1,4 +1,4 @@
-// One object of JSON in place of an answer's text: its members are made of the lines of the text, and behind them stand the status
+// One object of JSON in place of an answer's text: its members are made of the lines of the text, and after them stand the status
 // and the messages.
 #![tactic(auto)]
 

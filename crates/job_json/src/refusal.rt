@@ -1,9 +1,9 @@
 // What a line of a refusal says, and where in the file that is.
 
 use crate::object::Object;
-use crate::text::{cut, number};
 use job_messages::{Message, Severity};
 use linear_term::Memory;
+use message_lines::{cut, number};
 
 /// Writes a member for a refusal, as `Syntax at 45`, `Large` or `node 3`. Line, column and sentence are those of the error that is
 /// told of it.

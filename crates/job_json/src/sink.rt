@@ -6,11 +6,12 @@ use crate::answer::write_answer;
 use crate::message::write_messages;
 use crate::object::Object;
 use crate::statistics::write_statistics;
-use crate::text::cut;
+use crate::text::text_of;
 use base_answers::put_all;
 use job_counts::Statistics;
 use job_messages::Message;
 use linear_term::Memory;
+use message_lines::cut;
 use prover_io::{Failed, Sink};
 use std::alloc::Global;
 use std::string::String;
@@ -95,7 +96,7 @@ impl<K: Sink> JsonSink<K> {
         }
     }
 
-    /// Takes a line, or the part of it that is there; behind the line `proof:` the object is begun.
+    /// Takes a line, or the part of it that is there; after the line `proof:` the object is begun.
     fn take_line(&mut self, piece: &[u8]) -> Result<usize, Failed>
         ensures counted { self.new.faults ≡ self.old.faults }
     {
@@ -161,7 +162,7 @@ fn front_of_object(
     Ok(object.into_bytes())
 }
 
-/// An object with the members behind those for the lines.
+/// An object with the members after those for the lines.
 fn end_of_object(
     alloc: Global,
     status: u8,
@@ -187,7 +188,7 @@ fn bytes_of(text: &Option<String>) -> Option<&[u8]> {
 
 /// Bytes as a text of JSON, between quotes.
 fn quoted(alloc: Global, bytes: &[u8]) -> Result<Vec<u8>, Memory> {
-    let text = crate::text::text_of(alloc, bytes)?;
+    let text = text_of(alloc, bytes)?;
     let mut writer = json::Writer::new(Vec::new(alloc));
     writer.string(text.as_str())?;
     Ok(writer.into_inner())

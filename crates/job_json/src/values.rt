@@ -1,8 +1,8 @@
 // Values of constants, as the lines `solution:` and `at:` have them.
 
 use crate::object::Object;
-use crate::text::cut;
 use linear_term::Memory;
+use message_lines::cut;
 
 /// Writes an object with a member for each constant of a line as `a = 1, b = -2`: its value in decimal digits.
 pub(crate) fn write_values(object: &mut Object, line: &[u8]) -> Result<(), Memory> {

@@ -1,12 +1,12 @@
 // The assumptions of a problem: where its formula is `A -> B`, and the same problem with `false` in the place of B.
 
-use crate::problem::{Problem, is_quantifier};
 use base_answers::status;
 use linear_term::Memory;
+use message_problems::{Problem, is_quantifier};
 use pri_tokens::Terminal;
 use std::alloc::Global;
 
-/// What is known of the assumptions of a problem. The number is the place of the sign `->` behind them.
+/// What is known of the assumptions of a problem. The number is the place of the sign `->` after them.
 #[derive(Clone, Copy, Debug, PartialEq, Eq)]
 pub enum Vacuity {
     /// It was not asked.
@@ -41,7 +41,7 @@ pub enum Assumptions {
     Missing,
     /// Something that its conclusion `false` contradicts; the place of the sign `->`.
     Refuted(usize),
-    /// Something: the place of the last sign `->` of the formula, and the file with `false` in place of what stands behind it, and
+    /// Something: the place of the last sign `->` of the formula, and the file with `false` in place of what stands after it, and
     /// without blocks `\interpolant`.
     Before { at: usize, changed: Vec<u8> },
 }
@@ -75,7 +75,7 @@ pub fn find_assumptions(alloc: Global, text: &[u8]) -> Result<Assumptions, Memor
     Ok(Assumptions::Before { at, changed })
 }
 
-/// The last sign `->` of the formula, and the token behind its right side.
+/// The last sign `->` of the formula, and the token after its right side.
 fn find_arrow(p: &Problem) -> Option<(usize, usize)> {
     let mut range = formula(p)?;
     for _ in 0..p.len() {
@@ -150,7 +150,7 @@ fn last_arrow(p: &Problem, range: Range) -> Top {
     top
 }
 
-/// What stands in the parentheses that are a whole formula, or behind the names of the `\forall` that it begins with.
+/// What stands in the parentheses that are a whole formula, or after the names of the `\forall` that it begins with.
 fn inside(p: &Problem, range: Range) -> Option<Range> {
     let next = range.from.checked_add(1)?;
     match p.terminal(range.from)? {
@@ -189,7 +189,7 @@ fn semicolon(p: &Problem, k: usize) -> Option<usize> {
     None
 }
 
-/// Whether some tokens are `false`, behind the name of a part and in parentheses or not.
+/// Whether some tokens are `false`, after the name of a part and in parentheses or not.
 fn is_false(p: &Problem, range: Range) -> bool {
     let mut has_false = false;
     let mut is_name = false;

@@ -1,12 +1,9 @@
 // Which lines of the `\interpolant` blocks have no formula, and why.
 
-use crate::messages::{Messages, Severity, Subject};
-use crate::page::Page;
-use crate::places::cut;
-use crate::problem::Problem;
 use crate::run_sentences as say;
-use crate::slip::{Hole, Slip};
 use linear_term::Memory;
+use message_lines::{Hole, Messages, Page, Severity, Slip, Subject, cut};
+use message_problems::Problem;
 use pri_tokens::Terminal;
 use std::alloc::Global;
 
@@ -120,7 +117,7 @@ fn cut_from(problem: &Problem, k: usize, is_inside: bool) -> usize {
     problem.len()
 }
 
-/// What the message about the interpolant at a token is about; behind the last token there is no place.
+/// What the message about the interpolant at a token is about; after the last token there is no place.
 fn subject_at<'a, 'n>(
     problem: &Problem<'a>,
     at: usize,

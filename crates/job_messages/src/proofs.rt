@@ -1,14 +1,11 @@
 // Why a text proves nothing of a problem: the line of it that is refused.
 
-use crate::answers::Refusal;
-use crate::foreign::is_among;
-use crate::messages::{Messages, Severity};
-use crate::page::Page;
-use crate::places::{cut, line_at, numbered_line};
 use crate::run_sentences as say;
-use crate::slip::Slip;
-use crate::spots::{Spot, numbered, put_refused};
 use linear_term::Memory;
+use message_lines::{
+    Messages, Page, Refusal, Severity, Slip, Spot, cut, is_among, line_at, numbered, numbered_line,
+    put_refused,
+};
 use std::alloc::Global;
 
 /// Where a node of a proof tree is written, and whether it is the conclusion.
@@ -61,8 +58,8 @@ pub(crate) fn put_proof_refusal(
     }
 }
 
-/// The offset of the line behind which the proof begins: the first one that is `proof:`; 0 where there is none, and where
-/// nothing stands behind it.
+/// The offset of the line after which the proof begins: the first one that is `proof:`; 0 where there is none, and where
+/// nothing stands after it.
 fn begin_of_proof(text: &[u8]) -> usize {
     let mut from = 0;
     for _ in 0..text.len() {
@@ -77,7 +74,7 @@ fn begin_of_proof(text: &[u8]) -> usize {
     0
 }
 
-/// The line that begins at this offset, and the offset behind it; none where nothing is left.
+/// The line that begins at this offset, and the offset after it; none where nothing is left.
 fn line_from(text: &[u8], from: usize) -> Option<(&[u8], usize)> {
     let rest = text.get(from..)?;
     if rest.is_empty() {
@@ -104,7 +101,7 @@ fn syntax_sentence(text: &[u8], begin: usize, place: usize) -> &'static str {
     }
 }
 
-/// The sentence at a line of a clause proof, by its number in the text; behind the last line the proof ends.
+/// The sentence at a line of a clause proof, by its number in the text; after the last line the proof ends.
 fn clause_sentence(name: &[u8], number: u64, is_there: bool) -> &'static str {
     match name {
         b"line" if !is_there => say::PROOF_CLAUSE_END,
@@ -185,7 +182,7 @@ fn put_node(
     )
 }
 
-/// Puts where the log and the constraint of the node that begins at a spot stand, behind its premises.
+/// Puts where the log and the constraint of the node that begins at a spot stand, after its premises.
 fn put_rest(page: &mut Page, spot: &Spot) -> Result<(), Memory> {
     let mut from = spot.at;
     let mut owed: u64 = 0;

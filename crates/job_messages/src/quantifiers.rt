@@ -1,11 +1,9 @@
 // Which quantifier of a problem's file has how many instances, as far as the symbols in it tell that.
 
-use crate::messages::{Messages, Severity, Subject};
-use crate::page::Page;
-use crate::problem::{Problem, is_block, is_quantifier};
-use crate::slip::Slip;
 use base_watch::Instances;
 use linear_term::Memory;
+use message_lines::{Messages, Page, Severity, Slip, Subject};
+use message_problems::{Problem, is_block, is_quantifier};
 use pri_tokens::{Terminal, lexemes};
 use std::alloc::Global;
 
@@ -150,7 +148,7 @@ fn reaches_all(p: &Problem, k: usize, symbols: &[Symbol], instances: &Instances)
     true
 }
 
-/// The first token behind token k that closes a bracket which was open there.
+/// The first token after token k that closes a bracket which was open there.
 fn end_of_brackets(p: &Problem, k: usize) -> usize {
     let mut depth: usize = 0;
     for i in k..p.len() {

@@ -1,20 +1,18 @@
 // The lines of standard error that go with an answer.
 
-use crate::answers::find_refusal;
 use crate::assumptions::Vacuity;
 use crate::interpolants::put_interpolants;
-use crate::messages::{Message, Messages, Severity};
 use crate::proofs::put_proof_refusal;
-use crate::refusals::{put_lost, put_problem_refusal, put_script_refusal};
+use crate::refusals::{put_lost, put_refused_script};
 use crate::run_sentences as say;
-use crate::slip::{Hole, Slip};
-use crate::spots::put_placeless;
 use crate::unknowns::put_unknown;
-use crate::warnings::{put_empty_types, put_unasked, put_vacuity};
+use crate::warnings::{put_empty_types, put_unasked, put_unused, put_vacuity};
 use crate::words::words_slip;
 use base_answers::status;
 use job_counts::Counts;
 use linear_term::Memory;
+use message_lines::{Hole, Message, Messages, Severity, Slip, find_refusal, put_placeless};
+use message_problems::put_problem_refusal;
 use std::alloc::Global;
 use std::string::String;
 
@@ -63,6 +61,8 @@ pub struct Run<'a> {
     pub counts: Option<&'a Counts>,
     /// What is known of the assumptions of the problem in FILE.
     pub vacuity: Vacuity,
+    /// Where the names of the assertions stand that the script in FILE does not need.
+    pub unused: &'a [usize],
 }
 
 impl<'a> Run<'a> {
@@ -106,7 +106,10 @@ pub fn notes(alloc: Global, run: &Run) -> Result<Vec<Message>, Memory> {
 /// Puts what the answer to a file may hide.
 fn put_warnings(alloc: Global, messages: &mut Messages, run: &Run) -> Result<(), Memory> {
     match run.file_text {
-        Some(text) if run.is_script => put_unasked(alloc, messages, run.file, text),
+        Some(text) if run.is_script => {
+            put_unasked(alloc, messages, run.file, text)?;
+            put_unused(messages, run.file, text, run.unused)
+        }
         Some(text) => {
             put_empty_types(alloc, messages, run.file, text)?;
             put_vacuity(alloc, messages, run.file, text, run.vacuity)
@@ -141,7 +144,7 @@ fn put_refusal(alloc: Global, messages: &mut Messages, run: &Run) -> Result<(), 
     };
     let name = run.file;
     match run.file_text {
-        Some(text) if run.is_script => put_script_refusal(alloc, messages, name, text, &refusal),
+        Some(text) if run.is_script => put_refused_script(alloc, messages, name, text, &refusal),
         Some(text) => put_problem_refusal(alloc, messages, name, text, &refusal),
         None => put_lost(messages, name, &refusal),
     }

@@ -4,7 +4,7 @@ pub(crate) const STEPS_STEPS: &str =
     "the budget of {name} steps ended before an answer; --budget N gives up to 1,000,000,000. What helps more: fewer disjunctions, fewer quantified assumptions, fewer uses of one function or predicate, only the assumptions that are needed (docs/GUIDE.md, UNKNOWN)";
 
 pub(crate) const STEPS_AT_ONCE: &str =
-    "after {name} steps one rule asked for more than the {other} steps that were left of the budget, all at once. What helps: smaller coefficients and divisors, and fewer of them in one constraint (docs/GUIDE.md, UNKNOWN)";
+    "after {name} steps one rule asked for more than the {other} steps that were left of the budget, all at once. A rule asks for that where it multiplies long constraints out, or has a case for each value of a large coefficient or divisor. What helps: fewer quantifiers over one constraint, smaller coefficients and divisors (docs/GUIDE.md, UNKNOWN)";
 
 pub(crate) const GREATEST_NUMBER: &str =
     "the greatest number of the file; the larger coefficients and divisors are, the more cases a rule has";
@@ -40,6 +40,9 @@ pub(crate) const INTERPOLANT_LARGE: &str =
 pub(crate) const INTERPOLANT_PLAIN: &str =
     "none to look for: a component of the problem is true by itself, so the sides need not contradict each other";
 
+pub(crate) const PRI: &str =
+    "this is a .pri file, which `princess solve` reads; `smt` reads scripts of SMT-LIB";
+
 pub(crate) const EMPTY_TYPE: &str =
     "this type has no values, since {name} is more than {other}; with such a universal constant every problem holds, with such an existential one none does";
 
@@ -65,6 +68,9 @@ pub(crate) const VACUITY_AT_SOME: &str =
 
 pub(crate) const VACUITY_UNKNOWN: &str =
     "whether the assumptions before this -> contradict one another was not found within the budget and the limits";
+
+pub(crate) const UNUSED_ASSERTION: &str =
+    "each check that is unsat is unsat without this assertion, too";
 
 pub(crate) const PROOF_SYNTAX: &str =
     "no text of a proof goes on with this; docs/PROOFS.md has the grammar";
@@ -147,6 +153,9 @@ pub(crate) const WORDS_TWICE: &str = "{other} is given twice";
 
 pub(crate) const WORDS_BOTH: &str =
     "--proof and --short ask for two forms of one proof; give one of them";
+
+pub(crate) const WORDS_PROOF_FILE: &str =
+    "--proof-to takes the name of a file, as in --proof-to FILE";
 
 pub(crate) const WORDS_BUDGET: &str = "--budget takes a number from 1 to 1,000,000,000";
 

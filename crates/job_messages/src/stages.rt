@@ -1,13 +1,11 @@
 // The lines that tell what a run did, and how far it is.
 
-use crate::messages::{Messages, Severity, Subject};
-use crate::page::Page;
 use crate::quantifiers::put_instance_lines;
 use crate::run_sentences as say;
-use crate::slip::Slip;
 use base_watch::{Progress, Stage};
 use job_counts::{Counts, RunCounts, Statistics};
 use linear_term::Memory;
+use message_lines::{Messages, Page, Severity, Slip, Subject};
 use std::alloc::Global;
 
 /// The lines of `--stats`: one for each stage of the run, one for each of the quantifiers of the problem's file that were instantiated

@@ -1,16 +1,13 @@
 // What is said where a search ended without an answer: what ended it, what it took, and what helps.
 
-use crate::messages::{Messages, Severity, Subject};
-use crate::places::cut;
 use crate::quantifiers::put_instances;
 use crate::report::Run;
 use crate::run_sentences as say;
-use crate::slip::{Hole, Slip};
-use crate::spots::put_placeless;
 use crate::stages::put_taken;
 use base_watch::Stage;
 use job_counts::Counts;
 use linear_term::Memory;
+use message_lines::{Hole, Messages, Severity, Slip, Subject, cut, put_placeless};
 use pri_tokens::{Lexeme, Terminal, lexemes, spelling};
 use std::alloc::Global;
 
@@ -79,7 +76,10 @@ fn left_at_once(run: &Run) -> Option<u64> {
     if left >= LEFT { Some(left) } else { None }
 }
 
-/// Puts where the greatest number of a problem's file stands; nothing where it has none.
+/// The fewest digits of a number that makes a rule dear.
+const LARGE: usize = 3;
+
+/// Puts where the greatest number of a problem's file stands, where that is large.
 fn put_greatest(
     alloc: Global,
     messages: &mut Messages,
@@ -96,6 +96,9 @@ fn put_greatest(
     let Some(lexeme) = greatest else {
         return Ok(());
     };
+    if significant(spelling(text, &lexeme)).len() < LARGE {
+        return Ok(());
+    }
     let subject = Subject {
         file,
         severity: Severity::Note,

@@ -1,14 +1,10 @@
 // What an answer may hide: types without values, scripts that ask nothing, and assumptions that contradict one another.
 
 use crate::assumptions::Vacuity;
-use crate::declarations::has_existential;
-use crate::messages::{Messages, Severity};
-use crate::problem::Problem;
 use crate::run_sentences as say;
-use crate::script::Script;
-use crate::slip::{Hole, Slip};
-use crate::spots::{Spot, put_placeless};
 use linear_term::Memory;
+use message_lines::{Hole, Messages, Script, Severity, Slip, Spot, put_placeless};
+use message_problems::{Problem, has_existential};
 use pri_tokens::Terminal;
 use std::alloc::Global;
 
@@ -107,7 +103,7 @@ fn bound_text<'a>(p: &Problem<'a>, bound: Bound) -> &'a [u8] {
     p.bytes.get(from..to).unwrap_or(b"")
 }
 
-/// Puts a warning of a script that asks nothing, or nothing behind its last assertions.
+/// Puts a warning of a script that asks nothing, or nothing after its last assertions.
 pub(crate) fn put_unasked<'x>(
     alloc: Global,
     messages: &mut Messages,
@@ -129,7 +125,7 @@ pub(crate) fn put_unasked<'x>(
     put_warning(messages, file, text, at, &Slip::new(sentence))
 }
 
-/// What a script asks: whether it has a check, the first assertion behind its last check, and its last command.
+/// What a script asks: whether it has a check, the first assertion after its last check, and its last command.
 #[derive(Clone, Copy)]
 struct Commands {
     has_check: bool,
@@ -165,6 +161,25 @@ fn commands_of(script: &Script) -> Commands {
         }
     }
     commands
+}
+
+/// Puts a warning for each of the named assertions of a script that its checks do not need, by the places of their names.
+pub(crate) fn put_unused<'x>(
+    messages: &mut Messages,
+    file: &'x str,
+    text: &'x [u8],
+    unused: &[usize],
+) -> Result<(), Memory> {
+    for at in unused {
+        let spot = Spot {
+            name: file,
+            text,
+            at: *at,
+        };
+        let subject = spot.subject(Severity::Warning, b"unused");
+        messages.put(&subject, &Slip::new(say::UNUSED_ASSERTION))?;
+    }
+    Ok(())
 }
 
 /// Puts what a second question says of the assumptions of a problem.

@@ -1,13 +1,11 @@
 // Why words name no job.
 
-use crate::foreign::is_among;
-use crate::near::find_near;
 use crate::run_sentences as say;
-use crate::slip::{Hole, Slip};
+use message_lines::{Hole, Slip, find_near, is_among};
 use std::mem;
 use std::string::String;
 
-/// The words behind a command, as far as they were gone through.
+/// The words after a command, as far as they were gone through.
 #[derive(Clone, Copy)]
 struct Seen {
     files: usize,
@@ -21,13 +19,14 @@ struct Seen {
 /// The commands, and the options of any of them.
 const COMMANDS: [&str; 6] = ["solve", "check", "elim", "drill", "least", "smt"];
 
-const OPTIONS: [&str; 10] = [
+const OPTIONS: [&str; 11] = [
     "--budget",
     "--proof",
     "--short",
     "--calculus",
     "--counterexample",
     "--vacuous",
+    "--unused",
     "--json",
     "--stats",
     "--progress",
@@ -109,7 +108,7 @@ fn options_slip<'a>(command: &'a [u8], words: &'a [String], seen: &mut Seen) -> 
     }
 }
 
-/// The name of an option, without a value behind a sign =.
+/// The name of an option, without a value after a sign =.
 fn option_name(word: &[u8]) -> &[u8] {
     if word.starts_with(b"--budget=") {
         b"--budget"
@@ -128,6 +127,8 @@ enum OptionFault {
     /// It stands before a command.
     Quiet,
     Twice,
+    /// It lacks the name of a file.
+    NoFile,
 }
 
 /// The slip at an option.
@@ -143,6 +144,7 @@ fn option_slip<'a>(fault: OptionFault, command: &'a [u8], name: &'a [u8]) -> Sli
         OptionFault::Dash => Slip::new(say::WORDS_TERM_DASH).with_other(option),
         OptionFault::Quiet => Slip::named(say::WORDS_QUIET, command),
         OptionFault::Twice => Slip::new(say::WORDS_TWICE).with_other(option),
+        OptionFault::NoFile => Slip::new(say::WORDS_PROOF_FILE),
     }
 }
 
@@ -158,6 +160,8 @@ fn option_fault(command: &[u8], name: &[u8], seen: &mut Seen) -> Option<OptionFa
         b"--quiet" => return Some(OptionFault::Quiet),
         b"--json" | b"--stats" | b"--progress" => return Some(OptionFault::Twice),
         b"--vacuous" | b"--proof-to" if is_solve => return Some(OptionFault::Twice),
+        b"--proof-to=" if is_solve => return Some(OptionFault::NoFile),
+        b"--unused" if command == b"smt".as_slice() => return Some(OptionFault::Twice),
         _ if command == b"least".as_slice() => return Some(OptionFault::Dash),
         _ => return Some(OptionFault::Unknown),
     };

@@ -2,7 +2,6 @@ pub mod Causing
 pub mod Exactly
 pub mod Grounded
 pub mod Meaning
-mod FirstLines
 mod Outcomes
 mod Own
 pub mod Saturated

@@ -116,7 +116,7 @@ unknown_told budget p why.Branch a k is = branch k.0 k.1 is
 unknown_told budget p why.Steps a k is = steps k.0 k.1 is
 unknown_told budget p (why.Overflow place) a k is = overflow k.0 k.1 k.2 is
 
--- ---- the budget behind a run
+-- ---- the budget after a run
 
 -- where a run stands at its end
 abbrev last : Ending run.RunAnswer → At

@@ -1,4 +1,4 @@
--- An answer with a proof behind it, and the answer without it.
+-- An answer with a proof after it, and the answer without it.
 use Rattle.std.proofs.Common.{◌≡◌, ◌≢◌, ◌⊎◌, inl, inr, ◌∙◌, ◌≤◌, ℕ, ℤ, List, [], ◌++◌, length, Option, Some, None, Result, Ok, Err, IfOk, refl, sym, ap, subst, append_assoc, append-nil, codes, arith}
 use Rattle.base_limits.specs.Limits.{most_budget}
 use Rattle.linear_term.specs.declared.range.Memory.{Memory}
@@ -65,7 +65,7 @@ pub invalid_printable : (budget : ℕ) (p : Problem) (e : Encoded) → IsEncoded
     → EndsAs (form e.root) e.constants (start budget) (Ok (Invalid d t)) new → IsPrintable t
 invalid_printable budget p e h formed most d t new k = λ typed conclusion. invalid_outcome (form e.root) e.constants (start budget) new d t (searchable p e formed h) (reduced p e h) (omega (arith, most)) k typed
 
--- ---- the text of the proof behind an answer
+-- ---- the text of the proof after an answer
 pub printed_behind : (form : ProofForm) (t : Tree) (status : ℕ) (old mid out : List ℕ) → mid ≡ old ++ codes "proof:\n" → out ≡ mid ++ spelled (form_text form t.charges (proof_of t.root) t.conclusion)
     → IsTextOfProof (spelled (form_text form t.charges (proof_of t.root) t.conclusion)) t.charges (proof_of t.root) t.conclusion
     → (part : List ℕ) × PrintsTree form t part × (record { status = status; text = out } ≡ extended (record { status = status; text = old }) part)
@@ -125,12 +125,12 @@ unknown_part (Some wanted) budget p why.Steps k = subst (λ end. PrintsEnd wante
 unknown_part (Some wanted) budget p (why.Overflow place) k = subst (λ end. PrintsEnd wanted p end []) (sym k.2) refl
 
 -- ---- the whole answer
--- an answer without a part behind it
+-- an answer without a part after it
 pub alone_as : (asked : Option ProofForm) (budget : ℕ) (p : Problem) (r : Result Output Memory) → IsProofPart asked p (run_end budget p) [] → IfOk r (λ out. AnswersRun budget p (answer_of out)) → IfOk r (λ out. AnswersRunAs asked budget p (answer_of out))
 alone_as asked budget p (Ok out) none answers = record { plain = answer_of out; answers = answers; part = []; is_part = none; whole = unextended (answer_of out) }
 alone_as asked budget p (Err m) none answers = tt
 
--- an answer with the proof behind it that is asked for
+-- an answer with the proof after it that is asked for
 pub proved_as : (asked : Option ProofForm) (budget : ℕ) (p : Problem) (t : Tree) (plain : Output) (r : Result Output Memory) → AnswersRun budget p (answer_of plain) → ((part : List ℕ) → PrintsAsked asked t part → IsProofPart asked p (run_end budget p) part)
     → IfOk r (λ out. IsProofTold asked t (answer_of plain) (answer_of out)) → IfOk r (λ out. AnswersRunAs asked budget p (answer_of out))
 proved_as asked budget p t plain (Ok out) answers part told = record { plain = answer_of plain; answers = answers; part = told.part; is_part = part told.part told.prints; whole = told.whole }

@@ -6,7 +6,6 @@ pub mod Told
 pub mod Proved
 pub mod Shaping
 pub mod Explained
-pub mod Drilled
 pub mod Within
 pub use Rattle.itp_lines.specs.Blocks
 pub use Rattle.itp_lines.specs.Ends

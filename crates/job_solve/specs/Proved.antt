@@ -1,4 +1,4 @@
--- What `solve` answers where the proof is asked for: the same, and behind it the text of the proof in the form that is asked for.
+-- What `solve` answers where the proof is asked for: the same, and after it the text of the proof in the form that is asked for.
 use Rattle.std.specs.Prelude.{◌≡◌, ◌≢◌, ◌⊎◌, ℕ, ℤ, List, [], ◌++◌, length, codes, Option, Some, None}
 use Rattle.base_budget.specs.Runs.{total}
 use Rattle.proof_tree.specs.declared.node.Conclusion.{Conclusion}
@@ -33,7 +33,7 @@ abbrev pub form_text : ProofForm → ℕ → Proof → Conclusion → List Token
 form_text Whole n x c = proof_text n x c
 form_text Short n x c = short_text n x c
 
--- the part is the line `proof:`, and behind it the text of this proof in this form, which as a file of its own holds it too
+-- the part is the line `proof:`, and after it the text of this proof in this form, which as a file of its own holds it too
 pub record PrintsProof (form : ProofForm) (charges : ℕ) (x : Proof) (c : Conclusion) (part : List ℕ) : Type 0 where
   pub text : List ℕ
   pub line : part ≡ line (codes "proof:") ++ text
@@ -51,12 +51,12 @@ PrintsEnd form p (ends_with (run.valid vs x) stands) part = PrintsProof form (ch
 PrintsEnd form p (ends_with (run.invalid log x) stands) part = PrintsProof form (charges_of p x (Nothing (record { entries = log }))) x (Nothing (record { entries = log })) part
 PrintsEnd form p _ part = part ≡ []
 
--- the part behind the answer: the proof, in the form that is asked for
+-- the part after the answer: the proof, in the form that is asked for
 abbrev pub IsProofPart : Option ProofForm → Problem → Ending run.RunAnswer → List ℕ → Type 0
 IsProofPart (Some form) p end part = PrintsEnd form p end part
 IsProofPart None p end part = part ≡ []
 
--- an answer with a part of its text behind it
+-- an answer with a part of its text after it
 abbrev pub extended : Answer → List ℕ → Answer
 extended answer part = record { status = answer.status; text = answer.text ++ part }
 
@@ -76,7 +76,7 @@ IsSolvedAs asked budget = AnswersFile (AnswersEncoded (AnswersRunAs asked budget
 abbrev pub IsImpure : Problem → Type 0
 IsImpure p = ¬ (IsPure p)
 
--- the part is the line `proof:`, and behind it the text in this form of a proof of this, of the problem that the bytes pose
+-- the part is the line `proof:`, and after it the text in this form of a proof of this, of the problem that the bytes pose
 pub record PrintsProofOf (form : ProofForm) (bytes : List ℕ) (v : Verdict) (part : List ℕ) : Type 0 where
   pub problem : Problem
   pub poses : Poses bytes problem
@@ -99,7 +99,7 @@ pub record ProvesValid (form : ProofForm) (bytes text part : List ℕ) : Type 0 
 abbrev pub ProvesInvalid : ProofForm → List ℕ → List ℕ → Type 0
 ProvesInvalid form bytes part = PrintsProofOf form bytes verdict.Invalid part ⊎ ((part ≡ []) × PosesOne bytes IsImpure)
 
--- an answer is one of `solve` with a part behind it; where the proof is asked for the part has it, at each answer that the problem is
+-- an answer is one of `solve` with a part after it; where the proof is asked for the part has it, at each answer that the problem is
 -- valid or invalid; there is none at a counterexample, and at all other answers
 pub record IsParted (asked : Option ProofForm) (budget : ℕ) (bytes : List ℕ) (answer : Answer) : Type 0 where
   pub plain : Answer
@@ -119,7 +119,7 @@ abbrev pub PrintsAsked : Option ProofForm → Tree → List ℕ → Type 0
 PrintsAsked (Some form) t part = PrintsTree form t part
 PrintsAsked None t part = part ≡ []
 
--- the answer with the tree's proof behind it, if one is asked for
+-- the answer with the tree's proof after it, if one is asked for
 pub record IsProofTold (asked : Option ProofForm) (tree : Tree) (plain answer : Answer) : Type 0 where
   pub part : List ℕ
   pub prints : PrintsAsked asked tree part

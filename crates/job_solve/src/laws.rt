@@ -18,7 +18,7 @@ pub fn one_answer_law()
 
 /// At VALID the bytes read as a problem that holds, in whatever interpretation, at each value of the existential constants
 /// that satisfies the printed constraint, as the printed values do, and nowhere else where the problem has neither predicates
-/// nor functions; each printed interpolant stands between what the sets before it assume and what those behind it do, and of two
+/// nor functions; each printed interpolant stands between what the sets before it assume and what those after it do, and of two
 /// neighbours in a block the later one follows from the earlier one and the set between them. At INVALID they read as one that is
 /// refuted.
 pub fn headline_law()

@@ -14,7 +14,7 @@ use proof_printer::{know_typed, write_short, write_tree};
 use proof_tree::Tree;
 use std::alloc::Global;
 
-/// The answer with the proof behind it that the tree is, in the form that is asked for, if one is.
+/// The answer with the proof after it that the tree is, in the form that is asked for, if one is.
 pub fn with_proof(
     alloc: Global,
     plain: Output,
@@ -30,7 +30,7 @@ pub fn with_proof(
     }
 }
 
-// The answer with this proof behind it.
+// The answer with this proof after it.
 fn print_proof(alloc: Global, plain: Output, tree: &Tree, form: ProofForm) -> Result<Output, Memory>
     requires { IsPrintable tree.now }
     ensures { IfOk result (λ output. (part : List ℕ) × PrintsTree form tree.now part × (answer_of output ≡ extended (answer_of plain) part)) }
@@ -46,7 +46,7 @@ fn print_proof(alloc: Global, plain: Output, tree: &Tree, form: ProofForm) -> Re
     })
 }
 
-// Writes the text of a proof in this form behind a text.
+// Writes the text of a proof in this form after a text.
 fn write_form(alloc: Global, tree: &Tree, form: ProofForm, out: &mut Vec<u8>) -> Result<(), Memory>
     requires { IsWritable tree.now.charges (proof_of tree.now.root) tree.now.conclusion }
     ensures text { OnOk result (out.new.items ≡ out.old.items ++ spelled (form_text form tree.now.charges (proof_of tree.now.root) tree.now.conclusion)) }

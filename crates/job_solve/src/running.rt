@@ -33,7 +33,7 @@ pub enum Course {
 }
 
 /// Runs the canonical run within the limit. Where it ends there, the answer is that of the run with the whole budget, with the
-/// proof behind it in the form that is asked for, if one is. Trees are kept where a proof is asked for.
+/// proof after it in the form that is asked for, if one is. Trees are kept where a proof is asked for.
 pub fn run_within<X: Watch>(
     alloc: Global,
     problem: &Problem,

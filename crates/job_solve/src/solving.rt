@@ -1,12 +1,12 @@
-// The answer to a problem's file, by the canonical run.
+// The answer to an encoded problem, by the canonical run.
 
 ghost use Rattle.base_answers.specs.Answer.{answer_of};
 ghost use Rattle.base_limits.specs.Limits.{most_budget};
 ghost use Rattle.pri_typing.specs.WellFormed.{HasDistinctNames, HasIdentifiers, IsWellFormed};
-ghost use Rattle.pri_problem.specs.Encoded.{AnswersEncoded, IsEncoded};
+ghost use Rattle.pri_problem.specs.Encoded.{IsEncoded};
 ghost use Rattle.pri_problem.specs.Cuttable.{IsCuttable};
-ghost use Rattle.job_solve.specs.Proved.{AnswersRunAs, IsSolvedAs};
-ghost use Rattle.std.specs.Prelude.{◌≤◌, ◌<◌, ◌^◌, length, IfOk};
+ghost use Rattle.job_solve.specs.Proved.{AnswersRunAs};
+ghost use Rattle.std.specs.Prelude.{◌≤◌, IfOk};
 
 use crate::running::{Course, run_within};
 use crate::telling::cause;
@@ -14,49 +14,8 @@ use base_answers::{Output, ProofForm, unknown};
 use base_watch::Watch;
 use function_encoding::Encoded;
 use linear_term::Memory;
-use pri_problem::{encode_problem, read_problem, refuse, refuse_encoding};
 use pri_typing::Problem;
 use std::alloc::Global;
-
-/// The answer of `solve` with a budget to a problem's file of these bytes, with the proof behind it in the form that is asked for, if
-/// one is.
-pub fn answer<X: Watch>(
-    alloc: Global,
-    bytes: &[u8],
-    budget: u64,
-    asked: Option<ProofForm>,
-    watch: &mut X,
-) -> Result<Output, Memory>
-    requires bytes { length bytes.now < 2 ^ 32 }
-    requires budget { budget ≤ most_budget }
-    ensures { IfOk result (λ output. IsSolvedAs asked budget bytes.now (answer_of output)) }
-{
-    match read_problem(alloc, bytes) {
-        Ok(problem) => problem_answer(alloc, &problem, budget, asked, watch),
-        Err(fault) => refuse(alloc, fault),
-    }
-}
-
-// The answer to a problem.
-fn problem_answer<X: Watch>(
-    alloc: Global,
-    problem: &Problem,
-    budget: u64,
-    asked: Option<ProofForm>,
-    watch: &mut X,
-) -> Result<Output, Memory>
-    requires well_formed { IsWellFormed problem.now }
-    requires distinct { HasDistinctNames problem.now }
-    requires identifiers { HasIdentifiers problem.now }
-    requires cuts { IsCuttable problem.now }
-    requires budget { budget ≤ most_budget }
-    ensures { IfOk result (λ output. AnswersEncoded (AnswersRunAs asked budget) problem.now (answer_of output)) }
-{
-    match encode_problem(alloc, problem) {
-        Ok(encoded) => run_answer(alloc, problem, &encoded, budget, asked, watch),
-        Err(refusal) => refuse_encoding(alloc, refusal),
-    }
-}
 
 /// The answer to an encoded problem: it tells how the canonical run ends that has this budget. Trees are kept where a proof is asked
 /// for.

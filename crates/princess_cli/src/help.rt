@@ -16,6 +16,7 @@ usage: princess solve FILE [--budget N] [--proof | --short] [--calculus] [--coun
        princess COMMAND --help                               this text
        princess solve --vacuous FILE ..                      also whether its assumptions contradict one another
        princess solve --proof-to PROOF FILE ..               the proof goes to a file of its own
+       princess smt --unused FILE ..                         also which named assertions its checks do not need
        princess --quiet ..                                   nothing on standard error
        princess --stats ..                                   what the run did, on standard error
        princess --progress ..                                how far the run is, on standard error

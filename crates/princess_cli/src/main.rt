@@ -12,7 +12,7 @@ mod request;
 use crate::help::{HELP, VERSION};
 use crate::request::{Manner, Request, read_request};
 use base_answers::put_all;
-use base_answers::status::{NO_MEMORY, SINK_FAILED, VALID};
+use base_answers::status::{NO_MEMORY, SINK_FAILED, UNKNOWN, VALID};
 use base_watch::Unwatched;
 use form_typed::{Table, World};
 use job_counts::{Counts, Statistics};
@@ -21,9 +21,9 @@ use prover_input::SystemSource;
 use prover_io::{Failed, OutSink, Sink, Source};
 use prover_job::run;
 use prover_notes::{
-    KeptSink, KeptSource, Lines, Message, NamedFiles, Nowhere, Reporter, Second, SystemFiles,
-    Vacuity, greatest_memory, messages, named_file, put_messages, put_output_failed, put_stats,
-    put_unread_words, second_question,
+    KeptSink, KeptSource, Lines, Message, NamedFiles, Nowhere, Reporter, Second, SecondAnswers,
+    SystemFiles, Vacuity, greatest_memory, is_unused, messages, named_file, named_in_script,
+    put_messages, put_output_failed, put_stats, put_unread_words, run_without, second_question,
 };
 use prover_output::{FileSink, SplitSink};
 use std::alloc::{AllocError, Global};
@@ -119,7 +119,7 @@ fn answer<'x>(rt: &'x HostRuntime, words: &[String], manner: &'x Manner) -> u8 {
     let status = run_with_notes(
         alloc,
         words,
-        manner.is_vacuous,
+        manner,
         &mut source,
         &mut sink,
         &world,
@@ -142,7 +142,7 @@ fn answer<'x>(rt: &'x HostRuntime, words: &[String], manner: &'x Manner) -> u8 {
 fn run_with_notes<S: Source, K: Sink, W: World, F: NamedFiles, N: Sink, M: Sink>(
     alloc: Global,
     words: &[String],
-    is_vacuous: bool,
+    manner: &Manner,
     source: &mut KeptSource<S>,
     sink: &mut KeptSink<K>,
     world: &W,
@@ -158,7 +158,7 @@ fn run_with_notes<S: Source, K: Sink, W: World, F: NamedFiles, N: Sink, M: Sink>
     reporter.clear();
     let counts = reporter.counts();
     let told = told(
-        alloc, words, status, is_vacuous, counts, source, sink, world, files,
+        alloc, words, status, manner, counts, source, sink, world, files,
     );
     put_messages(alloc, told.as_slice(), noted);
     status
@@ -169,19 +169,21 @@ fn told<S: Source, K: Sink, W: World, F: NamedFiles>(
     alloc: Global,
     words: &[String],
     status: u8,
-    is_vacuous: bool,
+    manner: &Manner,
     counts: &Counts,
     source: &KeptSource<S>,
     sink: &KeptSink<K>,
     world: &W,
     files: &F,
 ) -> Vec<Message> {
-    let vacuity = if is_vacuous && status == VALID {
-        vacuity(alloc, words, source.text(0), world)
-    } else {
-        Vacuity::Unasked
-    };
-    messages(alloc, words, status, vacuity, counts, source, sink, files)
+    let mut second = SecondAnswers::none(alloc);
+    if manner.is_vacuous && status == VALID {
+        second.vacuity = vacuity(alloc, words, source.text(0), world);
+    }
+    if manner.is_unused && (status == VALID || status == UNKNOWN) {
+        second.unused = unused(alloc, words, source.text(0), sink.front(), world);
+    }
+    messages(alloc, words, status, &second, counts, source, sink, files)
 }
 
 /// Whether the assumptions of the problem in a file with these bytes contradict one another: that is what a second run says.
@@ -202,6 +204,40 @@ fn vacuity<W: World>(alloc: Global, words: &[String], text: Option<&[u8]>, world
         }
         Err(_) => Vacuity::Unasked,
     }
+}
+
+/// Where the names of the assertions stand that a script with these bytes does not need, where the fronts of its lines are these: that
+/// is what a run without each of them says.
+fn unused<W: World>(
+    alloc: Global,
+    words: &[String],
+    text: Option<&[u8]>,
+    answer: &[u8],
+    world: &W,
+) -> Vec<usize> {
+    let mut unused = Vec::new(alloc);
+    let (Ok(named), Some(text)) = (named_in_script(alloc, words, text), text) else {
+        return unused;
+    };
+    for assertion in named.as_slice() {
+        let Ok(Some((words, source))) = run_without(alloc, words, text, assertion) else {
+            return unused;
+        };
+        let mut source = source;
+        let mut sink = KeptSink::new(alloc, Nowhere);
+        let _ = run(
+            alloc,
+            words.as_slice(),
+            &mut source,
+            &mut sink,
+            world,
+            &mut Unwatched,
+        );
+        if is_unused(answer, sink.front(), assertion) && unused.push(assertion.name).is_err() {
+            return unused;
+        }
+    }
+    unused
 }
 
 /// Does the job that words name, puts one object in place of the text to standard output, and answers the exit status.
@@ -225,15 +261,7 @@ fn answer_json<'x>(rt: &'x HostRuntime, words: &[String], manner: &'x Manner) ->
     reporter.clear();
     let counts = reporter.counts();
     let told = told(
-        alloc,
-        words,
-        status,
-        manner.is_vacuous,
-        counts,
-        &source,
-        &sink,
-        &world,
-        &files,
+        alloc, words, status, manner, counts, &source, &sink, &world, &files,
     );
     let statistics = Statistics {
         counts,

@@ -85,7 +85,7 @@ impl<'a, R: Files + Input> Source for SystemSource<'a, R> {
     }
 }
 
-// Adds a name behind those that were begun.
+// Adds a name after those that were begun.
 #[tactic(auto, using(crate::proofs::Begun::begun))]
 fn add_name(alloc: Global, names: &mut Items<String>, name: &str) -> Result<(), AllocError>
     ensures added { OnOk result (map string_bytes names.new ≡ map string_bytes names.old ++ name.now ∷ []) }

@@ -53,4 +53,4 @@ decided_output form calculus shows budget bytes a b (posed p h (leaves l e)) goo
 decided_output form calculus shows budget bytes a b (posed p h (runs f (canonical k))) good is = inl (canonical_output form shows budget bytes p a b h f k (has_proof calculus budget bytes a good) is)
 decided_output form calculus shows budget bytes a b (posed p h (runs f (by_clauses off k))) good is = so_or_cut off (proved_accepted form budget bytes p a b h f k is)
 decided_output form calculus shows budget bytes a b (posed p h (runs f (by_model off k))) good is =
-    absurd (refuted_by_model calculus budget bytes a off (ap status_of k.whole) (p, h, (f, k.early, (k.model, k.universals, k.is))) good)
+    absurd (refuted_by_model calculus budget bytes a off (ap status_of k.whole) (p, h, (f, k.left_open, (k.model, k.universals, k.is))) good)

@@ -1,4 +1,4 @@
--- Lines that are whole and are not `proof:`, before the line that is: behind that stands the part of a file that holds a proof.
+-- Lines that are whole and are not `proof:`, before the line that is: after that stands the part of a file that holds a proof.
 use Rattle.std.proofs.Common.{ℕ, ◌≡◌, ◌∙◌, ◌==◌, Bool, true, false, cond, List, [], ◌∷◌, ◌++◌, Option, Some, option_map, unwrap_or, refl, ap, append_assoc, codes}
 use Rattle.std.specs.List.{AllByRecursion, join_with_byte, list_all, onto_first}
 use Rattle.std.proofs.lemmas.List.Splits.{join_with_byte-slice_split}
@@ -35,7 +35,7 @@ first_line : (l rest : List ℕ) → AreInner l → lines_of (l ++ 10 ∷ rest) 
 first_line [] rest h = refl
 first_line (b ∷ l) rest h = ap (λ v. cond v ([] ∷ lines_of (l ++ 10 ∷ rest)) (onto_first b (lines_of (l ++ 10 ∷ rest)))) h.0 ∙ ap (onto_first b) (first_line l rest h.1)
 
--- lines, one behind another, and then these bytes
+-- lines, one after another, and then these bytes
 abbrev pub before : List (List ℕ) → List ℕ → List ℕ
 before [] rest = rest
 before (l ∷ ls) rest = l ++ 10 ∷ before ls rest
@@ -50,7 +50,7 @@ passed (l ∷ ls) rest h =
 abbrev part_of : List ℕ → Option (List (List ℕ)) → List ℕ
 part_of bytes found = unwrap_or (option_map (join_with_byte 10) found) bytes
 
--- behind the marker stands the part
+-- after the marker stands the part
 pub part_behind : (ls : List (List ℕ)) (text : List ℕ) → AllByRecursion IsPassed ls → body (before ls (codes "proof:" ++ 10 ∷ text)) ≡ text
 part_behind ls text h =
     ap (part_of (before ls (codes "proof:" ++ 10 ∷ text)))
@@ -76,6 +76,6 @@ one_more l text h k = record {
 pub one_alone : (l : List ℕ) → IsPassed l → IsOfLines (line l)
 one_alone l h = record { lines = l ∷ []; passed = (h, tt); is = λ rest. append_assoc l (10 ∷ []) rest }
 
--- the part behind a text of such lines, and the line `proof:`
+-- the part after a text of such lines, and the line `proof:`
 pub part_after : (text part : List ℕ) → IsOfLines text → body (text ++ (line (codes "proof:") ++ part)) ≡ part
 part_after text part h = ap body (h.is (line (codes "proof:") ++ part) ∙ ap (before h.lines) (append_assoc (codes "proof:") (10 ∷ []) part)) ∙ part_behind h.lines part h.passed

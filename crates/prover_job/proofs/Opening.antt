@@ -15,7 +15,7 @@ begins_first name names before after h = by h.0 h.1
     by (suc zero) e = (1, e)
     by (suc (suc k)) e = (1, e)
 
--- the first is begun, and behind it the second or none
+-- the first is begun, and after it the second or none
 pub begins_second : (one two : List ℕ) (before between after : List (List ℕ)) → between ≡ before ++ one ∷ [] → BeginsFront (two ∷ []) between after → BeginsFront (one ∷ two ∷ []) before after
 begins_second one two before between after e h = (suc h.0, h.1 ∙ ap (λ z. z ++ take h.0 (two ∷ [])) e ∙ append_assoc before (one ∷ []) (take h.0 (two ∷ [])))
 

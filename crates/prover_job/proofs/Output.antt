@@ -89,7 +89,7 @@ seam_lines p [] old (text ∷ lines) h are = absurd are
 seam_lines p (b ∷ bs) old [] h are = absurd are
 seam_lines p (b ∷ bs) old (text ∷ lines) h are = seam_line p b old text (concat lines) h are.0 (seam_lines p bs _ lines h are.1)
 
--- the answer has a proof behind it: the problem is valid, or it is invalid and has neither predicates nor functions
+-- the answer has a proof after it: the problem is valid, or it is invalid and has neither predicates nor functions
 abbrev pub HasProof : List ℕ → Answer → Type 0
 HasProof bytes a = (a.status ≡ 0) ⊎ ((a.status ≡ 1) × ¬ (PosesOne bytes IsImpure))
 
@@ -132,9 +132,9 @@ solved_lines budget bytes a (posed p h (large l e)) good = absurd (neither bytes
 solved_lines budget bytes a (posed p h (leaves l e)) good = absurd (neither bytes a 2 (ap status_of e) (λ z. cc) (λ z. cc) good)
 solved_lines budget bytes a (posed p h (runs f k)) good = end_lines budget bytes p a h k good
 
--- ---- the proof behind them
+-- ---- the proof after them
 
--- behind such lines, what is printed of a proof is the part of the file that holds it
+-- after such lines, what is printed of a proof is the part of the file that holds it
 pub whole_accepted : (form : ProofForm) (bytes text part : List ℕ) (v : Verdict) → IsOfLines text → PrintsProofOf form bytes v part → (b : Answer) → IsChecked (text ++ part) bytes b → b.status ≡ 0
 whole_accepted form bytes text part v lines h b is =
     let printed = h.prints in
@@ -169,9 +169,9 @@ accepted_by form budget bytes a b q is good = by good
 pub output_accepted : (form : ProofForm) (budget : ℕ) (bytes : List ℕ) (a b : Answer) → IsSolvedAs (Some form) budget bytes a → HasProof bytes a → IsChecked a.text bytes b → b.status ≡ 0
 output_accepted form budget bytes a b solved good is = accepted_by form budget bytes a b (parted (Some form) budget bytes a solved) is good
 
--- ---- a clause proof behind them
+-- ---- a clause proof after them
 
--- behind such lines, the file that is printed is the part that holds the proof
+-- after such lines, the file that is printed is the part that holds the proof
 clauses_accepted : (bytes : List ℕ) (p : Problem) (text file : List ℕ) → Poses bytes p → Fits p → p.existentials ≡ [] → IsOfLines text → IsClauseFile p file → (b : Answer)
     → IsChecked (text ++ (codes "proof:\n" ++ file)) bytes b → (b.status ≡ 0) ⊎ IsCutAnswer b
 clauses_accepted bytes p text file poses fits alone lines h b is =
@@ -190,7 +190,7 @@ clauses_accepted bytes p text file poses fits alone lines h b is =
 
 pub proved_accepted : (form : ProofForm) (budget : ℕ) (bytes : List ℕ) (p : Problem) (a b : Answer) → Poses bytes p → Fits p → AnswersProved (Some form) budget p a → IsChecked a.text bytes b → (b.status ≡ 0) ⊎ IsCutAnswer b
 proved_accepted form budget bytes p a b poses fits h is =
-    clauses_accepted bytes p (closed_answer h.blocks).text h.file poses fits h.early.alone (closed_lines bytes p _ h.blocks poses h.lines) h.proof b
+    clauses_accepted bytes p (closed_answer h.blocks).text h.file poses fits h.left_open.alone (closed_lines bytes p _ h.blocks poses h.lines) h.proof b
     (subst (λ t. IsChecked t bytes b) (ap text_of h.whole) is)
 
 pub so_or_cut : {n : ℕ} {C K : Type 0} → K → (n ≡ 0) ⊎ C → (n ≡ 0) ⊎ (K × C)

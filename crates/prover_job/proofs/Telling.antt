@@ -15,12 +15,12 @@ use Rattle.problem_gen.specs.Drills.{drill_text}
 use Rattle.job_decide.specs.Causes.{IsCausedAs}
 use Rattle.job_solve.specs.Proved.{PrintsProofOf}
 use Rattle.job_decide.specs.Decided.{IsDecidedAs}
+use Rattle.job_decide.specs.Drilled.{IsDrilled}
 use Rattle.job_decide.specs.Meaning.{Means}
-use Rattle.job_decide.proofs.Causing.{decided_status, solve_so}
+use Rattle.job_decide.proofs.Causing.{decided_status}
 use Rattle.job_decide.proofs.Causing as decide_causing
 use Rattle.job_decide.proofs.Means as decide_meaning
 use Rattle.base_answers.specs.declared.form.ProofForm.{ProofForm}
-use Rattle.job_solve.specs.Solved.{IsSolved}
 use Rattle.pri_lines.proofs.Losing.{no_table}
 use Rattle.job_check.specs.Checked.{IsChecked}
 use Rattle.job_check.specs.Meaning.{CheckMeans}
@@ -32,10 +32,6 @@ use Rattle.job_check.proofs.Exactly.{accepted_text}
 use Rattle.job_check.proofs.Meaning as check_meaning
 use Rattle.proof_tree.specs.declared.run.Verdict.{Verdict}
 use Rattle.job_check.proofs.Meaning.{checked_status}
-use Rattle.job_solve.specs.Headline.{Headline}
-use Rattle.job_solve.proofs.Exactly.{solved_status}
-use Rattle.job_solve.proofs.Meaning.{headline}
-use Rattle.job_solve.specs.Drilled.{IsDrilled}
 use Rattle.job_elim.specs.Eliminated.{IsEliminated}
 use Rattle.job_elim.specs.Meaning.{ElimMeans}
 use Rattle.job_elim.proofs.Causing as elim_causing
@@ -95,7 +91,7 @@ task_status bytes_of (eliminate file budget) a h = bytes_status most_of_file (Is
 task_status bytes_of (run_script file budget) a h = bytes_status most_of_file (IsSmtAnswer budget) (smt_status budget) h.bytes a h.is
 task_status bytes_of (minimise file term budget) a h = bytes_status most_of_file (IsLeastAnswer term budget) (least_status term budget) h.bytes a h.is
 task_status bytes_of (check file proof) a h = bytes_status most_of_file (AnswersWithProof (bytes_of proof)) (with_proof_status (bytes_of proof)) h.bytes a h.is
-task_status bytes_of (drill count budget) a h = subst (λ b. IsAnswerStatus b.status) (sym h.drilled) (solved_status budget (drill_text count) h.solved h.solves)
+task_status bytes_of (drill count budget) a h = subst (λ b. IsAnswerStatus b.status) (sym h.drilled) (decided_status false false None budget (drill_text count) h.solved h.solves)
 
 -- what ends with such a status or with 7 ends neither with 6 nor with 8
 -- a status of an answer comes with a text, and is not that of refused words
@@ -308,8 +304,8 @@ pub drill_caused : (w : Meaning) (budget count ends : ℕ) (before after : Optio
 drill_caused w budget count ends before after met = meets_more (IsDrilled budget count) (IsDrillCaused w budget count) ends before after (λ a is. record {
   solved = is.solved;
   drilled = is.drilled;
-  means = headline w budget (drill_text count) is.solved is.solves;
-  caused = solve_so budget (drill_text count) is.solved is.solves;
+  means = decide_meaning.means w false false None budget (drill_text count) is.solved is.solves;
+  caused = decide_causing.causes false false None budget (drill_text count) is.solved is.solves;
 }) met
 
 -- ---- the job that words name

@@ -1,5 +1,5 @@
 -- What a run answers to its words over a source of named bytes, and what its end means.
-use Rattle.std.specs.Prelude.{◌≡◌, ◌⊎◌, ◌+◌, ◌≤◌, ◌<◌, ◌^◌, ℕ, Bool, true, List, [], ◌∷◌, ◌++◌, length, map, Option, Some, None, Contains, String, string_bytes}
+use Rattle.std.specs.Prelude.{◌≡◌, ◌⊎◌, ◌+◌, ◌≤◌, ◌<◌, ◌^◌, ℕ, Bool, true, false, List, [], ◌∷◌, ◌++◌, length, map, Option, Some, None, Contains, String, string_bytes}
 use Rattle.std.specs.declared.alloc.Global.{Global}
 use Rattle.base_limits.specs.Limits.{most_budget, most_count}
 use Rattle.form_typed.specs.Truth.{Meaning}
@@ -10,18 +10,18 @@ use Rattle.base_answers.specs.Answer.{Answer}
 use Rattle.base_answers.specs.Files.{AnswersSource, most_of_file, most_of_proof}
 use Rattle.base_answers.specs.Outside.{Meets, PutsAll}
 use Rattle.job_words.specs.Jobs.{Task, solve, eliminate, run_script, minimise, check, drill, files_of, NamesJob}
-use Rattle.job_decide.specs.Causes.{IsRefutedByModel, IsSolveCaused}
+use Rattle.job_decide.specs.Causes.{IsCausedAs, IsRefutedByModel}
 use Rattle.job_solve.specs.Proved.{IsImpure}
 use Rattle.pri_problem.specs.Answers.{PosesOne}
 use Rattle.job_decide.specs.Decided.{IsDecidedAs}
-use Rattle.job_decide.specs.Meaning.{ProvesInvalidBy, ProvesValidBy, RefutesBy}
+use Rattle.job_decide.specs.Meaning.{Means, ProvesInvalidBy, ProvesValidBy, RefutesBy}
 use Rattle.base_answers.specs.declared.form.ProofForm.{ProofForm}
 use Rattle.job_check.specs.Checked.{IsChecked}
 use Rattle.job_check.specs.Meaning.{Confirms}
 use Rattle.job_check.specs.Causes as check_causes
 use Rattle.problem_gen.specs.Drills.{drill_text}
-use Rattle.job_solve.specs.Headline.{Headline, Validates}
-use Rattle.job_solve.specs.Drilled.{IsDrilled, drill_answer}
+use Rattle.job_solve.specs.Headline.{Validates}
+use Rattle.job_decide.specs.Drilled.{IsDrilled, drill_answer}
 use Rattle.job_elim.specs.Eliminated.{IsEliminated}
 use Rattle.job_elim.specs.Causes as elim_causes
 use Rattle.job_elim.specs.Meaning.{Constrained}
@@ -98,7 +98,7 @@ AreBegun bytes_of task before after = after ≡ before ++ files_of task
 abbrev pub BrokeAt : Task → Option (List ℕ) → Bool → Type 0
 BrokeAt task name broken = (file : List ℕ) × Contains (files_of task) file × Broke (Some file) name broken
 
--- the bytes of a file, where they are told, read as a problem of which the text put says that it is valid; behind it comes nothing,
+-- the bytes of a file, where they are told, read as a problem of which the text put says that it is valid; after it comes nothing,
 -- or the part with a proof of that, in the form that is asked for
 pub record SaysValid (w : Meaning) (asked : Option ProofForm) (told before after : Option (List ℕ)) : Type 0 where
   pub bytes : List ℕ
@@ -119,7 +119,7 @@ pub record SaysChecked (w : Meaning) (told before after : Option (List ℕ)) : T
   pub confirms : Confirms w bytes text
 
 -- the bytes of a file, where they are told, read as a problem that is refuted; the text put shows a counterexample where the problem
--- has predicates or functions, or where one is asked for and values are found, and behind it comes nothing, or the part with a proof, in the
+-- has predicates or functions, or where one is asked for and values are found, and after it comes nothing, or the part with a proof, in the
 -- form that is asked for
 pub record SaysRefuted (shows : Bool) (asked : Option ProofForm) (told before after : Option (List ℕ)) : Type 0 where
   pub bytes : List ℕ
@@ -180,8 +180,8 @@ IsCheckCaused told bytes = AnswersSource most_of_proof (λ proof. check_causes.C
 pub record IsDrillCaused (w : Meaning) (budget count : ℕ) (answer : Answer) : Type 0 where
   pub solved : Answer
   pub drilled : answer ≡ drill_answer count solved
-  pub means : Headline w (drill_text count) solved
-  pub caused : IsSolveCaused budget (drill_text count) solved
+  pub means : Means w false None (drill_text count) solved
+  pub caused : IsCausedAs false false None budget (drill_text count) solved
 
 -- A proof is printed with the answer, where one is asked for. The problem is valid, or it is invalid and has neither predicates nor
 -- functions. It is not one that a model may refute where the canonical run leaves it open, unless the calculus alone is asked for.

@@ -11,7 +11,7 @@ ghost use Rattle.base_answers.specs.declared.form.ProofForm.{ProofForm};
 ghost use Rattle.prover_job.specs.Runs.{AnswersWithProof, HasProof};
 ghost use Rattle.std.specs.Prelude.{◌≡◌, ◌≤◌, ◌⊎◌, Bool, List, Some, false, length, ℕ};
 
-/// The proof that `solve` prints behind the line `proof:`, in whichever form, is accepted: `check` of the same file and of these
+/// The proof that `solve` prints after the line `proof:`, in whichever form, is accepted: `check` of the same file and of these
 /// bytes answers with status 0.
 pub fn printed_law()
     ensures { (form : ProofForm) (bytes : List ℕ) (v : Verdict) (part : List ℕ) (h : PrintsProofOf form bytes v part) (a : Answer) → IsChecked (h.prints).text bytes a → a.status ≡ 0 }

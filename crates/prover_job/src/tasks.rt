@@ -91,7 +91,7 @@ pub(crate) fn job_output<S: Source, X: Watch>(
             *budget,
             watch,
         ),
-        Job::Drill { count, budget } => Ok(job_solve::drilled(alloc, *count, *budget, watch)?),
+        Job::Drill { count, budget } => Ok(job_decide::drilled(alloc, *count, *budget, watch)?),
     }
 }
 

@@ -25,7 +25,7 @@ impl<K: Sink> KeptSink<K> {
         }
     }
 
-    /// The first 64 bytes of each line that was taken, up to a line `proof:`; where there are many lines or memory is wanting,
+    /// The first 64 bytes of each line that was taken, up to a line `proof:`; where there are many lines or memory runs out,
     /// those of the first lines.
     pub fn front(&self) -> &[u8] {
         self.front.as_slice()

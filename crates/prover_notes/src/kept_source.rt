@@ -6,7 +6,7 @@ use crate::texts::Texts;
 use prover_io::{BeginFault, Failed, Source};
 use std::alloc::Global;
 
-/// Another source, and the bytes that were read of it. Where memory is wanting for these, they are lost, and the source goes on.
+/// Another source, and the bytes that were read of it. Where memory runs out for these, they are lost, and the source goes on.
 /// Of a name with more than 1 MiB none are kept.
 #[derive(Drop)]
 pub struct KeptSource<S> {

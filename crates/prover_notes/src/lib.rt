@@ -13,10 +13,10 @@ mod second;
 mod texts;
 
 pub use files::{NamedFiles, SystemFiles};
-pub use job_messages::{Message, Unread, Vacuity};
+pub use job_messages::{Message, NamedAssertion, Unread, Vacuity, is_unused};
 pub use kept_sink::KeptSink;
 pub use kept_source::KeptSource;
 pub use memory::greatest_memory;
 pub use put::{messages, named_file, put_messages, put_output_failed, put_stats, put_unread_words};
 pub use reporter::{Lines, Reporter};
-pub use second::{Nowhere, Second, second_question};
+pub use second::{Nowhere, Second, SecondAnswers, named_in_script, run_without, second_question};

@@ -17,7 +17,7 @@ pub fn greatest_memory<R: Files>(alloc: Global, rt: &R) -> Option<u64> {
     number_behind(text.as_slice())
 }
 
-/// The first number behind the line's name.
+/// The first number after the line's name.
 fn number_behind(text: &[u8]) -> Option<u64> {
     let mut number = None;
     for i in 0..text.len() {

@@ -5,24 +5,23 @@ ghost use Rattle.std.specs.Prelude.{◌≤◌};
 use crate::files::NamedFiles;
 use crate::kept_sink::KeptSink;
 use crate::kept_source::KeptSource;
+use crate::second::SecondAnswers;
 use base_answers::put_all;
 use base_answers::status::{PROOF_REFUSED, SOURCE_FAILED};
 use job_counts::{Counts, Statistics};
-use job_messages::{
-    Message, Run, Unread, Vacuity, failed_output, lines, notes, stats, unread_words,
-};
+use job_messages::{Message, Run, Unread, failed_output, lines, notes, stats, unread_words};
 use job_words::{Job, job};
 use prover_io::{Sink, Source};
 use std::alloc::{AllocError, Global};
 use std::string::String;
 
 /// What is to be said of a run with these words that ended with this status, from what was read and what was answered: nothing
-/// where the answer says all, and where memory is wanting. A proof that was not held is read again.
+/// where the answer says all, and where memory runs out. A proof that was not held is read again.
 pub fn messages<S: Source, K: Sink, F: NamedFiles>(
     alloc: Global,
     words: &[String],
     status: u8,
-    vacuity: Vacuity,
+    second: &SecondAnswers,
     counts: &Counts,
     source: &KeptSource<S>,
     sink: &KeptSink<K>,
@@ -50,7 +49,8 @@ pub fn messages<S: Source, K: Sink, F: NamedFiles>(
         budget: named.budget,
         unread: fault(status, proof.unwrap_or(named.file), files),
         counts: Some(counts),
-        vacuity,
+        vacuity: second.vacuity,
+        unused: second.unused.as_slice(),
     };
     match notes(alloc, &run) {
         Ok(messages) => messages,
@@ -58,7 +58,7 @@ pub fn messages<S: Source, K: Sink, F: NamedFiles>(
     }
 }
 
-/// Puts the lines of messages. Where memory is wanting or the sink fails it puts less.
+/// Puts the lines of messages. Where memory runs out or the sink fails it puts less.
 pub fn put_messages<N: Sink>(alloc: Global, messages: &[Message], noted: &mut N)
     ensures { N.faults noted.old ≤ N.faults noted.new }
 {

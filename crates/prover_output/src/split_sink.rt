@@ -1,4 +1,4 @@
-// A sink that parts an answer from the proof behind it.
+// A sink that parts an answer from the proof after it.
 
 ghost use Rattle.std.specs.Prelude.{◌≡◌, None};
 
@@ -7,7 +7,7 @@ use prover_io::{Failed, Sink};
 /// The line before a proof.
 const LINE: &[u8] = b"proof:\n";
 
-/// A sink for an answer, and perhaps one for what comes behind its line `proof:`; then that line goes to neither.
+/// A sink for an answer, and perhaps one for what comes after its line `proof:`; then that line goes to neither.
 #[derive(Drop)]
 pub struct SplitSink<K, P> {
     answer: K,

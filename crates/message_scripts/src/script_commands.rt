@@ -1,0 +1,124 @@
+// Why a command of a script is refused: that it is not read, or not in its form.
+
+use crate::script_sentences as say;
+use crate::scripts::{READ, has_operator, is_read_command};
+use message_lines::{Hole, Phrase, Script, Slip, find_near, in_front, is_among};
+
+/// The slip at the command that token k opens.
+pub(crate) fn command_slip<'a>(script: Script<'a>, k: usize) -> Slip<'a> {
+    let name = script.text_behind(k, 1);
+    if let Some(slip) = hyphen_slip(name, script.text_behind(k, 2)) {
+        return slip;
+    }
+    if let Some(sentence) = unread_sentence(name) {
+        return Slip::new(sentence).with_name(Hole::Token(name));
+    }
+    match name {
+        b"define-const" => {
+            Slip::new(say::CONSTANT).with_name(Hole::Phrase(Phrase::Definition(script, k)))
+        }
+        b"declare-const" | b"declare-var" => Slip::new(say::FORM_DECLARE_CONST),
+        b"declare-fun" => Slip::new(say::FORM_DECLARE_FUN),
+        b"define-fun" => Slip::new(say::FORM_DEFINE_FUN),
+        b"check-sat" => Slip::new(say::FORM_CHECK_SAT),
+        b"exit" => Slip::new(say::FORM_EXIT),
+        b"assert" => assert_slip(script, k),
+        _ => other_slip(name),
+    }
+}
+
+/// The slip at two words that a hyphen makes a command.
+fn hyphen_slip<'a>(name: &'a [u8], next: &'a [u8]) -> Option<Slip<'a>> {
+    match (name, next) {
+        (b"check", b"sat") => Some(Slip::new(say::HYPHEN_CHECK)),
+        (b"set", b"logic") => Some(Slip::named(say::HYPHEN, b"").with_other(Hole::Text(
+            b"set-logic",
+        ))),
+        (b"set", b"info") => Some(Slip::new(say::HYPHEN).with_other(Hole::Text(b"set-info"))),
+        (b"set", b"option") => Some(Slip::new(say::HYPHEN).with_other(Hole::Text(b"set-option"))),
+        (b"declare", b"const") => {
+            Some(Slip::new(say::HYPHEN).with_other(Hole::Text(b"declare-const")))
+        }
+        (b"declare", b"fun") => Some(Slip::new(say::HYPHEN).with_other(Hole::Text(b"declare-fun"))),
+        (b"define", b"fun") => Some(Slip::new(say::HYPHEN).with_other(Hole::Text(b"define-fun"))),
+        _ => None,
+    }
+}
+
+/// Commands that change the assertions that stand, and commands that declare sorts.
+const OF_THE_STACK: [&str; 5] = [
+    "push",
+    "pop",
+    "reset",
+    "reset-assertions",
+    "check-sat-assuming",
+];
+
+const OF_SORTS: [&str; 5] = [
+    "declare-sort",
+    "define-sort",
+    "declare-datatype",
+    "declare-datatypes",
+    "declare-sort-parameter",
+];
+
+/// The sentence of a command that is not read.
+fn unread_sentence(name: &[u8]) -> Option<&'static str> {
+    if is_among(name, &OF_THE_STACK) {
+        return Some(say::STACK);
+    }
+    if is_among(name, &["get-model", "get-value", "get-assignment"]) {
+        return Some(say::NO_MODEL);
+    }
+    if name.starts_with(b"get-unsat") {
+        return Some(say::NO_CORE);
+    }
+    if name.starts_with(b"get-") || name == b"echo".as_slice() {
+        return Some(say::LEAVE_OUT);
+    }
+    if is_among(name, &["minimize", "maximize"]) {
+        return Some(say::OPTIMISE);
+    }
+    if is_among(name, &OF_SORTS) {
+        return Some(say::SORTS);
+    }
+    if is_among(name, &["define-fun-rec", "define-funs-rec"]) {
+        return Some(say::RECURSION);
+    }
+    None
+}
+
+fn assert_slip<'a>(script: Script<'a>, k: usize) -> Slip<'a> {
+    if script.count(k) > 2 {
+        if has_operator(script, k, 2) {
+            let phrase = in_front(script, k, 1);
+            return Slip::new(say::ASSERT_INFIX).with_name(Hole::Phrase(phrase));
+        }
+        if has_operator(script, k, 1) {
+            return Slip::new(say::ASSERT_OPEN);
+        }
+    }
+    Slip::new(say::FORM_ASSERT)
+}
+
+/// The slip at any other list outside of all lists.
+fn other_slip<'a>(name: &'a [u8]) -> Slip<'a> {
+    let is_nameless = match name.first() {
+        Some(byte) => matches!(*byte, b'(' | b')') || byte.is_ascii_digit(),
+        None => false,
+    };
+    if is_nameless {
+        return Slip::new(say::NAMELESS);
+    }
+    if let Some(near) = find_near(name, &READ) {
+        return Slip::new(say::COMMAND_NEAR)
+            .with_name(Hole::Token(name))
+            .with_other(Hole::Text(near.as_bytes()));
+    }
+    let sentence = if is_read_command(name) {
+        say::FORM
+    } else {
+        say::COMMAND
+    };
+    Slip::new(sentence).with_name(Hole::Token(name))
+}
