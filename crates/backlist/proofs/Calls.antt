@@ -89,7 +89,7 @@ module _ {T : Type 0} where
     is : (replay cs).present ≡ q.0 ++ (p, q.1) ∷ q.2
     is = ap (λ (g : History T). g.present) w ∙ q.3
 
-    -- the items before and behind that at p are the list without it
+    -- the items before and after that at p are the list without it
     pub unlink_others : (xs : List (Pos × T)) (v : T) (ys : List (Pos × T)) → h.present ≡ xs ++ (p, v) ∷ ys → without p h.present ≡ xs ++ ys
     unlink_others xs v ys d =
         ap (without p) d ∙ (others s None xs (p, v) ys (subst (Ring s None) (ap (λ (g : History T). g.present) w ∙ d) (ring_of cs s t))).1

@@ -192,7 +192,7 @@ impl<T> BackList<T> {
         }
     }
 
-    /// Adds v at the end, at a place where no item is or was, and answers the place. Want of memory, also where the list has
+    /// Adds v at the end, at a place where no item is or was, and answers the place. Running out of memory, also where the list has
     /// as many items as a usize counts, hands v back and changes nothing.
     pub fn push_back(&mut self, v: T) -> Result<Pos, (T, AllocError)>
     where

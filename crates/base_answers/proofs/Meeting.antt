@@ -12,7 +12,7 @@ use Rattle.base_answers.specs.Files.{AnswersSource, too_long, within}
 pub meets_failed : (P : Answer → Type 0) (before after : Option (List ℕ)) → Meets P 6 before after
 meets_failed P before after = record { whole = λ not_six. absurd (not_six refl); part = λ six. absurd (cc) }
 
--- a run that ends for want of memory meets every answer
+-- a run that ends for lack of memory meets every answer
 pub meets_wanting : (P : Answer → Type 0) (before after : Option (List ℕ)) → Meets P 8 before after
 meets_wanting P before after = record { whole = λ a b not_eight. absurd (not_eight refl); part = λ eight. absurd (cc) }
 

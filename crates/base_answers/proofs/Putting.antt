@@ -4,7 +4,7 @@ use Rattle.std.proofs.lemmas.List.{take-append-drop, take_rest}
 use Rattle.prover_io.specs.Outside.{Adds}
 use Rattle.base_answers.specs.Outside.{PutsAll, PutsUpTo}
 
--- a piece that is taken is put behind the front part
+-- a piece that is taken is put after the front part
 puts_piece : (before now after : Option (List ℕ)) (front rest : List ℕ) (n : ℕ) → PutsAll before now front → Adds now after n rest → PutsAll before after (front ++ take n rest)
 puts_piece (Some b) (Some c) after front rest n is more = let same : c ≡ b ++ front = cc in more ∙ ap (λ z. Some (z ++ take n rest)) same ∙ ap (λ z. Some z) (append_assoc b front (take n rest))
 puts_piece (Some b) None after front rest n is more = absurd cc

@@ -2,7 +2,7 @@
 use Rattle.std.specs.Prelude.{◌≡◌, ◌≢◌, ℕ, List, [], ◌++◌, Option, Some, None}
 use Rattle.base_answers.specs.Answer.{Answer}
 
--- all of a text is put behind what was taken before, where that is told
+-- all of a text is put after what was taken before, where that is told
 abbrev pub PutsAll : Option (List ℕ) → Option (List ℕ) → List ℕ → Type 0
 PutsAll (Some before) after text = after ≡ Some (before ++ text)
 PutsAll None after text = after ≡ None
@@ -33,7 +33,7 @@ pub record GivesPart (IsAnswer : Answer → Type 0) (before after : Option (List
   pub put : PutsPart before after answer.text
 
 -- one of these answers meets the outside: it is given whole, but where the source fails (6), the sink fails (7, with a part
--- of the text not put) or memory is wanting (8)
+-- of the text not put) or memory runs out (8)
 pub record Meets (IsAnswer : Answer → Type 0) (ends : ℕ) (before after : Option (List ℕ)) : Type 0 where
   pub whole : ends ≢ 6 → ends ≢ 7 → ends ≢ 8 → IsPutWhole IsAnswer ends before after
   pub part : ends ≡ 7 → GivesPart IsAnswer before after

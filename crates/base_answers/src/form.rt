@@ -1,6 +1,6 @@
 // The forms of a printed proof.
 
-/// In what form a proof is printed behind an answer.
+/// In what form a proof is printed after an answer.
 #[derive(Clone, Copy, Debug, PartialEq, Eq)]
 pub enum ProofForm {
     /// As a text of the first format, with each log where it stands.

@@ -1,4 +1,4 @@
-// Answers: an exit status and a text, and the forms of a proof behind it. How their lines are made, and how they are put to a sink.
+// Answers: an exit status and a text, and the forms of a proof after it. How their lines are made, and how they are put to a sink.
 #![tactic(auto)]
 
 mod form;

@@ -49,7 +49,7 @@ pub fn unknown(alloc: Global, cause: &[u8]) -> Result<Output, Memory>
     labelled(alloc, UNKNOWN, b"UNKNOWN: ", cause)
 }
 
-// An answer of one line, a label and what stands behind it.
+// An answer of one line, a label and what stands after it.
 fn labelled(alloc: Global, status: u8, label: &[u8], text: &[u8]) -> Result<Output, Memory>
     ensures { IfOk result (λ output. answer_of output ≡ says_line status (label.now ++ text.now)) }
 {

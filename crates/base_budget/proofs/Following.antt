@@ -14,7 +14,7 @@ pub after-append : {S : Type 0} (add : S → Mark → S) (s : S) (ms ns : List M
 after-append add s [] ns = refl
 after-append add s (m ∷ ms) ns = after-append add (add s m) ms ns
 
--- a fact for each end but want of memory
+-- a fact for each end but running out of memory
 unless_map : {A P Q : Type 0} (r : Result A StepFault) → (P → Q) → UnlessMemory r P → UnlessMemory r Q
 unless_map (Ok v) f h = f h
 unless_map (Err Steps) f h = f h
@@ -54,7 +54,7 @@ pub follow_err : {A B S : Type 0} {add : S → Mark → S} (m : Traced A) (g : A
 follow_err m g (Ok v) h first = absurd h
 follow_err {add = add} m g {a} {b} {s} {t} (Err x) h first = subst (λ y. Followed add (next m g) a s (Err y) b t) (sym h) (follow_fault m g first)
 
--- no call, want of memory, and calls that leave no notes, with a purse and without one
+-- no call, running out of memory, and calls that leave no notes, with a purse and without one
 pub follow_just : {A S : Type 0} {add : S → Mark → S} (x y : A) {a : Funds} {s : S} → y ≡ x → Followed add (just x) a s (Ok y) a s
 follow_just x y same = record { notes = []; charged = then_just x y same; kept = refl }
 

@@ -10,7 +10,7 @@ abbrev pub after_notes : {S : Type 0} → (S → Mark → S) → S → List Mark
 after_notes add s [] = s
 after_notes add s (m ∷ ms) = after_notes add (add s m) ms
 
--- p, unless memory was wanting
+-- p, unless memory runs out
 abbrev pub UnlessMemory : {A : Type 0} → Result A StepFault → Type 0 → Type 0
 UnlessMemory (Ok v) p = p
 UnlessMemory (Err Steps) p = p

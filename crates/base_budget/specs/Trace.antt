@@ -96,7 +96,7 @@ combining m s n t = step (raw (raw_numbers m s n t)) (combination m s n t)
 abbrev pub note : Mark → Traced (Unit {0})
 note m = step (mark m) tt
 
--- f of each element in turn, the results one behind the other, after those in out
+-- f of each element in turn, the results one after the other, after those in out
 abbrev pub each : {C D : Type 0} → (C → Traced (List D)) → List C → List D → Traced (List D)
 each f [] out = just out
 each f (c ∷ cs) out = next (f c) (λ ds. each f cs (out ++ ds))

@@ -26,7 +26,7 @@ pub record Leaves (es : List Event) (old new : At) (p : Place) : Type 0 where
   pub among : Contains numbers p
   pub leaves : stays p ≡ false
 
--- the run stopped at new before its end, as want of memory stops it
+-- the run stopped at new before its end, as running out of memory stops it
 pub record Reaches (es : List Event) (old new : At) : Type 0 where
   pub before : List Event
   pub after : List Event

@@ -20,7 +20,7 @@ pub fn cut_law()
 
 /// What a call that keeps a summary of its notes did: with an answer, the whole work, and the summary has all its notes;
 /// with a refused charge or a raw number that left the range, the work before it, and the summary has the notes of that
-/// part. In each case, want of memory too, the budget stays and what is spent never falls.
+/// part. In each case, running out of memory too, the budget stays and what is spent never falls.
 pub fn followed_law<A, S>()
     ensures answered { (add : S → Mark → S) (work : Traced A) (old new : Funds) (s t : S) (v : A) → old.spent ≤ old.budget
         → Followed add work old s (Ok v) new t

@@ -32,7 +32,7 @@ pub struct ElimLog {
 }
 
 impl ElimLog {
-    /// An equal log, or want of memory.
+    /// An equal log, or running out of memory.
     pub fn copy(&self, alloc: Global) -> Result<ElimLog, Memory>
         ensures { IfOk result (λ log. log ≡ self.now) }
     {

@@ -59,7 +59,7 @@ entry-append_right (u ∷ e) f x =
     let at : length (u ∷ e) + x ≡ suc (length e + x) = omega arith in
     rw at (entry-append_right e f x)
 
--- a change behind a list e is a change of what stands behind it
+-- a change after a list e is a change of what stands after it
 pub put-append_right : (e f : List ℤ) (x : ℕ) (v : ℤ) → put (e ++ f) (length e + x) v ≡ e ++ put f x v
 put-append_right [] f x v = ap (λ (y : ℕ). put f y v) (omega arith)
 put-append_right (u ∷ e) f x v =

@@ -3,7 +3,7 @@
 ghost use Rattle.base_integers.specs.Entry.{entry, put};
 ghost use Rattle.std.specs.Prelude.{ℕ, ℤ, pos, List, [], ◌∷◌, ◌++◌, length, ◌≡◌, ◌≢◌, ◌+◌, ◌<◌, ◌≤◌};
 
-/// The entry past the end is 0, and the entries of two lists one behind the other are theirs.
+/// The entry past the end is 0, and the entries of two lists one after the other are theirs.
 pub fn entry_law()
     ensures past { (e : List ℤ) (x : ℕ) → length e ≤ x → entry e x ≡ pos 0 }
     ensures front { (e : List ℤ) (f : List ℤ) (x : ℕ) → x < length e → entry (e ++ f) x ≡ entry e x }
@@ -21,7 +21,7 @@ pub fn put_law()
     ensures length_kept { (e : List ℤ) (x : ℕ) (v : ℤ) → x < length e → length (put e x v) ≡ length e }
 {}
 
-/// A change at the length appends, and a change of two lists one behind the other changes one of them.
+/// A change at the length appends, and a change of two lists one after the other changes one of them.
 pub fn append_law()
     ensures end { (e : List ℤ) (v : ℤ) → put e (length e) v ≡ e ++ v ∷ [] }
     ensures front { (e : List ℤ) (f : List ℤ) (x : ℕ) (v : ℤ) → x < length e → put (e ++ f) x v ≡ put e x v ++ f }

@@ -1,7 +1,7 @@
 -- The value of decimal digits.
 use Rattle.std.specs.Prelude.{ℕ, ◌+◌, ◌-◌, ◌*◌, List, [], ◌∷◌}
 
--- n with these decimal digits behind it
+-- n with these decimal digits after it
 abbrev pub with_digits : ℕ → List ℕ → ℕ
 with_digits n [] = n
 with_digits n (d ∷ ds) = with_digits (10 * n + (d - 48)) ds

@@ -17,7 +17,7 @@ pub fn numeral(digits: &[u8]) -> Option<i128>
     Some(value as i128)
 }
 
-/// The value with one more digit behind it; none where it is above 2^127 − 1.
+/// The value with one more digit after it; none where it is above 2^127 − 1.
 fn with_digit(value: u128, digit: u8) -> Option<u128>
     ensures exact { MatchOption result (2 ^ 127 ≤ 10 * value + (digit - 48)) (λ more. (more ≡ 10 * value + (digit - 48)) × (more < 2 ^ 127)) }
 {

@@ -23,12 +23,12 @@ place text texts = position_or_len (is_text text) texts
 abbrev pub misses : List (List ℕ) → List (List ℕ) → Bool
 misses texts given = list_any (λ t. not (is_among t given)) texts
 
--- these texts, with those of a list that are among the others; so many at most
+-- these texts, with those of a list that are among the others; this many at most
 abbrev pub picked : List (List ℕ) → ℕ → List (List ℕ) → List (List ℕ) → List (List ℕ)
 picked others most found [] = found
 picked others most found (t ∷ ts) = picked others most (cond (nat_lt (length found) most && is_among t others) (with_text t found) found) ts
 
--- the texts, each behind this label
+-- the texts, each after this label
 abbrev pub each_behind : List ℕ → List (List ℕ) → List ℕ
 each_behind label [] = []
 each_behind label (t ∷ ts) = label ++ (t ++ each_behind label ts)

@@ -105,7 +105,7 @@ impl Texts {
         Ok(out)
     }
 
-    /// The texts that are among the others too, in their order; so many at most.
+    /// The texts that are among the others too, in their order; this many at most.
     pub fn common(&self, alloc: Global, others: &Texts, most: usize) -> Result<Texts, Memory>
         ensures { IfOk result (λ ts. ts ≡ picked others.now most [] self.now) }
     {
@@ -118,7 +118,7 @@ impl Texts {
         Ok(found)
     }
 
-    /// Puts the texts, each behind this label, behind a text.
+    /// Puts the texts, each after this label, after a text.
     pub fn put_each(&self, label: &[u8], out: &mut Vec<u8>) -> Result<(), Memory>
         ensures { OnOk result (out.new.items ≡ out.old.items ++ each_behind label.now self.now) }
     {

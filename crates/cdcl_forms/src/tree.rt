@@ -51,7 +51,7 @@ pub struct Tree {
 const DEEPEST: u32 = 5000;
 
 impl Tree {
-    /// The formulas of a root over so many names.
+    /// The formulas of a root over this many names.
     pub fn new(alloc: Global, terms: &mut Terms, root: &Core, names: u32) -> Result<Tree, Fault> {
         let mut tree = Tree {
             alloc,
@@ -101,7 +101,7 @@ impl Tree {
         )
     }
 
-    /// The number of a formula over so many names, in which there is room for so many levels.
+    /// The number of a formula over this many names, in which there is room for this many levels.
     fn take(
         &mut self,
         terms: &mut Terms,
@@ -207,7 +207,7 @@ impl Tree {
         self.add(reading.unwrap_or(Node::Forall(body)), info)
     }
 
-    /// What the body of a for-all over so many names reads, if it does.
+    /// What the body of a for-all over this many names reads, if it does.
     fn reading(&self, terms: &Terms, body: u32, depth: u32) -> Result<Option<Node>, Fault> {
         let Node::Or(span) = self.node(body)? else {
             return Ok(None);

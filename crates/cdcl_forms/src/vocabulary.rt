@@ -95,7 +95,7 @@ fn key(d: Definition) -> [u64; 4] {
 }
 
 impl Vocabulary {
-    /// The root's formulas and terms, over so many names, and the variable that is always true.
+    /// The root's formulas and terms, over this many names, and the variable that is always true.
     pub fn new(alloc: Global, root: &Core, names: u32) -> Result<Vocabulary, Fault> {
         let mut terms = Terms::new(alloc)?;
         let tree = Tree::new(alloc, &mut terms, root, names)?;

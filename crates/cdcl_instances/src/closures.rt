@@ -106,7 +106,7 @@ impl Closure {
     }
 }
 
-/// The body behind the for-somes of a node, and how many these are.
+/// The body after the for-somes of a node, and how many these are.
 fn body_of(words: &Vocabulary, node: u32) -> Result<(u32, u32), Fault> {
     let mut body = node;
     let mut names: u32 = 0;

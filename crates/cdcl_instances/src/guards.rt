@@ -17,7 +17,7 @@ struct Guards {
     patterns: Vec<Pattern>,
 }
 
-/// The guards of a formula over names that are the terms of the list, and so many quantified names behind them; None where some
+/// The guards of a formula over names that are the terms of the list, and this many quantified names after them; None where some
 /// quantified name stands in no guard.
 pub(crate) fn guard(
     alloc: Global,
@@ -39,7 +39,7 @@ pub(crate) fn guard(
 }
 
 impl Guards {
-    /// Takes the predicates among the members of conjunctions, also behind the values of applications.
+    /// Takes the predicates among the members of conjunctions, also after the values of applications.
     fn collect(&mut self, words: &mut Vocabulary, body: u32, fuel: &mut Fuel) -> Result<(), Fault> {
         let mut open: Vec<u32> = Vec::new(self.alloc);
         open.push(body)?;

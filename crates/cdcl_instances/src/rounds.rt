@@ -100,7 +100,7 @@ impl Quantifiers {
         self.model
     }
 
-    /// What to do where all clauses hold in the present model, whose values are whole. Instances are put behind `out`.
+    /// What to do where all clauses hold in the present model, whose values are whole. Instances are put after `out`.
     pub fn round<D: Decider>(
         &mut self,
         words: &mut Vocabulary,

@@ -12,7 +12,7 @@ struct Binding {
     bound: Vec<Option<Term>>,
 }
 
-/// The terms of so many quantified names by the items that were chosen for the steps of a trigger. None where one of them would
+/// The terms of this many quantified names by the items that were chosen for the steps of a trigger. None where one of them would
 /// be a fraction.
 pub fn terms_of(
     alloc: Global,

@@ -33,7 +33,7 @@ pub struct Collector {
 const DEEPEST: u32 = 5000;
 
 impl Collector {
-    /// For a formula over names that are the terms of the list, and so many quantified names behind them.
+    /// For a formula over names that are the terms of the list, and this many quantified names after them.
     pub fn new(alloc: Global, terms: &Terms, list: List, names: u32) -> Result<Collector, Fault> {
         let mut bounds = Vec::new(alloc);
         for _ in 0..names {

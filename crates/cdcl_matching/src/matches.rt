@@ -25,7 +25,7 @@ pub struct Matches {
 }
 
 impl Matches {
-    /// No matches yet for so many quantified names; no more than `most` are taken.
+    /// No matches yet for this many quantified names; no more than `most` are taken.
     pub fn new(alloc: Global, names: u32, most: usize) -> Matches {
         Matches {
             values: RowSet::new(alloc),

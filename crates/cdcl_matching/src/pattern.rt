@@ -25,7 +25,7 @@ pub struct Shape {
     pub multiples: Vec<Multiple>,
 }
 
-/// The arguments of a symbol, and behind them the value of a function. None stands for any term.
+/// The arguments of a symbol, and after them the value of a function. None stands for any term.
 #[derive(Drop)]
 pub struct Pattern {
     pub symbol: Symbol,

@@ -22,7 +22,7 @@ pub struct Triggers {
 }
 
 impl Triggers {
-    /// The triggers of what was collected for so many quantified names.
+    /// The triggers of what was collected for this many quantified names.
     pub fn new(alloc: Global, from: &Collector, names: u32) -> Result<Triggers, Fault> {
         let mut out = Triggers {
             triggers: Vec::new(alloc),
@@ -186,7 +186,7 @@ fn needed(found: &Found) -> Names {
     }
 }
 
-/// Pattern number i, and behind it those that have a quantified name that none before has; and which names they have.
+/// Pattern number i, and after it those that have a quantified name that none before has; and which names they have.
 fn gathered(alloc: Global, from: &Collector, i: usize) -> Result<(Vec<usize>, Names), Fault> {
     let mut chosen = Vec::new(alloc);
     chosen.push(i)?;

@@ -17,7 +17,7 @@ pub enum Solution {
 
 /// A decision procedure.
 pub trait Decider {
-    /// Values of so many names at which the pure formula is true, with about so many steps of its own.
+    /// Values of this many names at which the pure formula is true, with about this many steps of its own.
     fn solve(
         &mut self,
         f: &Core,

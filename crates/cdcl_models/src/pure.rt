@@ -39,7 +39,7 @@ pub struct Purifier {
 }
 
 impl Purifier {
-    /// For a formula whose names have these values, and behind them are so many free names.
+    /// For a formula whose names have these values, and after them are this many free names.
     pub fn new(
         alloc: Global,
         values: &[i128],

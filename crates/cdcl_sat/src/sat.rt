@@ -302,7 +302,7 @@ impl Sat {
     }
 
     /// A literal that follows since an earlier level is true from now on. It is made so again after each step back that is
-    /// not behind that level.
+    /// not after that level.
     fn follow_late(&mut self, clause: u32, l: Lit, level: u32) -> Result<(), Fault> {
         if self.trail.now() > level as usize {
             self.late.push(Late { clause, level })?;

@@ -24,7 +24,7 @@ pub trait Advisor {
         fuel: &mut Fuel,
     ) -> Result<(), Fault>;
 
-    /// What to do where all clauses hold in the present model, whose values are whole. New instances are put behind `out`.
+    /// What to do where all clauses hold in the present model, whose values are whole. New instances are put after `out`.
     fn advise(
         &mut self,
         words: &mut Vocabulary,

@@ -35,7 +35,7 @@ pub(crate) struct Instances<'a> {
 }
 
 impl<'a> Instances<'a> {
-    /// An advisor for a search of this budget, of a root whose first for-alls are so many universal constants.
+    /// An advisor for a search of this budget, of a root whose first for-alls are this many universal constants.
     pub(crate) fn new(
         alloc: Global,
         root: &'a Core,

@@ -1,4 +1,4 @@
-// What an end of the search without an answer is for its caller: nothing found, but for want of memory.
+// What an end of the search without an answer is for its caller: nothing found, but for lack of memory.
 
 use crate::solving::Found;
 use cdcl_fuel::Fault;

@@ -145,7 +145,7 @@ impl State {
         self.enter(once.as_slice(), derived, true)
     }
 
-    /// Puts a clause behind those to be taken in.
+    /// Puts a clause after those to be taken in.
     fn enter(&mut self, lits: &[Lit], id: u32, is_input: bool) -> Result<(), Fault> {
         let lits = Vec::from_slice(self.alloc, lits)?;
         self.queue.push_back(Pending { lits, id, is_input })?;

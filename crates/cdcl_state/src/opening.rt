@@ -110,7 +110,7 @@ impl State {
         self.apply(function, arguments)
     }
 
-    /// The list with the value of an application behind it.
+    /// The list with the value of an application after it.
     fn with_value(&mut self, list: List, a: u32) -> Result<List, Fault> {
         let c = self.knowledge.words.application(a)?.constant;
         let name = self.knowledge.words.terms.name(c)?;

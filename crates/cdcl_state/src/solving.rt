@@ -91,7 +91,7 @@ impl State {
         Ok(())
     }
 
-    /// Puts multiples of equations behind the present conflict.
+    /// Puts multiples of equations after the present conflict.
     fn add_parts(&mut self, held: &[Held], parts: &[Part], sign: i128) -> Result<(), Fault> {
         for p in parts {
             let lit = at(held, p.given as usize)?.lit;

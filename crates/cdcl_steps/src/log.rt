@@ -47,7 +47,7 @@ impl Log {
         self.steps.len()
     }
 
-    /// Adds a step that makes so many clauses. The number of the first.
+    /// Adds a step that makes this many clauses. The number of the first.
     fn add(&mut self, step: Step, clauses: usize) -> Result<u32, Fault> {
         let place = small(self.steps.len())?;
         let first = small(self.step_of.len())?;
@@ -191,7 +191,7 @@ impl Log {
         Ok((start, end))
     }
 
-    /// A list of so many numbers that say nothing.
+    /// A list of this many numbers that say nothing.
     pub(crate) fn unknown(&self, n: usize) -> Result<Vec<u32>, Fault> {
         let mut out: Vec<u32> = Vec::with_capacity(self.alloc, n)?;
         for _ in 0..n {

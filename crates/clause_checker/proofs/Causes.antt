@@ -26,7 +26,7 @@ refused_has n Memory h = tt
 pub cut_has : (n : ℕ) (e : Fault) → IsTermCut e → HasCause n e
 cut_has n e h = refused_has n e (cut_refused e h)
 
--- want of memory
+-- running out of memory
 pub memory_cut : (e : Fault) → e ≡ Memory → IsTermCut e
 memory_cut e is = subst IsTermCut (sym is) tt
 

@@ -30,7 +30,7 @@ pub not_paid : {A : Type 0} (p n : ℕ) (old new : Funds) (e : Fault) (r : Resul
 not_paid {A} p n old new e (Ok x) is steps passes h = absurd h
 not_paid {A} p n old new e (Err d) is steps passes h = subst (λ x. PaysPrice {A = A} p old new (Err x)) (sym (h ∙ steps)) (subst (λ k. old.budget < old.spent + k) is passes)
 
--- memory was wanting before
+-- out of memory before
 pub not_priced : {A : Type 0} (p : ℕ) (old new : Funds) (r : Result A Fault) → IsErrAnd r (λ x. x ≡ Memory) → PaysPrice p old new r
 not_priced {A} p old new (Ok x) h = absurd h
 not_priced {A} p old new (Err d) h = subst (λ x. PaysPrice {A = A} p old new (Err x)) (sym h) tt

@@ -29,7 +29,7 @@ both m n p q h k = omega (arith, h, k)
 pub one_more : (n p : ℕ) → n ≡ capped p → capped (suc n) ≡ capped (suc p)
 one_more n p h = omega (arith, h)
 
--- a new name behind the widths
+-- a new name after the widths
 pub with_name : (ws us : List ℕ) (f : Form) (m n r : ℕ) → m ≡ capped (widths_price ws) → us ≡ ws ++ 1 ∷ [] → n ≡ capped (literal_price us f) → r ≡ capped (m + n) → r ≡ capped (widths_price ws + literal_price (ws ++ 1 ∷ []) f)
 with_name ws us f m n r h is k l = l ∙ both m n (widths_price ws) (literal_price us f) h k ∙ ap (λ v. capped (widths_price ws + literal_price v f)) is
 

@@ -7,7 +7,7 @@ use Rattle.linear_term.specs.declared.range.TermFault.TheVariants as term_fault
 use Rattle.clause_checker.specs.declared.fault.Fault.{Fault}
 use Rattle.clause_checker.specs.declared.fault.Fault.TheVariants.{Refused, Steps, Overflow, Room, Memory}
 
--- a cut of a call that refuses nothing: this number leaves the range, or memory is wanting
+-- a cut of a call that refuses nothing: this number leaves the range, or memory runs out
 abbrev pub IsTermCut : Fault → Type 0
 IsTermCut Refused = ⊥
 IsTermCut Steps = ⊥

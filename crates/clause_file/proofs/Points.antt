@@ -37,7 +37,7 @@ tokens_of text h ls rest b =
     ap tokens (b.parts ∙ ap (λ z. z ++ rest) (spelled_append (head_text h) (lines_text ls)) ∙ append_assoc (spelled (head_text h)) (spelled (lines_text ls)) rest)
     ∙ head_back h b.is_text.0 (spelled (lines_text ls) ++ rest) ∙ ap (λ z. head_text h ++ z) (lines_back ls rest b.is_text.1)
 
--- a line behind the others
+-- a line after the others
 lines_more : (ls : List Line) (l : Line) → lines_text (ls ++ l ∷ []) ≡ lines_text ls ++ line_text l
 lines_more [] l = append-nil (line_text l)
 lines_more (k ∷ ls) l = ap (λ z. line_text k ++ z) (lines_more ls l) ∙ sym (append_assoc (line_text k) (lines_text ls) (line_text l))
@@ -66,7 +66,7 @@ same_head text h k ls ms x y a b =
 pub same_line : (l m : Line) (x y : List Token) → IsLine l → IsLine m → line_text l ++ x ≡ line_text m ++ y → l ≡ m
 same_line l m x y i j e = (same_value IsLine line_text line_of line_reads l m x y i j e).0
 
--- the tokens behind first lines and behind a line are those of the bytes that spell them
+-- the tokens after first lines and after a line are those of the bytes that spell them
 pub head_alone : (text : List ℕ) (h : Head) (ts : List Token) → IsHead h → tokens text ≡ head_text h ++ ts → BeginsWith text h [] (spelled ts)
 head_alone text h ts i e = record {
   is_text = (i, tt);

@@ -22,7 +22,7 @@ first_words = codes "princess-proof 3"
 abbrev pub is_clause_text : List ℕ → Bool
 is_clause_text file = bytes_eq (take (length first_words) (body file)) first_words
 
--- what a fault says of the file: it is refused there, or wrong there, or the check was cut there; want of memory says nothing
+-- what a fault says of the file: it is refused there, or wrong there, or the check was cut there; running out of memory says nothing
 abbrev pub IsFault : Form → ℕ → List ℕ → ClauseFault → Type 0
 IsFault g n file (f.Syntax at) = IsRefusedFirst g n file at
 IsFault g n file (f.Line number) = IsWrongAt g n file number
@@ -30,7 +30,7 @@ IsFault g n file (f.Range number) = IsRangeAt g n file number
 IsFault g n file (f.Cost number) = IsCostAt g n file number
 IsFault g n file f.Memory = Unit {0}
 
--- what a check of the lines behind these first lines answers: the file holds a proof at their values, or it has the fault
+-- what a check of the lines after these first lines answers: the file holds a proof at their values, or it has the fault
 abbrev pub IsCheckResult : Form → ℕ → List ℕ → Head → Result (Unit {0}) ClauseFault → Type 0
 IsCheckResult g n file h (Ok u) = HoldsClauseProof g n file h.values
 IsCheckResult g n file h (Err fault) = IsFault g n file fault

@@ -23,7 +23,7 @@ run_price s (l ∷ ls) = price s l + priced (after s l) (λ t. run_price t ls)
 abbrev pub begin_price : Form → ℕ → Head → ℕ
 begin_price f n h = preparation_price f h.prepared + start_price (prepared_root n f h.prepared) h.values
 
--- these, and the lines behind the first ones
+-- these, and the lines after the first ones
 abbrev pub check_price : Form → ℕ → Head → List Line → ℕ
 check_price f n h ls = begin_price f n h + priced (begun f n h) (λ s. run_price s ls)
 
@@ -32,7 +32,7 @@ abbrev pub HasPaid : Funds → Head → ℕ → Type 0
 HasPaid funds h paid = funds ≡ record { budget = h.charges.count; spent = paid }
 
 -- The line with this number is the first that the charges of the proof do not pay for: line 3, where they do not pay for the
--- preparation; line 5, the root's; or a line behind these. All before it is read, made and paid.
+-- preparation; line 5, the root's; or a line after these. All before it is read, made and paid.
 pub data IsCostAt (f : Form) (n : ℕ) (file : List ℕ) (number : ℕ) : Type 0 where
   preparation : (h : Head) (rest : List ℕ) → BeginsWith (body file) h [] rest → h.charges.count < preparation_price f h.prepared → number ≡ 3 → IsCostAt f n file number
   root : (h : Head) (rest : List ℕ) → BeginsWith (body file) h [] rest → length h.values ≡ n → h.charges.count < begin_price f n h → number ≡ 5 → IsCostAt f n file number

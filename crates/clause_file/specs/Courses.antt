@@ -11,7 +11,7 @@ use Rattle.clause_text.specs.Files.{IsProofText, proof_text}
 use Rattle.clause_words.specs.Tokens.{spelled}
 use Rattle.clause_file.specs.Roots.{prepared_root}
 
--- the bytes begin with the text of these first lines and lines, and the rest stands behind them
+-- the bytes begin with the text of these first lines and lines, and the rest stands after them
 pub record BeginsWith (text : List ℕ) (h : Head) (ls : List Line) (rest : List ℕ) : Type 0 where
   pub is_text : IsProofText (h, ls)
   pub parts : text ≡ spelled (proof_text (h, ls)) ++ rest

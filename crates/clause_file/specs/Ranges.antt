@@ -10,7 +10,7 @@ use Rattle.clause_words.specs.Tokens.{spelled}
 use Rattle.clause_file.specs.Courses.{BeginsWith, Reaches}
 use Rattle.clause_file.specs.Verdicts.{first_line}
 
--- A number can leave the range at the line with this number: line 5, the root's, or a line behind it. All before it is read and made.
+-- A number can leave the range at the line with this number: line 5, the root's, or a line after it. All before it is read and made.
 pub data IsRangeAt (f : Form) (n : ℕ) (file : List ℕ) (number : ℕ) : Type 0 where
   root : (h : Head) (rest : List ℕ) → BeginsWith (body file) h [] rest → length h.values ≡ n → number ≡ 5 → IsRangeAt f n file number
   line : (h : Head) (ls : List Line) (l : Line) (rest : List ℕ) (s : State) → Reaches f n file h ls (spelled (line_text l) ++ rest) s → IsLine l → number ≡ first_line + length ls → IsRangeAt f n file number

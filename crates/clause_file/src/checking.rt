@@ -24,7 +24,7 @@ use proof_file::body;
 use sqlite_items::Items;
 use std::alloc::Global;
 
-/// Checks the lines behind the first lines, for a root that is prepared as these say.
+/// Checks the lines after the first lines, for a root that is prepared as these say.
 fn check_lines(
     alloc: Global,
     purse: &mut Purse,
@@ -68,7 +68,7 @@ fn prepaid(root: &Core, head: &Head) -> Result<Purse, Spent>
     Ok(purse)
 }
 
-/// Prepares the root as the first lines say, and checks the lines behind them.
+/// Prepares the root as the first lines say, and checks the lines after them.
 fn check_prepared(
     alloc: Global,
     purse: &mut Purse,

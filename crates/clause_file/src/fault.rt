@@ -8,7 +8,7 @@ use linear_term::Memory;
 use proof_tokens::Refusal;
 
 /// Why the clause proof in a file is not accepted. A line is one of the proof's text, counted from 1: `princess-proof 3` is
-/// line 1, and the first line behind `root` is line 6.
+/// line 1, and the first line after `root` is line 6.
 #[derive(Clone, Copy)]
 pub enum ClauseFault {
     /// The token that begins there cannot stand there; at the file's end, a token is missing. The place is counted in bytes from

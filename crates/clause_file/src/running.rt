@@ -17,7 +17,7 @@ use clause_marks::Marks;
 use clause_text::read_line;
 use std::alloc::Global;
 
-/// Reads the next line, which has this number, and has the state follow it. Returns the text behind the line. After a fault the
+/// Reads the next line, which has this number, and has the state follow it. Returns the text after the line. After a fault the
 /// state is not to be used again.
 fn run_line<'a, 'b>(
     alloc: Global,

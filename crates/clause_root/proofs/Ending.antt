@@ -10,7 +10,7 @@ use Rattle.elim_laws.specs.Whole.{eliminating}
 use Rattle.clause_root_laws.specs.Clausal.{dnf_form}
 use Rattle.clause_root_laws.specs.Prepared.{share, by_end, attempted}
 
--- the purse of an elimination, where so many steps are left
+-- the purse of an elimination, where this many steps are left
 abbrev pub fresh : ℕ → Funds
 fresh left = record { budget = share left; spent = 0 }
 

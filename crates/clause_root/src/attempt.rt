@@ -13,7 +13,7 @@ use linear_term::Memory;
 use quant_elim::eliminate;
 use std::alloc::Global;
 
-/// The budget of one elimination, where so many steps are left.
+/// The budget of one elimination, where this many steps are left.
 fn share(left: u64) -> u64
     ensures { result ≡ share left }
 {

@@ -15,7 +15,7 @@ use linear_term::Memory;
 use sqlite_items::Items;
 use std::alloc::Global;
 
-/// At most so many applications get a name before one quantified formula.
+/// At most this many applications get a name before one quantified formula.
 const MOST_NAMES: u32 = 64;
 
 /// The formula f without its quantifiers, where it is pure and its elimination ends within its share of the steps; else f.
@@ -127,7 +127,7 @@ fn prepared_all(
     Ok(out)
 }
 
-/// The root over `count` names without the quantifiers of its pure parts, as far as so many steps go: true exactly where the
+/// The root over `count` names without the quantifiers of its pure parts, as far as this many steps go: true exactly where the
 /// root is. The same root and steps give the same formula.
 pub fn prepare(alloc: Global, root: &Core, count: u32, steps: u64) -> Result<Core, Memory>
     requires room { count + depth (form root.now) + 64 ≤ 2 ^ 32 }

@@ -8,7 +8,7 @@ use Rattle.elim_laws.specs.Whole.{eliminating}
 use Rattle.form_naming.specs.Naming.{application, is_pure_but, reading, renamed}
 use Rattle.clause_root_laws.specs.Clausal.{dnf_form}
 
--- the budget of an elimination, where so many steps are left
+-- the budget of an elimination, where this many steps are left
 abbrev pub share : ℕ → ℕ
 share left = min (left / 8) (2 ^ 32 - 1)
 
@@ -40,7 +40,7 @@ abbrev pub unquantified : ℕ → ℕ → Form → ℕ → Form × ℕ
 unquantified zero n f left = attempted_pure n f left
 unquantified (suc k) n f left = by_application (attempted_pure n f left) (λ g ss. under (reading n g ss) (unquantified k (suc n) (renamed n g ss f) left)) (application n f)
 
--- at most so many applications get a name before one quantified formula
+-- at most this many applications get a name before one quantified formula
 abbrev pub most_names : ℕ
 most_names = 64
 

@@ -1,5 +1,5 @@
 -- The literals of a clause that is made of literals: their terms are reduced, their divisors positive, and so are
--- the coefficients behind a divisor.
+-- the coefficients after a divisor.
 use Rattle.std.proofs.Common.{◌≡◌, ◌≢◌, ◌+◌, ℕ, ℤ, pos, neg_ℤ, ◌*ℤ◌, ◌<ℤ◌, unsigned_abs, int_le, Bool, true, false, not, cond, List, [], ◌∷◌, Option, Some, None, refl, sym, ◌∙◌, ap, subst, arith}
 use Rattle.std.specs.Prelude.{All}
 use Rattle.std.specs.List.{AllByRecursion, flat_map}

@@ -20,7 +20,7 @@ use Rattle.clause_set.proofs.Covers.{Among, any_from, by_no, within_some, implie
 use Rattle.clause_set.proofs.Slack.{any-within}
 
 -- ---- backwards over a list
--- the items behind those that are left fail the test
+-- the items after those that are left fail the test
 pub record FailsBehind {X : Type 0} (test : X → Bool) (xs left : List X) : Type 0 where
   pub rest : list_any test left ≡ list_any test xs
   pub within : length left ≤ length xs

@@ -101,7 +101,7 @@ pub thinning_all : (cs rest left : List (List Literal)) → length rest ≡ 0 �
 thinning_all cs [] left e s = record { same = s.same; thin = s.thin }
 thinning_all cs (c ∷ rest) left e s = absurd (omega (arith, e))
 
--- ---- back from the first to the last: none is outdone by one behind it
+-- ---- back from the first to the last: none is outdone by one after it
 pub record Settling (cs rest out : List (List Literal)) : Type 0 where
   pub same : uncovered (out ++ reverse rest) ≡ uncovered (reverse cs)
   pub settled : AllByRecursion (λ c. is_covered (out ++ reverse rest) c ≡ false) out

@@ -44,7 +44,7 @@ maps_more f xs i x y out new lt is e pushed h = record {
 pub maps_all : {X Y : Type 0} (f : X → Y) (xs : List X) (i : ℕ) (out : List Y) → length xs ≤ i → Maps f xs i out → out ≡ map f xs
 maps_all f xs i out le h = h.is ∙ ap (map f) (take_all i xs le)
 
--- out has the images of the items before i, one behind the other
+-- out has the images of the items before i, one after the other
 pub record FlatMaps {X Y : Type 0} (f : X → List Y) (xs : List X) (i : ℕ) (out : List Y) : Type 0 where
   pub is : out ≡ flat_map f (take i xs)
 
@@ -60,7 +60,7 @@ flat_maps_more f xs i x out new lt is pushed h = record {
 pub flat_maps_all : {X Y : Type 0} (f : X → List Y) (xs : List X) (i : ℕ) (out : List Y) → length xs ≤ i → FlatMaps f xs i out → out ≡ flat_map f xs
 flat_maps_all f xs i out le h = h.is ∙ ap (λ z. flat_map f z) (take_all i xs le)
 
--- out has the images of the items before i behind the old ones
+-- out has the images of the items before i after the old ones
 pub record PushesFlat {X Y : Type 0} (f : X → List Y) (xs : List X) (i : ℕ) (old out : List Y) : Type 0 where
   pub is : out ≡ old ++ flat_map f (take i xs)
 

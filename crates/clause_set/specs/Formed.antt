@@ -13,7 +13,7 @@ HasPositiveCoefficients (Geq t) = Unit {0}
 HasPositiveCoefficients (Div d t) = All (λ p. pos 0 <ℤ p.1) t.pairs
 HasPositiveCoefficients (NDiv d t) = All (λ p. pos 0 <ℤ p.1) t.pairs
 
--- a literal as clauses have it: besides, the coefficients behind a divisor are positive
+-- a literal as clauses have it: besides, the coefficients after a divisor are positive
 pub record IsFormed (l : Literal) : Type 0 where
   pub literal : IsLiteral l
   pub coefficients : HasPositiveCoefficients l

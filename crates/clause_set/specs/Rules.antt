@@ -72,7 +72,7 @@ abbrev pub first_of : Option Entry → Option Entry → Option Entry
 first_of None e = e
 first_of (Some e) f = Some e
 
--- the divisibility with x behind the one at i
+-- the divisibility with x after the one at i
 abbrev pub merge_behind : ℕ → List Literal → ℕ → Option Entry
 merge_behind x c i = option_map (λ j. Merge i (i + 1 + j)) (position (is_divisibility x) (drop (i + 1) c))
 

@@ -62,7 +62,7 @@ abbrev pub greatest_factor : ℕ → List Literal → ℕ
 greatest_factor x [] = 0
 greatest_factor x (l ∷ ls) = max (unsigned_abs (coefficient x l)) (greatest_factor x ls)
 
--- the splinters of a lower bound b·x + s are those with i from 0 to the floor of (A·b − A − b)/A: so many
+-- the splinters of a lower bound b·x + s are those with i from 0 to the floor of (A·b − A − b)/A: this many
 abbrev pub splinter_count : ℤ → ℤ → ℕ
 splinter_count a b = unsigned_abs (int_div_euclid (((a *ℤ b) -ℤ a) -ℤ b) a +ℤ pos 1)
 

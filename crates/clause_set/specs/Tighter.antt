@@ -22,6 +22,6 @@ IsImpliedLiteral (m ∷ ls) l = IsTighter m l ⊎ IsImpliedLiteral ls l
 abbrev pub IsFirstLiteral : List Literal → List Literal → Literal → List Literal → List Literal → Type 0
 IsFirstLiteral left right next more rest = ((left ≡ next ∷ more) × (right ≡ rest)) ⊎ ((right ≡ next ∷ rest) × (left ≡ more))
 
--- what becomes of a list where l is put behind it, unless one of it is as tight
+-- what becomes of a list where l is put after it, unless one of it is as tight
 abbrev pub IsPut : List Literal → Literal → List Literal → Type 0
 IsPut out l new = ((new ≡ out) × IsImpliedLiteral out l) ⊎ (new ≡ out ++ l ∷ [])

@@ -151,7 +151,7 @@ fn all_open(ls: &[Literal]) -> bool
     true
 }
 
-/// Up to so many literals each one is compared with each other one.
+/// Up to this many literals each one is compared with each other one.
 const FEW: usize = 32;
 
 /// Whether none of the literals meets what another one bounds, so that they are their own normal form where they rise. Of

@@ -231,7 +231,7 @@ impl Clause {
         m.opposite & n.opposite == m.opposite
     }
 
-    /// An equal clause, or want of memory.
+    /// An equal clause, or running out of memory.
     pub fn copy(&self, alloc: Global) -> Result<Clause, Memory>
         ensures { IfOk result (λ c. c ≡ self.now) }
     {
@@ -255,7 +255,7 @@ fn clause_literals(alloc: Global, ls: &[Literal]) -> Result<Option<Items<Literal
     }
 }
 
-/// The same literals, or want of memory.
+/// The same literals, or running out of memory.
 #[tactic(auto, using(crate::proofs::Walks::copies))]
 pub fn copy_literals(alloc: Global, ls: &[Literal]) -> Result<Items<Literal>, Memory>
     ensures { IfOk result (λ copy. copy ≡ ls.now) }

@@ -12,7 +12,7 @@ use linear_term::Memory;
 use sqlite_items::Items;
 use std::alloc::Global;
 
-/// The same clauses, or want of memory.
+/// The same clauses, or running out of memory.
 #[tactic(auto, using(crate::proofs::Walks::copies))]
 pub(crate) fn copy_clauses(alloc: Global, cs: &[Clause]) -> Result<Items<Clause>, Memory>
     ensures { IfOk result (λ copy. copy ≡ cs.now) }
@@ -66,7 +66,7 @@ pub(crate) fn joined(alloc: Global, a: &[Clause], b: &[Clause]) -> Result<Items<
     Ok(out)
 }
 
-/// Puts the conjunctions of c with each of d behind the others, without false ones.
+/// Puts the conjunctions of c with each of d after the others, without false ones.
 #[tactic(auto, using(crate::proofs::Walks::walks))]
 fn push_joined_with(
     alloc: Global,
@@ -82,7 +82,7 @@ fn push_joined_with(
     Ok(())
 }
 
-/// Puts the conjunction of c and e behind the others, unless it is found to be false.
+/// Puts the conjunction of c and e after the others, unless it is found to be false.
 fn push_joined(alloc: Global, c: &Clause, e: &Clause, out: &mut Items<Clause>) -> Result<(), Memory>
     ensures { OnOk result (out.new ≡ out.old ++ found (clause_of (c.now ++ e.now))) }
 {

@@ -66,7 +66,7 @@ fn all_tightened(
     Ok(Some(out))
 }
 
-/// Up to so many literals the bounds of a form are looked for among all of them; a table of more is faster.
+/// Up to this many literals the bounds of a form are looked for among all of them; a table of more is faster.
 const WITHOUT_TABLE: usize = 16;
 
 /// A table of all bounds, where there are more than a few literals.

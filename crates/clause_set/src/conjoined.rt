@@ -66,7 +66,7 @@ fn is_held(ls: &[Literal], l: &Literal) -> bool
     is_tighter(last, l)
 }
 
-/// Puts a copy of l behind the others, unless it need not stand beside the last one.
+/// Puts a copy of l after the others, unless it need not stand beside the last one.
 fn push_tighter(l: &Literal, out: &mut Items<Literal>) -> Result<(), Memory>
     ensures { OnOk result (IsPut out.old l.now out.new) }
 {
@@ -77,7 +77,7 @@ fn push_tighter(l: &Literal, out: &mut Items<Literal>) -> Result<(), Memory>
     Ok(())
 }
 
-/// The lesser of the first literals of two lists, and what is behind it in both.
+/// The lesser of the first literals of two lists, and what is after it in both.
 fn first_of<'a>(
     left: &'a [Literal],
     right: &'a [Literal],

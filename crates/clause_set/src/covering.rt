@@ -162,7 +162,7 @@ fn is_covered(cs: &[Clause], c: &Clause) -> bool
     false
 }
 
-/// Puts a copy of c behind the others, unless one of the clauses cs covers it and is not covered by it.
+/// Puts a copy of c after the others, unless one of the clauses cs covers it and is not covered by it.
 fn push_uncovered(
     alloc: Global,
     cs: &[Clause],
@@ -203,7 +203,7 @@ fn all_stay(cs: &[Clause], ds: &[Clause]) -> bool
     true
 }
 
-/// Puts c behind the others, unless one of them covers it and is not covered by it.
+/// Puts c after the others, unless one of them covers it and is not covered by it.
 fn push_thin(c: Clause, out: &mut Items<Clause>) -> Result<(), Memory>
     ensures { OnOk result (out.new ≡ cond (is_covered out.old c) out.old (out.old ++ c ∷ [])) }
 {
@@ -214,7 +214,7 @@ fn push_thin(c: Clause, out: &mut Items<Clause>) -> Result<(), Memory>
     Ok(())
 }
 
-/// The clauses without those that one behind them covers, the last one first: each is compared with those that stay.
+/// The clauses without those that one after them covers, the last one first: each is compared with those that stay.
 #[tactic(auto, using(crate::proofs::Thinning::thinning))]
 fn thinned(alloc: Global, mut cs: Items<Clause>) -> Result<Items<Clause>, Memory>
     ensures { IfOk result (λ left. AreThinned cs left) }

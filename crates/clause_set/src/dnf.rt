@@ -109,7 +109,7 @@ impl Dnf {
         clauses
     }
 
-    /// An equal disjunction, or want of memory.
+    /// An equal disjunction, or running out of memory.
     #[tactic(auto, using(crate::proofs::Canonical::dnfs))]
     pub fn copy(&self, alloc: Global) -> Result<Dnf, Memory>
         ensures { IfOk result (λ d. d ≡ self.now) }

@@ -56,7 +56,7 @@ impl Literal {
         }
     }
 
-    /// An equal literal, or want of memory.
+    /// An equal literal, or running out of memory.
     pub fn copy(&self) -> Result<Literal, Memory>
         ensures { IfOk result (λ l. l ≡ self.now) }
     {

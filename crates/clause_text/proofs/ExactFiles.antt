@@ -66,7 +66,7 @@ are_append : (ls : List Line) (v : Line) → AllByRecursion IsLine ls → IsLine
 are_append [] v i j = (j, tt)
 are_append (l ∷ ls) v i j = (i.0, are_append ls v i.1 j)
 
--- behind the first lines and lines a refused line is refused there
+-- after the first lines and lines a refused line is refused there
 pub line_refused : (h : Head) (ls : List Line) (rest : List Token) (n : ℕ) → IsHead h → AllByRecursion IsLine ls → (rest ≡ [] → ⊥) → line_of rest ≡ Err n → IsProofRefusedAt (head_text h ++ (lines_text ls ++ rest)) n
 line_refused h ls rest n i j some e =
     let s = line_reads.first rest n e in

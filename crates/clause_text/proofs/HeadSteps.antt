@@ -44,7 +44,7 @@ one_field_fails w f ts us fault h g = both_second (word_as (is_label w)) (both (
 pub one_end_fails : {A : Type 0} (w : List ℕ) (f : List ℕ → Option A) (ts us vs : List Token) (v : A) (fault : Refusal) → word_as (is_label w) ts ≡ done tt us → field f us ≡ done v vs → Fails fault (feed_first vs) → Fails fault (one_of_line w f ts)
 one_end_fails w f ts us vs v fault h g k = both_second (word_as (is_label w)) (both (field f) ends) ts us tt fault h (both_second (field f) ends us vs v fault g (ends_fails vs fault k))
 
--- a word behind a blank
+-- a word after a blank
 pub word_field : {A : Type 0} (f : List ℕ → Option A) (us xs vs : List Token) (v : A) → blank_first us ≡ Ok xs → word_as f xs ≡ done v vs → field f us ≡ done v vs
 unfolding field
 word_field f us xs vs v h g = ap (λ z. z >>= word_as f) h ∙ g

@@ -39,7 +39,7 @@ shape_reads (many_by j k) =
     both_reads (AllByRecursion (IsValueSaid j)) (AllByRecursion (IsValueSaid k)) (list_to_text by (spelling j)) (list_text (spelling k)) (fields_to (unless by (meaning j))) (fields (meaning k))
     (fields_to_reads (IsValueSaid j) (spelling j) (meaning j) by (kind_spelling j) (by_is_none j)) (fields_reads (IsValueSaid k) (spelling k) (meaning k) (kind_spelling k))
 
--- ---- tokens that are written one behind another
+-- ---- tokens that are written one after another
 
 -- what is written begins with a separator, and is read as these tokens
 pub record IsSpaced (ts : List Token) : Type 0 where

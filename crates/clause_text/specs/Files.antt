@@ -23,7 +23,7 @@ proof_text p = head_text p.0 ++ lines_text p.1
 abbrev pub IsProofText : ProofText → Type 0
 IsProofText p = IsHead p.0 × AllByRecursion IsLine p.1
 
--- The tokens are refused with so many bytes left: those before begin the text of a proof, and together with the next token, or
+-- The tokens are refused with this many bytes left: those before begin the text of a proof, and together with the next token, or
 -- with the end where none is left, they do not.
 pub record IsProofRefusedAt (ts : List Token) (left : ℕ) : Type 0 where
   pub front : List Token

@@ -12,7 +12,7 @@ use Rattle.clause_words.specs.Tokens.{tokens}
 use Rattle.clause_words.specs.Places.{IsRefusedAt}
 use Rattle.clause_words.specs.Reading.{Token, Read, ◌>>=◌, done, word_as}
 
--- the line with these values behind its word
+-- the line with these values after its word
 abbrev pub line_with : (word : LineWord) → LineValues (shape_of word) → Line
 line_with w.Open v = l.Open v.0 v.1
 line_with w.Apply v = l.Apply v.0 v.1
@@ -46,7 +46,7 @@ word_for (l.Divide d t g h) = w.Divide
 word_for (l.Resolve c hints) = w.Resolve
 word_for (l.Delete hints) = w.Delete
 
--- the values that stand behind it
+-- the values that stand after it
 abbrev pub values_of : (line : Line) → LineValues (shape_of (word_for line))
 values_of (l.Open i ms) = (i, ms)
 values_of (l.Apply f ts) = (f, ts)
@@ -71,7 +71,7 @@ line_text line = word_text (word_for line) ∷ shape_text (shape_of (word_for li
 abbrev pub IsLine : Line → Type 0
 IsLine line = AreSaid (shape_of (word_for line)) (values_of line)
 
--- the line behind its word
+-- the line after its word
 abbrev pub line_behind : LineWord → List Token → Read Line
 line_behind word ts = reading (shape_of word) ts >>= λ p. done (line_with word p.0) p.1
 

@@ -1,4 +1,4 @@
--- The grammar of lines as a table: what stands behind each word.
+-- The grammar of lines as a table: what stands after each word.
 use Rattle.std.specs.Prelude.{ℕ, ◌<◌, ◌^◌, ◌≡◌, ℤ, List, [], ◌∷◌, ◌++◌, Option, codes}
 use Rattle.std.specs.List.{AllByRecursion}
 use Rattle.std.specs.Fmt.{decimal}
@@ -23,7 +23,7 @@ pub data Kind : Type 0 where
   term : Kind
   factor : Kind
 
--- What stands behind the word of a line: nothing; one more word and then the rest; words to the end of the line; or words up
+-- What stands after the word of a line: nothing; one more word and then the rest; words to the end of the line; or words up
 -- to the word `by`, and words to the end of the line.
 pub data Shape : Type 0 where
   nothing : Shape
@@ -82,7 +82,7 @@ meaning factor x = factor_of x
 abbrev pub by : List ℕ
 by = codes "by"
 
--- ---- what stands behind the word of a line
+-- ---- what stands after the word of a line
 
 abbrev pub LineValues : Shape → Type 0
 LineValues nothing = Unit {0}

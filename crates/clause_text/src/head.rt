@@ -27,7 +27,7 @@ pub struct Head {
     pub root: Literal,
 }
 
-/// The text behind this word.
+/// The text after this word.
 fn label<'a>(text: &'a [u8], label: &[u8]) -> Result<&'a [u8], Refusal>
     requires { is_plain label.now ≡ true }
     ensures { GivesValue (λ x. unsaid (tokens x.now)) result (word_as (is_label label.now) (tokens text.now)) }
@@ -89,7 +89,7 @@ fn root(alloc: Global, text: &[u8]) -> Result<(Literal, &[u8]), Refusal>
     Ok((literal, rest))
 }
 
-/// The first lines of the text, and the text behind them.
+/// The first lines of the text, and the text after them.
 #[tactic(auto, unfolding(crate::specs::Head::head_of))]
 fn any_head(alloc: Global, text: &[u8]) -> Result<(Head, &[u8]), Refusal>
     ensures { GivesValue (λ x. (x.0, tokens x.1.now)) result (head_of (tokens text.now)) }
@@ -108,11 +108,11 @@ fn any_head(alloc: Global, text: &[u8]) -> Result<(Head, &[u8]), Refusal>
     Ok((head, rest))
 }
 
-/// The first lines of the text, and the text behind them.
+/// The first lines of the text, and the text after them.
 pub fn read_head(alloc: Global, text: &[u8]) -> Result<(Head, &[u8]), Refusal>
     // What is read is the text of first lines, each byte of it.
     ensures found { IfOk result (λ x. IsHead x.0 × (text.now ≡ spelled (head_text x.0) ++ x.1.now)) }
-    // It is read as those, unless memory runs out, whatever stands behind it.
+    // It is read as those, unless memory runs out, whatever stands after it.
     ensures only { (head : Head) (rest : List ℕ) → IsHead head → text.now ≡ spelled (head_text head) ++ rest → GivesValue (λ x. (x.0, tokens x.1.now)) result (done head (tokens rest)) }
     // A refusal is at the first token with which no such text goes on.
     ensures first { IfErr result (RefusesHead text.now) }

@@ -16,7 +16,7 @@ pub fn one_proof_law()
     ensures { (p q : ProofText) → IsProofText p → IsProofText q → proof_text p ≡ proof_text q → p ≡ q }
 {}
 
-/// First lines that are refused, and a line that is refused behind first lines and lines, are the first refusal of the whole text.
+/// First lines that are refused, and a line that is refused after first lines and lines, are the first refusal of the whole text.
 pub fn refused_law()
     ensures head { (ts : List Token) (n : ℕ) → head_of ts ≡ Err n → IsProofRefusedAt ts n }
     ensures line { (h : Head) (ls : List Line) (rest : List Token) (n : ℕ) → IsHead h → AllByRecursion IsLine ls → (rest ≡ [] → ⊥) → line_of rest ≡ Err n → IsProofRefusedAt (head_text h ++ (lines_text ls ++ rest)) n }
@@ -36,7 +36,7 @@ pub fn head_law()
     ensures first { (ts : List Token) (n : ℕ) → head_of ts ≡ Err n → IsRefusedAt IsHead head_text ts n }
 {}
 
-/// The bytes of a line, and of first lines, are read as its tokens, whatever stands behind them.
+/// The bytes of a line, and of first lines, are read as its tokens, whatever stands after them.
 pub fn bytes_law()
     ensures line { (line : Line) (rest : List ℕ) → IsLine line → tokens (spelled (line_text line) ++ rest) ≡ line_text line ++ tokens rest }
     ensures head { (head : Head) (rest : List ℕ) → IsHead head → tokens (spelled (head_text head) ++ rest) ≡ head_text head ++ tokens rest }

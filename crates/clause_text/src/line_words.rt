@@ -1,4 +1,4 @@
-// The values of words, each behind a blank.
+// The values of words, each after a blank.
 
 ghost use Rattle.clause_text.specs.HeadWords.{charge_of};
 ghost use Rattle.clause_text.specs.Literals.{factor_of, literal_of};
@@ -123,7 +123,7 @@ impl Word for Option<Literal> {
     }
 }
 
-/// The value of the first word, and the text behind it.
+/// The value of the first word, and the text after it.
 pub(crate) fn word_as<W: Word>(alloc: Global, text: &[u8]) -> Result<(W, &[u8]), Refusal>
     ensures exact { GivesValue (λ x. (x.0, tokens x.1.now)) result (word_as (W.reading) (tokens text.now)) }
     ensures within { IfOk result (λ x. length x.1.now ≤ length text.now) }
@@ -138,7 +138,7 @@ pub(crate) fn word_as<W: Word>(alloc: Global, text: &[u8]) -> Result<(W, &[u8]),
     }
 }
 
-/// The value of the word behind a blank, and the text behind it.
+/// The value of the word after a blank, and the text after it.
 #[tactic(auto, unfolding(clause_words::specs::Reading::field))]
 pub(crate) fn field<W: Word>(alloc: Global, text: &[u8]) -> Result<(W, &[u8]), Refusal>
     ensures { GivesValue (λ x. (x.0, tokens x.1.now)) result (field (W.reading) (tokens text.now)) }
@@ -148,7 +148,7 @@ pub(crate) fn field<W: Word>(alloc: Global, text: &[u8]) -> Result<(W, &[u8]), R
     Ok((value, rest))
 }
 
-/// The values of words, each behind a blank, to the end of the line, and the text behind that.
+/// The values of words, each after a blank, to the end of the line, and the text after that.
 pub(crate) fn fields<W: Word>(alloc: Global, text: &[u8]) -> Result<(Items<W>, &[u8]), Refusal>
     ensures { GivesValue (λ x. (x.0, tokens x.1.now)) result (fields (W.reading) (tokens text.now)) }
 {
@@ -165,7 +165,7 @@ pub(crate) fn fields<W: Word>(alloc: Global, text: &[u8]) -> Result<(Items<W>, &
     }
 }
 
-/// Literals, each behind a blank, up to and with the word `by`, and the text behind that.
+/// Literals, each after a blank, up to and with the word `by`, and the text after that.
 pub(crate) fn clause(alloc: Global, text: &[u8]) -> Result<(Items<Literal>, &[u8]), Refusal>
     ensures { GivesValue (λ x. (x.0, tokens x.1.now)) result (fields_to (unless by literal_of) (tokens text.now)) }
 {

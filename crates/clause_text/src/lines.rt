@@ -134,7 +134,7 @@ fn delete(alloc: Global, text: &[u8]) -> Result<(Line, &[u8]), Refusal>
     Ok((Line::Delete(clauses), rest))
 }
 
-/// The line that begins with the word, and the text behind it.
+/// The line that begins with the word, and the text after it.
 fn line_behind(alloc: Global, word: LineWord, text: &[u8]) -> Result<(Line, &[u8]), Refusal>
     ensures { GivesValue (λ x. (x.0, tokens x.1.now)) result (line_behind word (tokens text.now)) }
 {
@@ -156,7 +156,7 @@ fn line_behind(alloc: Global, word: LineWord, text: &[u8]) -> Result<(Line, &[u8
     }
 }
 
-/// The first line of the text, and the text behind it.
+/// The first line of the text, and the text after it.
 #[tactic(auto, unfolding(crate::specs::Lines::line_of))]
 fn any_line(alloc: Global, text: &[u8]) -> Result<(Line, &[u8]), Refusal>
     ensures { GivesValue (λ x. (x.0, tokens x.1.now)) result (line_of (tokens text.now)) }
@@ -166,11 +166,11 @@ fn any_line(alloc: Global, text: &[u8]) -> Result<(Line, &[u8]), Refusal>
     Ok((line, rest))
 }
 
-/// The first line of the text, and the text behind it.
+/// The first line of the text, and the text after it.
 pub fn read_line(alloc: Global, text: &[u8]) -> Result<(Line, &[u8]), Refusal>
     // What is read is a line's text, each byte of it.
     ensures found { IfOk result (λ x. IsLine x.0 × (text.now ≡ spelled (line_text x.0) ++ x.1.now)) }
-    // A line's text is read as that line, unless memory runs out, whatever stands behind it.
+    // A line's text is read as that line, unless memory runs out, whatever stands after it.
     ensures only { (line : Line) (rest : List ℕ) → IsLine line → text.now ≡ spelled (line_text line) ++ rest → GivesValue (λ x. (x.0, tokens x.1.now)) result (done line (tokens rest)) }
     // A refusal is at the first token with which no line's text goes on.
     ensures first { IfErr result (RefusesProofLine text.now) }

@@ -54,7 +54,7 @@ pub(crate) fn factor(word: &[u8]) -> Option<Factor>
     Some(Factor { literal, by })
 }
 
-/// Puts a literal behind a text.
+/// Puts a literal after a text.
 pub(crate) fn put_literal(alloc: Global, l: Literal, out: &mut Vec<u8>) -> Result<(), Memory>
     ensures { OnOk result (out.new.items ≡ out.old.items ++ literal_text l) }
 {
@@ -62,7 +62,7 @@ pub(crate) fn put_literal(alloc: Global, l: Literal, out: &mut Vec<u8>) -> Resul
     put_number(alloc, l.variable, out)
 }
 
-/// Puts a literal with its multiplier behind a text.
+/// Puts a literal with its multiplier after a text.
 pub(crate) fn put_factor(alloc: Global, x: Factor, out: &mut Vec<u8>) -> Result<(), Memory>
     ensures { OnOk result (out.new.items ≡ out.old.items ++ factor_text x) }
 {

@@ -19,7 +19,7 @@ use clause_words::{put_integer, put_number, put_term};
 use linear_term::{Memory, Term};
 use std::alloc::Global;
 
-/// Puts a number behind a blank.
+/// Puts a number after a blank.
 #[tactic(auto, using(crate::proofs::Written::texts))]
 fn number(alloc: Global, n: u32, out: &mut Vec<u8>) -> Result<(), Memory>
     ensures { OnOk result (out.new.items ≡ out.old.items ++ spelled (field_text decimal n)) }
@@ -28,7 +28,7 @@ fn number(alloc: Global, n: u32, out: &mut Vec<u8>) -> Result<(), Memory>
     put_number(alloc, n, out)
 }
 
-/// Puts a literal behind a blank.
+/// Puts a literal after a blank.
 #[tactic(auto, using(crate::proofs::Written::texts))]
 fn literal(alloc: Global, l: Literal, out: &mut Vec<u8>) -> Result<(), Memory>
     ensures { OnOk result (out.new.items ≡ out.old.items ++ spelled (field_text literal_text l)) }
@@ -37,7 +37,7 @@ fn literal(alloc: Global, l: Literal, out: &mut Vec<u8>) -> Result<(), Memory>
     put_literal(alloc, l, out)
 }
 
-/// Puts an integer behind a blank.
+/// Puts an integer after a blank.
 #[tactic(auto, using(crate::proofs::Written::texts))]
 fn integer(alloc: Global, k: i128, out: &mut Vec<u8>) -> Result<(), Memory>
     ensures { OnOk result (out.new.items ≡ out.old.items ++ spelled (field_text integer_text k)) }
@@ -46,7 +46,7 @@ fn integer(alloc: Global, k: i128, out: &mut Vec<u8>) -> Result<(), Memory>
     put_integer(alloc, k, out)
 }
 
-/// Puts a term behind a blank.
+/// Puts a term after a blank.
 #[tactic(auto, using(crate::proofs::Written::texts))]
 fn term(alloc: Global, t: &Term, out: &mut Vec<u8>) -> Result<(), Memory>
     ensures { OnOk result (out.new.items ≡ out.old.items ++ spelled (field_text term_text t.now)) }
@@ -64,7 +64,7 @@ fn line_end(out: &mut Vec<u8>) -> Result<(), Memory>
     Ok(())
 }
 
-/// Puts numbers, each behind a blank, and the end of the line.
+/// Puts numbers, each after a blank, and the end of the line.
 #[tactic(auto, using(crate::proofs::Written::texts))]
 fn numbers(alloc: Global, ns: &[u32], out: &mut Vec<u8>) -> Result<(), Memory>
     ensures { OnOk result (out.new.items ≡ out.old.items ++ spelled (list_text decimal ns.now)) }
@@ -75,7 +75,7 @@ fn numbers(alloc: Global, ns: &[u32], out: &mut Vec<u8>) -> Result<(), Memory>
     line_end(out)
 }
 
-/// Puts literals, each behind a blank, and the end of the line.
+/// Puts literals, each after a blank, and the end of the line.
 #[tactic(auto, using(crate::proofs::Written::texts))]
 fn literals(alloc: Global, ls: &[Literal], out: &mut Vec<u8>) -> Result<(), Memory>
     ensures { OnOk result (out.new.items ≡ out.old.items ++ spelled (list_text literal_text ls.now)) }
@@ -86,7 +86,7 @@ fn literals(alloc: Global, ls: &[Literal], out: &mut Vec<u8>) -> Result<(), Memo
     line_end(out)
 }
 
-/// Puts literals, each behind a blank, and the word `by`.
+/// Puts literals, each after a blank, and the word `by`.
 #[tactic(auto, using(crate::proofs::Written::texts))]
 fn literals_by(alloc: Global, ls: &[Literal], out: &mut Vec<u8>) -> Result<(), Memory>
     ensures { OnOk result (out.new.items ≡ out.old.items ++ spelled (list_to_text by literal_text ls.now)) }
@@ -98,7 +98,7 @@ fn literals_by(alloc: Global, ls: &[Literal], out: &mut Vec<u8>) -> Result<(), M
     Ok(())
 }
 
-/// Puts factors, each behind a blank, and the end of the line.
+/// Puts factors, each after a blank, and the end of the line.
 #[tactic(auto, using(crate::proofs::Written::texts))]
 fn factors(alloc: Global, xs: &[Factor], out: &mut Vec<u8>) -> Result<(), Memory>
     ensures { OnOk result (out.new.items ≡ out.old.items ++ spelled (list_text factor_text xs.now)) }
@@ -110,7 +110,7 @@ fn factors(alloc: Global, xs: &[Factor], out: &mut Vec<u8>) -> Result<(), Memory
     line_end(out)
 }
 
-/// Puts terms, each behind a blank, and the end of the line.
+/// Puts terms, each after a blank, and the end of the line.
 #[tactic(auto, using(crate::proofs::Written::texts))]
 fn terms(alloc: Global, ts: &[Term], out: &mut Vec<u8>) -> Result<(), Memory>
     ensures { OnOk result (out.new.items ≡ out.old.items ++ spelled (list_text term_text ts.now)) }

@@ -15,7 +15,7 @@ abbrev pub IsFault : {A : Type 0} → Result A ℕ → Type 0
 IsFault (Ok x) = ⊥
 IsFault (Err n) = Unit {0}
 
--- What is refused with so many bytes left, whatever stands behind the first token that is left.
+-- What is refused with this many bytes left, whatever stands after the first token that is left.
 pub record IsStuck {V : Type 0} (IsValue : V → Type 0) (text : V → List Token) (read : List Token → Read V) (ts : List Token) (left : ℕ) : Type 0 where
   pub front : List Token
   pub back : List Token
@@ -56,7 +56,7 @@ refused {V} IsValue text read r ts n e =
       place = s.place;
     }
 
--- ---- one reader behind another
+-- ---- one reader after another
 
 second_ok : {A B : Type 0} (a : A) (r : Read B) (v : A × B) (rest : List Token) → (r >>= paired a) ≡ done v rest → (b : B) × (r ≡ done b rest) × (v ≡ (a, b))
 second_ok {A} {B} a (Ok y) v rest e =

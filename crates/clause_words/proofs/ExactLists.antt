@@ -145,7 +145,7 @@ list_neither : {V : Type 0} (P : V → Type 0) (spell : V → List ℕ) (f : Lis
 list_neither P spell f x us true n p q e = absurd cc
 list_neither P spell f x us false n p q e = no_list_here P spell f x us n p q (cc)
 
--- the text ends behind a blank
+-- the text ends after a blank
 list_short : {V : Type 0} (P : V → Type 0) (spell : V → List ℕ) (f : List ℕ → Option V) → IsSpelling P spell f → (x : Token) → bytes_eq x blank ≡ true → StuckList P spell f (x ∷ []) 0
 list_short P spell f s x p = record {
   front = x ∷ [];

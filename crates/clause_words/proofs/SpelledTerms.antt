@@ -28,7 +28,7 @@ IsFirst m = m.0 < 2 ^ 32
 abbrev IsFactorOf : ℕ × ℤ → Type 0
 IsFactorOf m = IsCoefficient m.1
 
--- what is read behind a sum: monomials and a constant
+-- what is read after a sum: monomials and a constant
 record HasSum (s : Sum) (ws : Words) (t : Linear) : Type 0 where
   qs : List (ℕ × ℤ)
   pairs : t.pairs ≡ s.term.pairs ++ qs
@@ -205,7 +205,7 @@ are_append : (ss rr : List SignedPart) → AreParts ss → AreParts rr → ArePa
 are_append [] rr h g = g
 are_append (s ∷ ss) rr h g = (h.0, are_append ss rr h.1 g)
 
--- a constant may end a sum unless it is a 0 behind monomials
+-- a constant may end a sum unless it is a 0 after monomials
 zero_is : (k : ℤ) → int_eq k (pos 0) ≡ true → k ≡ pos 0
 zero_is k h = grind (arith, ints)
 

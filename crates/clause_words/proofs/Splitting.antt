@@ -1,4 +1,4 @@
--- The tokens of a text, and those of what stands behind the first one.
+-- The tokens of a text, and those of what stands after the first one.
 use Rattle.std.proofs.Common.{ℕ, ◌≡◌, ◌+◌, ◌==◌, ◌||◌, not, Bool, true, false, cond, List, [], ◌∷◌, ◌++◌, length, take, drop, Option, Some, None, Err, refl, sym, ap, subst, ◌∙◌, arith, one-add}
 use Rattle.std.specs.List.{prefix_len, list_all}
 use Rattle.base_numerals.proofs.Tests.{left_true, right_true, front_all}
@@ -30,7 +30,7 @@ not_true : (v : Bool) → not v ≡ true → v ≡ false
 not_true true e = absurd cc
 not_true false e = refl
 
--- no word goes on behind the bytes of a word
+-- no word goes on after the bytes of a word
 pub rest_stops : (text : List ℕ) → stops (drop (prefix_len in_word text) text) ≡ true
 rest_stops [] = refl
 rest_stops (b ∷ bs) = by (separates b) refl (rest_stops bs)
@@ -180,7 +180,7 @@ spelled_by : (b : ℕ) (bs : List ℕ) (v : Bool) → spelled (tokens bs) ≡ bs
 spelled_by b bs true h = ap (λ z. b ∷ z) h
 spelled_by b bs false h = joined_spelled b (tokens bs) ∙ ap (λ z. b ∷ z) h
 
--- a text is its tokens, one behind another
+-- a text is its tokens, one after another
 pub spelled_is : (text : List ℕ) → spelled (tokens text) ≡ text
 unfolding tokens
 spelled_is [] = refl

@@ -23,7 +23,7 @@ first_part minus b bs true v p q h = ap (λ z. (minus, []) ∷ parts z bs) (sym 
 first_part minus b bs false true p q h = ap (λ z. (minus, []) ∷ parts z bs) (sym q)
 first_part minus b bs false false p q h = ap (longer b minus) h ∙ rw one-add refl
 
--- the first part, and what its sign begins behind it
+-- the first part, and what its sign begins after it
 pub split_is : (minus : Bool) (word : List ℕ) → parts minus word ≡ (minus, take (prefix_len no_sign word) word) ∷ parts_behind (drop (prefix_len no_sign word) word)
 unfolding parts
 split_is minus [] = refl

@@ -6,7 +6,7 @@ use Rattle.std.specs.Fmt.{decimal}
 use Rattle.linear_term.specs.Linear.{Linear}
 use Rattle.clause_words.specs.Terms.{SignedPart, constant_parts, monomial_part, parts_text, part_text, sign_text, term_text}
 
--- parts behind parts
+-- parts after parts
 parts_append : (first : Bool) (ss tt : List SignedPart) → (ss ≡ [] → ⊥) → parts_text first (ss ++ tt) ≡ parts_text first ss ++ parts_text false tt
 parts_append first [] tt h = absurd (h refl)
 parts_append first (s ∷ []) tt h = ap (λ z. sign_text first s.0 ++ (z ++ parts_text false tt)) (sym (append-nil (part_text s.1))) ∙ sym (append_assoc (sign_text first s.0) (part_text s.1 ++ []) (parts_text false tt))
@@ -45,7 +45,7 @@ term_alone s old mid out h e q = by s.pairs h e
     by [] h e = q ∙ ap (λ z. z ++ alone_text true s.constant) (e ∙ append-nil old) ∙ ap (λ z. old ++ z) (sym (alone_by [] s.constant refl))
     by (p ∷ ps) h e = absurd (omega arith)
 
--- a constant behind monomials
+-- a constant after monomials
 pub term_more : (s : Linear) (old mid out : List ℕ) → length s.pairs ≢ 0 → int_eq s.constant (pos 0) ≡ false → mid ≡ old ++ parts_text true (map monomial_part s.pairs) → out ≡ mid ++ alone_text false s.constant → out ≡ old ++ term_text s
 term_more s old mid out h k e q =
     q ∙ ap (λ z. z ++ alone_text false s.constant) e ∙ append_assoc old (parts_text true (map monomial_part s.pairs)) (alone_text false s.constant)

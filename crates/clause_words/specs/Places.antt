@@ -10,7 +10,7 @@ pub record Begins {V : Type 0} (IsValue : V → Type 0) (text : V → List Token
   pub more : List Token
   pub parts : text value ≡ front ++ more
 
--- The tokens are refused with so many bytes left, inside a text: those before begin the text of a value, and together with
+-- The tokens are refused with this many bytes left, inside a text: those before begin the text of a value, and together with
 -- the next token they do not.
 pub record IsRefusedAt {V : Type 0} (IsValue : V → Type 0) (text : V → List Token) (ts : List Token) (left : ℕ) : Type 0 where
   pub front : List Token

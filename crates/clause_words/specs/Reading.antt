@@ -1,4 +1,4 @@
--- Reading tokens from left to right: a value and the tokens behind it, or how many bytes are left from the first token that
+-- Reading tokens from left to right: a value and the tokens after it, or how many bytes are left from the first token that
 -- cannot stand there.
 use Rattle.std.specs.Prelude.{ℕ, ◌≡◌, Bool, true, false, List, [], ◌∷◌, Option, Some, None, Result, Ok, Err, cond}
 use Rattle.std.specs.Str.{bytes_eq}
@@ -48,15 +48,15 @@ unfoldable pub joint : List Token → Read Bool
 joint [] = Err 0
 joint (x ∷ xs) = cond (bytes_eq x blank) (Ok (true, xs)) (cond (bytes_eq x line_feed) (Ok (false, xs)) (Err (size (x ∷ xs))))
 
--- the tokens behind a blank
+-- the tokens after a blank
 unfoldable pub blank_first : List Token → Result (List Token) ℕ
 blank_first ts = joint ts >>= λ p. cond p.0 (Ok p.1) (Err (size ts))
 
--- the tokens behind a line feed
+-- the tokens after a line feed
 unfoldable pub feed_first : List Token → Result (List Token) ℕ
 feed_first ts = joint ts >>= λ p. cond p.0 (Err (size ts)) (Ok p.1)
 
--- the value of the word behind a blank
+-- the value of the word after a blank
 unfoldable pub field : {A : Type 0} → (List ℕ → Option A) → List Token → Read A
 field f ts = blank_first ts >>= word_as f
 
@@ -67,7 +67,7 @@ abbrev pub going_on : {A : Type 0} → ℕ → Option A → Read (List A) → Re
 going_on n None read = Err n
 going_on n (Some v) read = with_first v read
 
--- the values of words, each behind a blank, to the end of the line
+-- the values of words, each after a blank, to the end of the line
 unfoldable pub fields : {A : Type 0} → (List ℕ → Option A) → List Token → Read (List A)
 fields f [] = Err 0
 fields f (x ∷ []) = cond (bytes_eq x blank) (Err 0) (cond (bytes_eq x line_feed) (Ok ([], [])) (Err (size (x ∷ []))))
@@ -84,7 +84,7 @@ going_on_unless n ts None read = Err n
 going_on_unless n ts (Some None) read = done [] ts
 going_on_unless n ts (Some (Some v)) read = with_first v read
 
--- the values of words, each behind a blank, up to one that ends the list
+-- the values of words, each after a blank, up to one that ends the list
 unfoldable pub fields_to : {A : Type 0} → (List ℕ → Option (Option A)) → List Token → Read (List A)
 fields_to f [] = Err 0
 fields_to f (x ∷ []) = cond (bytes_eq x blank) (Err 0) (Err (size (x ∷ [])))
@@ -93,7 +93,7 @@ fields_to f (x ∷ y ∷ ts) = cond (bytes_eq x blank) (going_on_unless (size (y
 abbrev pub paired : {A B : Type 0} → A → (B × List Token) → Read (A × B)
 paired a y = Ok ((a, y.0), y.1)
 
--- one reader behind another
+-- one reader after another
 abbrev pub both : {A B : Type 0} → (List Token → Read A) → (List Token → Read B) → List Token → Read (A × B)
 both ra rb ts = ra ts >>= λ x. rb x.1 >>= paired x.0
 

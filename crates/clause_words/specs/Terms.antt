@@ -36,7 +36,7 @@ abbrev pub is_none : List (ℕ × ℤ) → Bool
 is_none [] = true
 is_none (m ∷ ms) = false
 
--- the constant k behind these monomials
+-- the constant k after these monomials
 abbrev pub constant_parts : Bool → ℤ → List SignedPart
 constant_parts alone k = cond (int_eq k (pos 0) && not alone) [] ((int_lt k (pos 0), p.Constant (unsigned_abs k)) ∷ [])
 

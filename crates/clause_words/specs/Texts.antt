@@ -3,11 +3,11 @@ use Rattle.std.specs.Prelude.{ℕ, List, [], ◌∷◌, ◌++◌}
 use Rattle.clause_words.specs.Tokens.{blank, line_feed}
 use Rattle.clause_words.specs.Reading.{Token}
 
--- a value behind a blank
+-- a value after a blank
 abbrev pub field_text : {V : Type 0} → (V → List ℕ) → V → List Token
 field_text spell v = blank ∷ spell v ∷ []
 
--- values, each behind a blank, to the end of the line
+-- values, each after a blank, to the end of the line
 abbrev pub list_text : {V : Type 0} → (V → List ℕ) → List V → List Token
 list_text spell [] = line_feed ∷ []
 list_text spell (v ∷ vs) = blank ∷ spell v ∷ list_text spell vs

@@ -23,7 +23,7 @@ unfoldable pub tokens : List ℕ → List (List ℕ)
 tokens [] = []
 tokens (b ∷ bs) = cond (separates b) ((b ∷ []) ∷ tokens bs) (joined b (tokens bs))
 
--- the bytes of tokens, one behind another
+-- the bytes of tokens, one after another
 abbrev pub spelled : List (List ℕ) → List ℕ
 spelled [] = []
 spelled (x ∷ xs) = x ++ spelled xs

@@ -1,4 +1,4 @@
-// The words of a line of text: numbers, integers and linear terms, each behind a blank.
+// The words of a line of text: numbers, integers and linear terms, each after a blank.
 #![tactic(auto)]
 
 mod laws;

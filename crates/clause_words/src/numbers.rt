@@ -78,7 +78,7 @@ fn small_value(digits: &[u8]) -> Option<u32>
     Some(value)
 }
 
-/// The value with one more digit behind it; none where it is above 2^32 − 1.
+/// The value with one more digit after it; none where it is above 2^32 − 1.
 fn with_digit(value: u32, digit: u8) -> Option<u32>
     ensures exact { MatchOption result (2 ^ 32 ≤ 10 * value + (digit - 48)) (λ more. more ≡ 10 * value + (digit - 48)) }
 {

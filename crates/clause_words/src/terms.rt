@@ -54,7 +54,7 @@ impl Sum {
         Ok(true)
     }
 
-    /// The term with this constant at its end; none where a 0 does not stand alone, or where parts stand behind.
+    /// The term with this constant at its end; none where a 0 does not stand alone, or where parts stand after.
     fn end(self, minus: bool, n: u128, behind: &[u8]) -> Option<Term>
         requires small { n < 2 ^ 127 }
         ensures { result ≡ ended_by behind.now self minus n }
@@ -124,7 +124,7 @@ fn part_of(word: &[u8]) -> Option<Part>
     star_part(word)
 }
 
-/// The word of the first part, and the parts behind it with their signs.
+/// The word of the first part, and the parts after it with their signs.
 #[tactic(auto, using(crate::proofs::Summing::split_is))]
 fn split_part(word: &[u8]) -> (&[u8], &[u8])
     ensures exact { (minus : Bool) → parts minus word.now ≡ (minus, result.0.now) ∷ parts_behind result.1.now }

@@ -18,7 +18,7 @@ fn word_len(text: &[u8]) -> usize
         .count()
 }
 
-/// The word that the text begins with, which is empty where none does, and the text behind it.
+/// The word that the text begins with, which is empty where none does, and the text after it.
 #[tactic(auto, using(crate::proofs::Splitting::split_is, crate::proofs::Splitting::rest_stops, crate::proofs::Splitting::split_plain))]
 pub fn split_word(text: &[u8]) -> (&[u8], &[u8])
     ensures parts { tokens text.now ≡ with_word result.0.now (tokens result.1.now) }
@@ -29,7 +29,7 @@ pub fn split_word(text: &[u8]) -> (&[u8], &[u8])
     text.split_at(word_len(text))
 }
 
-/// Whether a blank comes first, not a line feed, and the text behind it.
+/// Whether a blank comes first, not a line feed, and the text after it.
 #[tactic(auto, using(crate::proofs::Splitting::none_joint))]
 pub fn joint(text: &[u8]) -> Result<(bool, &[u8]), Refusal>
     ensures exact { GivesValue (λ x. (x.0, tokens x.1.now)) result (joint (tokens text.now)) }
@@ -47,7 +47,7 @@ pub fn joint(text: &[u8]) -> Result<(bool, &[u8]), Refusal>
     Err(Refusal::Syntax(text.len()))
 }
 
-/// The text behind a blank.
+/// The text after a blank.
 #[tactic(auto, using(crate::proofs::Splitting::size_is), unfolding(crate::specs::Reading::blank_first))]
 pub fn blank_first(text: &[u8]) -> Result<&[u8], Refusal>
     ensures exact { GivesValue (λ x. tokens x.now) result (blank_first (tokens text.now)) }
@@ -61,7 +61,7 @@ pub fn blank_first(text: &[u8]) -> Result<&[u8], Refusal>
     }
 }
 
-/// The text behind a line feed.
+/// The text after a line feed.
 #[tactic(auto, using(crate::proofs::Splitting::size_is), unfolding(crate::specs::Reading::feed_first))]
 pub fn feed_first(text: &[u8]) -> Result<&[u8], Refusal>
     ensures exact { GivesValue (λ x. tokens x.now) result (feed_first (tokens text.now)) }

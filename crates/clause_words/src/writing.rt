@@ -10,14 +10,14 @@ use linear_term::{Memory, Term};
 use proof_tokens::put_number as put_labelled;
 use std::alloc::Global;
 
-/// Puts a number behind a text.
+/// Puts a number after a text.
 pub fn put_number(alloc: Global, n: u32, out: &mut Vec<u8>) -> Result<(), Memory>
     ensures { OnOk result (out.new.items ≡ out.old.items ++ decimal n) }
 {
     put_labelled(alloc, b"", u128::from(n), out)
 }
 
-/// Puts an integer behind a text.
+/// Puts an integer after a text.
 pub fn put_integer(alloc: Global, k: i128, out: &mut Vec<u8>) -> Result<(), Memory>
     ensures { OnOk result (out.new.items ≡ out.old.items ++ integer_text k) }
 {
@@ -29,7 +29,7 @@ pub fn put_integer(alloc: Global, k: i128, out: &mut Vec<u8>) -> Result<(), Memo
     put_labelled(alloc, sign, k.unsigned_abs(), out)
 }
 
-/// Puts the sign before a part of a sum behind a text.
+/// Puts the sign before a part of a sum after a text.
 fn put_sign(first: bool, minus: bool, out: &mut Vec<u8>) -> Result<(), Memory>
     ensures { OnOk result (out.new.items ≡ out.old.items ++ sign_text first minus) }
 {
@@ -43,7 +43,7 @@ fn put_sign(first: bool, minus: bool, out: &mut Vec<u8>) -> Result<(), Memory>
     Ok(())
 }
 
-/// Puts a name with its coefficient behind a text.
+/// Puts a name with its coefficient after a text.
 fn put_monomial(
     alloc: Global,
     first: bool,
@@ -61,7 +61,7 @@ fn put_monomial(
     put_labelled(alloc, b"c", u128::from(pair.0), out)
 }
 
-/// Puts a constant behind a text.
+/// Puts a constant after a text.
 fn put_constant(alloc: Global, first: bool, k: i128, out: &mut Vec<u8>) -> Result<(), Memory>
     ensures { OnOk result (out.new.items ≡ out.old.items ++ (sign_text first (int_lt k (pos 0)) ++ decimal (unsigned_abs k))) }
 {
@@ -69,7 +69,7 @@ fn put_constant(alloc: Global, first: bool, k: i128, out: &mut Vec<u8>) -> Resul
     put_labelled(alloc, b"", k.unsigned_abs(), out)
 }
 
-/// Puts names with their coefficients behind a text.
+/// Puts names with their coefficients after a text.
 fn put_monomials(alloc: Global, pairs: &[(u32, i128)], out: &mut Vec<u8>) -> Result<(), Memory>
     ensures { OnOk result (out.new.items ≡ out.old.items ++ parts_text true (map monomial_part pairs.now)) }
 {
@@ -81,7 +81,7 @@ fn put_monomials(alloc: Global, pairs: &[(u32, i128)], out: &mut Vec<u8>) -> Res
     Ok(())
 }
 
-/// Puts a linear term behind a text.
+/// Puts a linear term after a text.
 #[tactic(auto, using(crate::proofs::Written::term_alone, crate::proofs::Written::term_more, crate::proofs::Written::term_zero))]
 pub fn put_term(alloc: Global, term: &Term, out: &mut Vec<u8>) -> Result<(), Memory>
     ensures { OnOk result (out.new.items ≡ out.old.items ++ term_text term.now) }

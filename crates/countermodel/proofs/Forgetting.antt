@@ -48,7 +48,7 @@ solved_does {work} {a} {b} r q h is = subst (λ (z : Result (Option (List ℤ)) 
 pub ruleset finding = (forget, solved_does)
 
 -- ---- denied
--- want of memory before the point
+-- running out of memory before the point
 pub denied_here : (n : ℕ) (g : List (List Literal)) (v : List ℤ) {a b : Funds} (d wrong : List (List Literal)) (r : Result (Option (List ℤ)) StepFault) → d ≡ read g → Charged (negation d) a (Ok wrong) b → IsErrAnd r (λ x. x ≡ step_fault.Memory)
     → DoesWork (denied n g v) a r b
 denied_here n g v {a} {b} d wrong r is did h =

@@ -3,7 +3,7 @@ use Rattle.std.proofs.Common.{◌≡◌, ℤ, List, [], ◌∷◌, ◌++◌, len
 use Rattle.form_typed.specs.declared.typed.Sort.{Sort}
 use Rattle.countermodel.specs.Probes.{probe_value, probe_values, with_value}
 
--- these values, and those that are found behind them
+-- these values, and those that are found after them
 abbrev pub behind : List ℤ → Option (List ℤ) → Option (List ℤ)
 behind vs None = None
 behind vs (Some us) = Some (vs ++ us)

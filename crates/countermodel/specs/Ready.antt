@@ -9,7 +9,7 @@ use Rattle.proof_tree.specs.Reduced.{IsReducedSequent}
 use Rattle.tree_branch.specs.Within.{IsWithin}
 use Rattle.model_trees.specs.Levels.{IsWithinLevels}
 
--- the walk can be at this node with these values: its tree gives its constraint, has at most so many levels, and the limits of a branch are kept
+-- the walk can be at this node with these values: its tree gives its constraint, has at most this many levels, and the limits of a branch are kept
 pub record IsWalkReady (left : ℕ) (s : Sequent) (x : Proof) (v : List ℤ) : Type 0 where
   pub within : IsWithin left s
   pub reduced : IsReducedSequent s

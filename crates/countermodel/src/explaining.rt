@@ -38,7 +38,7 @@ pub struct Counterexample {
     pub universals: Items<i128>,
 }
 
-/// Of these integers k, behind the first m.
+/// Of these integers k, after the first m.
 fn behind(alloc: Global, values: &[i128], m: usize, k: usize) -> Result<Items<i128>, Memory>
     requires { m + k ≤ length values.now }
     ensures { IfOk result (λ us. us ≡ universals_of m k values.now) }

@@ -85,7 +85,7 @@ module _ (n : ℕ) (f : Form) {log : List Entry} {i : ℕ} {a b : Funds} (within
   pub every_refused : {e : StepFault} (r : Result (List (List Literal)) Stop) → Charged (pay (size f)) a (Err e) b → IsErrAnd r (λ z. z ≡ stop.Step e) → ReadAt (reading n (tree.universal f)) log i a r i b
   every_refused r refused is = read_as _ _ (by_every n f) (quiet_stopped (pay (size f)) (λ _. read_next (reads_none (dual f)) (after_dual n)) r within refused is)
 
-  -- behind the charge and the negation that a call made, or could not make
+  -- after the charge and the negation that a call made, or could not make
   pub every_ok : {g : Core} {l : ℕ} {k : Funds} {r : Result (List (List Literal)) Stop} → Charged (pay (size f)) a (Ok tt) b → Made form (dual f) (Ok g) → ReadAt (after_dual n (form g)) log i b r l k
       → ReadAt (reading n (tree.universal f)) log i a r l k
   every_ok paid made rest =

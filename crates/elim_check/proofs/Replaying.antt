@@ -119,7 +119,7 @@ module _ (x : ℕ) (todo out : List (List Literal)) {work : Reader (List (List L
     within = inv.within;
   }))
 
-  -- behind the clauses that are passed
+  -- after the clauses that are passed
   passed_then : {h k : Funds} {l : ℕ} {r : Result (List (List Literal)) Stop} (p : List (List Literal) × List (List Literal)) → Reads (onward x todo out) log j g work i f → Charged (passed x todo out) g (Ok p) h
       → ChargedAt (then_turn (drop j log) (turn_by x (drop j log)) (p.0) (p.1)) (at h (noted log j)) (with_rest (drop l log) r) (at k (noted log l)) → l ≤ length log → ReadAt work log i f r l k
   passed_then {h} {k} {l} {r} p inv did more within = inv.ends r l k (record {

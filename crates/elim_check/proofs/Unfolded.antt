@@ -30,7 +30,7 @@ go_on-same f g h (Some r) = h r.value r.log
 next_same : {A B : Type 0} (m p : Reader A) (f g : A → Reader B) → Same m p → ((a : A) → Same (f a) (g a)) → Same (read_next m f) (read_next p g)
 next_same m p f g h k log = ap (λ w. next w (go_on f)) (h log) ∙ next-same (p log) (go_on f) (go_on g) (go_on-same f g k (p log).value)
 
--- behind work that reads no entry, the value of that work alone matters
+-- after work that reads no entry, the value of that work alone matters
 quiet_same : {A B : Type 0} (w : Traced A) (f g : A → Reader B) → Same (f w.value) (g w.value) → Same (read_next (reads_none w) f) (read_next (reads_none w) g)
 unfolding next just
 quiet_same w f g h log = next-same (next w (λ a. just (Some (rest a log)))) (go_on f) (go_on g) (h log)

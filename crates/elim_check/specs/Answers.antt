@@ -21,7 +21,7 @@ pub record GoesThrough {A : Type 0} (m : Reader A) (log : List Entry) (old : Fun
   pub value : (by_whole_log m log).value ≡ Some v
   pub fits : FitsFunds (by_whole_log m log) old
 
--- p, unless memory was wanting
+-- p, unless memory runs out
 abbrev pub UnlessLogMemory : {A : Type 0} → Result A LogFault → Type 0 → Type 0
 UnlessLogMemory (Err Memory) p = Unit {0}
 UnlessLogMemory _ p = p

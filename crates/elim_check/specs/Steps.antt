@@ -13,7 +13,7 @@ abbrev pub is_turn : ℕ → List (List Literal) → Bool
 is_turn x [] = true
 is_turn x (c ∷ cs) = list_any (has x) c
 
--- the clauses without x go behind those of out, each at the charge 1, up to the first one with x
+-- the clauses without x go after those of out, each at the charge 1, up to the first one with x
 abbrev pub passed : ℕ → List (List Literal) → List (List Literal) → Traced (List (List Literal) × List (List Literal))
 passed x [] out = just ([], out)
 passed x (c ∷ cs) out = cond (list_any (has x) c) (just (c ∷ cs, out)) (next (pay 1) (λ _. passed x cs (out ++ c ∷ [])))

@@ -20,7 +20,7 @@ use elim_laws::know_formed;
 use formula::Core;
 use std::alloc::Global;
 
-/// The answer of work that did the entries before the place, of so many: one that is left over is wrong.
+/// The answer of work that did the entries before the place, of this many: one that is left over is wrong.
 fn told(answer: Result<Dnf, Stop>, place: usize, entries: usize) -> Result<Dnf, LogFault>
     ensures { result ≡ told answer place entries }
 {

@@ -14,7 +14,7 @@ use std::alloc::AllocError;
 pub enum LogFault {
     /// This entry is missing, names no rule that applies, or is left over.
     Entry(u64),
-    /// A raw number leaves the range of coefficients, at this entry or behind the one before it: this number.
+    /// A raw number leaves the range of coefficients, at this entry or after the one before it: this number.
     Range(u64, Place),
     /// A charge there passes the budget.
     Cost(u64),
@@ -26,7 +26,7 @@ pub enum LogFault {
 pub(crate) enum Stop {
     /// There is no entry, or its rule does not apply.
     Entry,
-    /// A charge or a raw number is refused, or memory is wanting.
+    /// A charge or a raw number is refused, or memory runs out.
     Step(StepFault),
 }
 

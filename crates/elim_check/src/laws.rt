@@ -13,7 +13,7 @@ ghost use Rattle.base_budget.specs.declared.log.Entry.{Entry};
 ghost use Rattle.std.specs.Prelude.{◌≡◌, ◌≤◌, List, Ok, Result, ℕ};
 
 /// A log is accepted exactly where its rules do the whole work, use it up, and stay within the budget and the range. There
-/// is one answer, save for want of memory: a log has one first fault.
+/// is one answer, save for lack of memory: a log has one first fault.
 pub fn answer_law()
     ensures accepted { (m : Reader (List (List Literal))) (log : List Entry) (old new : Funds) (d : List (List Literal)) → old.spent ≤ old.budget
         → Checked m log old (Ok d) new → GoesThrough m log old d }

@@ -15,7 +15,7 @@ use clause_set::Clause;
 use sqlite_items::Items;
 use std::alloc::Global;
 
-/// The clauses without x go behind those of out, each at the charge 1, up to the first one with x.
+/// The clauses without x go after those of out, each at the charge 1, up to the first one with x.
 #[tactic(auto, using(base_budget::proofs::Charging::looping, crate::proofs::Replaying::passed_stop, crate::proofs::Replaying::passed_on))]
 fn pass(
     todo: Todo,

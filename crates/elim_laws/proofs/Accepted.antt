@@ -33,7 +33,7 @@ use Rattle.elim_laws.proofs.Taking.{rule_keeps, out_none, out_append, out_unused
 use Rattle.elim_laws.proofs.Whole.{and_expresses, or_expresses, atom_expresses, zero_tells, bound_tells, sides_expresses, tells_map, some_value, every_value, top_expresses, bottom_expresses}
 
 -- ---- one name
--- the replay goes on behind what is done, with clauses from which x is out
+-- the replay goes on after what is done, with clauses from which x is out
 record GoesOn (x : ℕ) (cs done : List (List Literal)) (r : Rest (List (List Literal))) : Type 0 where
   more : List (List Literal)
   value : r.value ≡ done ++ more

@@ -84,7 +84,7 @@ out_unused x c f h = record {
 pub out_rule : (x : ℕ) (c : List Literal) (vs r : List (List Literal)) → Keeps x c vs → IsOut x vs r → IsOut x (c ∷ []) r
 out_rule x c vs r k o = record { kept = λ e m. o.kept e ((k.met e).0 m); back = λ e h. (k.met e).1 (o.back e h); formed = o.formed; free = o.free }
 
--- clauses one behind the other
+-- clauses one after the other
 pub out_each : (x : ℕ) (f : List Literal → List (List Literal)) (cs : List (List Literal)) → AllByRecursion (λ c. IsOut x (c ∷ []) (f c)) cs → IsOut x cs (flat_map f cs)
 out_each x f [] h = out_none x
 out_each x f (c ∷ cs) h = out_append x (c ∷ []) cs (f c) (flat_map f cs) h.0 (out_each x f cs h.1)

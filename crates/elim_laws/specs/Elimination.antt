@@ -20,7 +20,7 @@ abbrev pub by_first : (List Literal → Traced (List (List Literal))) → ℕ �
 by_first rest x c None = unused c
 by_first rest x c (Some e) = by_rule rest x c e
 
--- x out of the clause c, at most n rules behind one another
+-- x out of the clause c, at most n rules after one another
 abbrev pub rules_deep : ℕ → ℕ → List Literal → Traced (List (List Literal))
 rules_deep x zero c = just (c ∷ [])
 rules_deep x (suc n) c = by_first (rules_deep x n) x c (first_rule x c)

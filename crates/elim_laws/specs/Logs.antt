@@ -27,7 +27,7 @@ entries_of (mark (round k) ∷ es) = entries_of es
 entries_of (mark (enter k) ∷ es) = entries_of es
 entries_of (mark (back k) ∷ es) = entries_of es
 
--- a value, and what is left of the log behind it
+-- a value, and what is left of the log after it
 pub record Rest (A : Type 0) : Type 0 where
   pub value : A
   pub log : List Entry
@@ -61,7 +61,7 @@ up_to x ls turn (c ∷ cs) out = cond (list_any (has x) c) (turn c cs out) (next
 abbrev pub turn_of : {A : Type 0} → ℕ → Entry → List Literal → (List (List Literal) → Traced (Option A)) → Traced (Option A)
 turn_of x e c k = cond (applies x c e) (next (rule x c e) (λ rs. next (note (entry e)) (λ _. k rs))) (just None)
 
--- x out of the clauses cs, behind those of out, by the rules that the log names in turn
+-- x out of the clauses cs, after those of out, by the rules that the log names in turn
 abbrev pub replayed : ℕ → List Entry → List (List Literal) → List (List Literal) → Traced (Option (Rest (List (List Literal))))
 replayed x [] = up_to x [] (λ c cs out. just None)
 replayed x (e ∷ ls) = up_to x (e ∷ ls) (λ c cs out. turn_of x e c (λ rs. replayed x ls (rs ++ cs) out))

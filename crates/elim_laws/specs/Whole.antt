@@ -25,12 +25,12 @@ paid t work = next (pay (1 + length t.pairs)) (λ _. work)
 abbrev pub two_sides : Linear → Traced (List (List Literal))
 two_sides t = next (negated_literal (Eq t)) (λ cs. just (tidied cs))
 
--- "and" of the members, behind d
+-- "and" of the members, after d
 abbrev pub all_of : (Form → Traced (List (List Literal))) → Forms → List (List Literal) → Traced (List (List Literal))
 all_of f tree.no_form d = just d
 all_of f (tree.and_form g gs) d = next (f g) (λ c. next (conjunction d c) (λ both. all_of f gs both))
 
--- "or" of the members, behind d
+-- "or" of the members, after d
 abbrev pub any_of : (Form → Traced (List (List Literal))) → Forms → List (List Literal) → Traced (List (List Literal))
 any_of f tree.no_form d = just d
 any_of f (tree.and_form g gs) d = next (f g) (λ c. next (disjunction d c) (λ both. any_of f gs both))

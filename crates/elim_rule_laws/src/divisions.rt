@@ -1,4 +1,4 @@
-// The theorems on integers behind the rules: when an equation or a divisibility holds for some integer, and for which.
+// The theorems on integers after the rules: when an equation or a divisibility holds for some integer, and for which.
 
 ghost use Rattle.clause_set.specs.Bezout.{bezout, Bezout};
 ghost use Rattle.clause_set.specs.Equations.{size_of};

@@ -90,7 +90,7 @@ pub dark_refused : (x : ℕ) (c ups : List Literal) (a : ℤ) (e : StepFault) (r
 unfolding dark
 dark_refused x c ups a e result {f} {h} u g paid failed = subst (λ z. Charged (dark_with x c z) f result h) (most_of x c ups a u g) (then_err _ _ result failed paid)
 
--- want of memory after the charge
+-- running out of memory after the charge
 pub dark_starved : (x : ℕ) (c ups : List Literal) (a : ℤ) (result : Result (List (List Literal)) StepFault) {f h : Funds} {v : Unit {0}} → ups ≡ uppers x c → a ≡ pos (greatest_factor x ups)
     → Charged (pay (dark_charge x c a)) f (Ok v) h → IsErrAnd result (λ z. z ≡ Memory) → Charged (dark x c) f result h
 unfolding dark

@@ -99,7 +99,7 @@ naming_fails k x t u fault r hk h free is cause failed = only_memory fault r (na
 pub naming_done : (k : ℤ) (x : ℕ) (t u v : Linear) → u ≡ name x → v ≡ combination (pos 1) t k u → v ≡ with_name x k t
 naming_done k x t u v is done = done ∙ ap (combination (pos 1) t k) is
 
--- a call that fails for want of memory alone
+-- a call that fails for lack of memory alone
 pub memory_only : {A : Type 0} {m : Traced A} (e : StepFault) (r : Result A StepFault) → e ≡ step_fault.Memory → IsErrAnd r (λ z. z ≡ e) → Worked m r
 memory_only e r is h = work_memory r (subst (λ f. IsErrAnd r (λ z. z ≡ f)) is h)
 

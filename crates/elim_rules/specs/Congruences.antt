@@ -21,7 +21,7 @@ pub record IsCongruence (x : ℕ) (l : Literal) : Type 0 where
 abbrev pub merge_numbers : ℤ → ℤ → ℤ → ℤ → List Place
 merge_numbers a1 d1 a2 d2 = product a1 d2 ∷ product a2 d1 ∷ product d1 d2 ∷ []
 
--- the rule at the divisibilities l and m, behind its charge
+-- the rule at the divisibilities l and m, after its charge
 abbrev pub merged_beside : ℕ → List Literal → Literal → Literal → Traced (List (List Literal))
 merged_beside x rest l m =
     next (compute (merge_numbers (coef_of (term_of l) x) (divisor_of l) (coef_of (term_of m) x) (divisor_of m)))
@@ -31,6 +31,6 @@ merged_beside x rest l m =
 abbrev pub remainder_beside : List Literal → Literal → ℕ → Traced (List (List Literal))
 remainder_beside rest l r = next (combining (pos 1) (term_of l) (pos 1) (number (pos r))) (λ s. just (clauses_of ((rest ++ Div (divisor_of l) s ∷ []) ∷ [])))
 
--- the rule at the only divisibility l, with the coefficients z of Bézout, behind its charge
+-- the rule at the only divisibility l, with the coefficients z of Bézout, after its charge
 abbrev pub shifted_beside : ℕ → List Literal → Bezout → Literal → Traced (List (List Literal))
 shifted_beside x rest z l = next (each (shifted x (divisor_of l) z (term_of l)) rest []) (λ ls. just (clauses_of ((Div z.g (without (term_of l) x) ∷ ls) ∷ [])))

@@ -14,7 +14,7 @@ pub record HasCoefficient (q : Solution) : Type 0 where
   pub in_range : InRange q.a
   pub not_zero : q.a ≢ pos 0
 
--- the rule at the equation l, behind its charge
+-- the rule at the equation l, after its charge
 abbrev pub solved_beside : ℕ → List Literal → Literal → Traced (List (List Literal))
 solved_beside x rest l = next (each (solved_or_kept x (coefficient x l) (remainder x l)) rest [])
     (λ ls. just (clauses_of ((Div (size_of (coefficient x l)) (remainder x l) ∷ ls) ∷ [])))

@@ -189,7 +189,7 @@ fn all_solved(alloc: Global, q: &Solution, rest: &[Literal]) -> Result<Items<Lit
     Ok(out)
 }
 
-/// The rule at the equation l behind its charge, with the other literals of the clause.
+/// The rule at the equation l after its charge, with the other literals of the clause.
 #[tactic(auto, using(base_budget::proofs::Charging::working, crate::proofs::Steps::divisors))]
 fn by_literal(
     alloc: Global,

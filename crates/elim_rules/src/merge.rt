@@ -100,7 +100,7 @@ fn merged_by(
     Ok(in_form_with(alloc, rest, new)?)
 }
 
-/// The rule at the divisibilities l and m behind its charge, with the other literals of the clause.
+/// The rule at the divisibilities l and m after its charge, with the other literals of the clause.
 #[tactic(auto, using(base_budget::proofs::Charging::working))]
 fn merged(
     alloc: Global,

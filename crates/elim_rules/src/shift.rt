@@ -119,7 +119,7 @@ fn all_shifted(
     Ok(out)
 }
 
-/// The rule at the divisibility l behind its charge, with the other literals of the clause.
+/// The rule at the divisibility l after its charge, with the other literals of the clause.
 #[tactic(auto, using(base_budget::proofs::Charging::working, crate::proofs::Steps::divisors))]
 fn shift_by(
     alloc: Global,

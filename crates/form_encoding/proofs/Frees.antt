@@ -15,7 +15,7 @@ use Rattle.pri_typing.specs.WellFormed.{is_numeric}
 use Rattle.formula.specs.Form.{Form, Forms, is_pure, are_pure, holds, fails, no_form, forms}
 use Rattle.form_encoding.specs.Encoding.{named, multiple, related, signed_relation, product_of, junction, cases, encoded, all_encoded, with_value, with_values, with_sum, with_more}
 
--- whether a formula has no application, found in the order of its encoding: b says it of what comes behind a term
+-- whether a formula has no application, found in the order of its encoding: b says it of what comes after a term
 abbrev mutual
   is_free : Formula → Bool
   is_free (constant b) = true

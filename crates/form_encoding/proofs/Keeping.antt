@@ -165,7 +165,7 @@ at_value : (w : Meaning) (n m : ℕ) (e e' : List ℤ) (rest : ℕ → Linear �
     → Extends n e m e' → IsOver m a → (C → (d : List ℤ) → value_of a d ≡ a.constant) → value_of a e' ≡ x → FormTruth w (rest m a).value e' ↔ P x
 at_value w n m e e' rest C P a x fit ext over closed is = moved _ P (value_of a e') x is (fit m e' a (record { goes_on = ext; over = over; closed = closed }))
 
--- the rest behind a call: in the scope of the new name, the rest speaks of it
+-- the rest after a call: in the scope of the new name, the rest speaks of it
 call_is : (w : Meaning) (n m f : ℕ) (e e' : List ℤ) (rest : ℕ → Linear → Traced Form) (C : Type 0) (P : ℤ → Type 0) (ls : List Linear) → (C → ⊥) → Fits w n e rest C P
     → Extends n e m e' → All (IsOver m) ls
     → FormTruth w (universal (disjunction (forms (differs f ls (linear.name m) ∷ (rest (suc m) (linear.name m)).value ∷ [])))) e' ↔ P (w.value f (values_of ls e'))

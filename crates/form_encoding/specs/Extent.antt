@@ -40,7 +40,7 @@ abbrev pub behind_atoms : ℕ → Extent → Extent
 behind_atoms zero e = e
 behind_atoms (suc k) e = beside leaf (behind_atoms k e)
 
--- a formula behind k atoms in one connective, where there are any
+-- a formula after k atoms in one connective, where there are any
 abbrev pub restricted_extent : ℕ → Extent → Extent
 restricted_extent zero e = e
 restricted_extent (suc k) e = above (behind_atoms (suc k) (beside e nothing))
@@ -64,7 +64,7 @@ abbrev mutual
   extents no_formula = nothing
   extents (and_formula f fs) = beside (extent f) (extents fs)
 
-  -- of the rest, behind a term
+  -- of the rest, after a term
   pub extent_with : Expression → Extent → Extent
   extent_with (number v) rest = rest
   extent_with (name x) rest = rest

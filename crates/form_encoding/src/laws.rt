@@ -71,7 +71,7 @@ pub fn body_law()
         → FormTruth w (body p).value e ↔ Truth w (formula p.formula) e }
 {}
 
-/// What parts assume is one flat conjunction of what their components assume, each whole, in the order of the file, and behind
+/// What parts assume is one flat conjunction of what their components assume, each whole, in the order of the file, and after
 /// them of the conditions of the constants that occur in it; it is true exactly where that is which the parts assume, and
 /// those constants have values of their types.
 pub fn parts_law()
@@ -83,7 +83,7 @@ pub fn parts_law()
 {}
 
 /// Where all types are `int`, nothing is said of them: a quantifier has the encoded body below it, the encoded problem is that
-/// of its formula below so many for-alls, and what parts assume is encoded as any formula is.
+/// of its formula below this many for-alls, and what parts assume is encoded as any formula is.
 pub fn plain_law()
     ensures for_all { (at : List ℕ) (n : ℕ) (plus : Bool) (f : Formula)
         → encoded at n plus (for_all Int f) ≡ next (encoded (at ++ n ∷ []) (suc n) plus f) (λ g. just (quantified plus g)) }

@@ -23,7 +23,7 @@ before-none : (fs : List Form) → before fs no_form ≡ forms fs
 before-none [] = refl
 before-none (f ∷ fs) = ap (and_form f) (before-none fs)
 
--- one more member that was put behind the others
+-- one more member that was put after the others
 pub member_put : (out more : List Core) (g : Core) (left rest all : Forms) → left ≡ and_form (form g) rest → more ≡ out ++ g ∷ [] → before (map form out) left ≡ all → before (map form more) rest ≡ all
 member_put out more g left rest all is pushed inv =
     ap (λ l. before (map form l) rest) pushed ∙ ap (λ l. before l rest) (map-append form out (g ∷ [])) ∙ sym (before-one (map form out) (form g) rest) ∙ ap (before (map form out)) (sym is) ∙ inv

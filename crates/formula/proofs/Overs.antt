@@ -6,7 +6,7 @@ use Rattle.linear_term.proofs.Totals.{by_test}
 use Rattle.formula.specs.Form.{Form, Forms, equal, unequal, at_least, holds, fails, differs, conjunction, disjunction, universal, existential, no_form, and_form, IsFormOver, AreFormsOver}
 use Rattle.formula.specs.Shifts.{raised_name, raised, shifted, all_shifted}
 
--- b names behind n, raised by k
+-- b names after n, raised by k
 name_over : (n k b x : ℕ) → x < n + b → raised_name n k x < (n + k) + b
 name_over n k b x lt = by_test (λ y. y < (n + k) + b) (nat_lt x n) x (x + k) (λ t. omega (arith, lt)) (λ t. omega (arith, lt))
 

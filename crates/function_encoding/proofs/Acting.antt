@@ -1,4 +1,4 @@
--- The stack behind one simple action.
+-- The stack after one simple action.
 use Rattle.std.proofs.Common.{◌≡◌, List, ◌∷◌, reverse, Result, Ok, Err, IsErrAnd, negsuc, subst}
 use Rattle.linear_term.specs.Linear.{Linear}
 use Rattle.linear_term.specs.declared.range.TermFault.{TermFault}

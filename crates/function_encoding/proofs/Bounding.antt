@@ -1,4 +1,4 @@
--- Atoms of bounds behind others, and a quantifier with them.
+-- Atoms of bounds after others, and a quantifier with them.
 use Rattle.std.proofs.Common.{◌≡◌, ◌↔◌, IsTrue, ℕ, ℤ, zero, suc, ◌+◌, ◌<◌, ◌≤◌, Bool, true, false, not, cond, pos, List, [], ◌∷◌, ◌++◌, map, length, drop, get_or, Result, Ok, Err, IsErrAnd, All, refl, sym, ap, ◌∙◌, subst, append_assoc, append-nil, arith}
 use Rattle.linear_term.specs.declared.range.TermFault.{TermFault}
 use Rattle.form_typed.specs.declared.typed.Sort.{Sort}
@@ -20,7 +20,7 @@ use Rattle.function_encoding.proofs.Kept.{read_any}
 abbrev pub limit : Bool → ℕ → SortBound → Traced Form
 limit all x b = cond all (outside x b) (within x b)
 
--- atoms behind others
+-- atoms after others
 abbrev pub behind_others : List Form → Traced (List Form) → Traced (List Form)
 behind_others out work = next work (λ hs. just (out ++ hs))
 
@@ -75,7 +75,7 @@ pub restricted_more : (all : Bool) (hs members : List Core) (f : Core) → ¬ (h
 restricted_more all [] members f some is = absurd (some refl)
 restricted_more all (h ∷ hs) members f some is = ap (λ l. junction (not all) (forms (map form l))) is ∙ ap (λ l. junction (not all) (forms l)) (pushed (h ∷ hs) f (form f) refl)
 
--- limits behind nothing
+-- limits after nothing
 pub alone : (work : Traced (List Form)) (out : List Core) (r : Result (List Core) TermFault) → out ≡ [] → Made (λ hs. map form hs) (behind_others (map form out) work) r → Made (λ hs. map form hs) work r
 alone work out r none m = subst (λ w. Made (λ hs. map form hs) w r) (ap (λ l. behind_others (map form l) work) none ∙ just-next work) m
 
@@ -123,13 +123,13 @@ pub item_step : (x i j : ℕ) (ss : List Sort) (d : Sort) (work : Traced Form) (
     → Made form (for_last (x + j) (drop j ss) work) r
 item_step x i j ss d work f r up lt m k = last_step x i j (x + j) ss (get_or ss j d) work f r up lt (read_again ss j d lt) refl m k
 
--- want of memory, or a number that leaves the range, further in
+-- running out of memory, or a number that leaves the range, further in
 pub last_failed : (x : ℕ) (ss : List Sort) (work : Traced Form) (e : TermFault) → Made form work (Err e) → Made form (for_last x ss work) (Err e)
 last_failed x [] work e m = m
 last_failed x (s ∷ ss) work e m =
     made_err form form (for_last (suc x) ss work) (λ g. next (limits true x (bounds s)) (λ hs. just (quantified true (restricted true hs g)))) (Err e) refl (last_failed (suc x) ss work e m)
 
--- below so many further quantifiers
+-- below this many further quantifiers
 pub last_more : (x j : ℕ) (ss : List Sort) (work : Traced Form) (e : TermFault) → Made form (for_last (x + j) (drop j ss) work) (Err e) → Made form (for_last x ss work) (Err e)
 last_more x zero ss work e m = subst (λ y. Made form (for_last y ss work) (Err e)) (own x) m
   where

@@ -177,7 +177,7 @@ parts_room p set marks cs formed m few small chosen =
 pub members_as : (at all : List ℕ) (n m : ℕ) (fs : Formulas) (r : Result (List Core) TermFault) → all ≡ at → m ≡ n → Made forms_of (all_encoded all m true fs) r → Made forms_of (all_encoded at n true fs) r
 members_as at all n m fs r e d h = subst (λ w. Made forms_of w r) (λ i. all_encoded (e i) (d i) true fs) h
 
--- the conjunction with the conditions behind its members
+-- the conjunction with the conditions after its members
 abbrev whole : Problem → Formulas → List Bool → Traced Form
 whole p fs marks =
     next (all_encoded (names_from 0 (constants p)) (constants p) true fs) (λ gs. next (conditions (λ x. is_marked marks x) 0 (types p)) (λ hs. just (conjunction (append gs hs))))

@@ -1,4 +1,4 @@
--- Instructions behind others.
+-- Instructions after others.
 use Rattle.std.proofs.Common.{◌≡◌, ℕ, suc, Bool, ◌+◌, ◌<◌, ◌≤◌, List, [], ◌∷◌, ◌++◌, length, get_or, drop, Result, Ok, Err, OnOk, refl, sym, ap, ◌∙◌, subst, arith}
 use Rattle.std.proofs.lemmas.List.{append-nil}
 use Rattle.form_typed.specs.declared.typed.TypedTerm.{TypedTerm}
@@ -19,7 +19,7 @@ pub follows_last : {E : Type 0} (r : Result (Unit {0}) E) (a b c : List Action) 
 follows_last (Ok u) a b c f g h k = follows_then h k
 follows_last (Err e) a b c f g h k = tt
 
--- what is put behind nothing
+-- what is put after nothing
 pub follows_none : (old : List Instruction) (new : List Action) (f : List Action → List Action) → old ≡ [] → FollowsActions (actions_of old) new f → new ≡ f []
 follows_none old new f e h = sym (append-nil new) ∙ h.is [] ∙ ap (λ l. actions_of l ++ f []) e
 

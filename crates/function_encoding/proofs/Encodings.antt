@@ -152,7 +152,7 @@ pub predicate_made : (at : List ℕ) (n : ℕ) (plus : Bool) (p : ℕ) (ts : Exp
     → c ≡ compiled_all ts (predicate plus p (size ts) ∷ []) → stack ≡ [] → Made form (ran at c n (reverse stack)) res → Made form (encoded at n plus (applies p ts)) res
 predicate_made at n plus p ts c stack res e none h = subst (λ w. Made form w res) ((λ i. ran at (e i) n (reverse (none i))) ∙ predicate_is p ts at n plus) h
 
--- below a quantifier, and behind a graph
+-- below a quantifier, and after a graph
 pub bound_as : (at all : List ℕ) (n m : ℕ) (plus : Bool) (g : Formula) (r : Result Core TermFault) → all ≡ at → m ≡ n → Made form (encoded all m plus g) r → Made form (encoded at n plus g) r
 bound_as at all n m plus g r e d h = subst (λ w. Made form w r) (λ i. encoded (e i) (d i) plus g) h
 

@@ -1,4 +1,4 @@
--- The extents of several formulas and behind several terms, from the last one back.
+-- The extents of several formulas and after several terms, from the last one back.
 use Rattle.std.proofs.Common.{◌≡◌, ℕ, ◌+◌, ◌<◌, ◌≤◌, List, drop, length, get_or, sym, ap, ◌∙◌}
 use Rattle.form_typed.specs.declared.typed.Typed.{Typed}
 use Rattle.form_typed.specs.declared.typed.TypedTerm.{TypedTerm}
@@ -7,7 +7,7 @@ use Rattle.base_budget.proofs.Charging.{drop-item, drop_all}
 use Rattle.form_encoding.specs.Extent as extents
 use Rattle.form_encoding.specs.Extent.{Extent, beside, nothing, extent, extent_with, extents_with}
 
--- nothing is behind the last one
+-- nothing is after the last one
 pub extents_end : (fs : List Typed) (i : ℕ) → length fs ≤ i → nothing ≡ extents.extents (formulas_of (drop i fs))
 extents_end fs i le = ap (λ l. extents.extents (formulas_of l)) (sym (drop_all fs i le))
 

@@ -22,7 +22,7 @@ use Rattle.function_encoding.specs.Bounds.{kept_bounds}
 abbrev pub one_kept : (ℕ → Bool) → ℕ → Sort → Traced (List Form)
 one_kept kept x s = cond (kept x) (limits false x (bounds s)) (just [])
 
--- what is left: the conditions of the names from x on, behind others
+-- what is left: the conditions of the names from x on, after others
 abbrev pub left_over : (ℕ → Bool) → ℕ → List Sort → List Form → Traced (List Form)
 left_over kept x ss out = next (conditions kept x ss) (λ hs. just (out ++ hs))
 

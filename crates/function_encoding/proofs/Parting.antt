@@ -10,7 +10,7 @@ use Rattle.formula.specs.Made.{Made}
 use Rattle.formula.specs.Tree.{form}
 use Rattle.function_encoding.specs.Actions.{negated, parted}
 
--- two members, one put behind the other
+-- two members, one put after the other
 pub two_items : {A : Type 0} (none one two : List A) (f g : A) → none ≡ [] → one ≡ none ++ f ∷ [] → two ≡ one ++ g ∷ [] → two ≡ f ∷ g ∷ []
 two_items none one two f g start first second = second ∙ ap (λ l. l ++ g ∷ []) (first ∙ ap (λ l. l ++ f ∷ []) start)
 

@@ -15,7 +15,7 @@ use Rattle.function_encoding.specs.Members.{added}
 
 -- A number, or the term of a name, comes onto the stack; the last term gives way to its negative; the last two give way
 -- to their product, of which the first is a number or else the second, to their sum or difference; the last k give way to
--- the value of a function, behind its graph; the last two to one of them, where a formula is true to the first; the last
+-- the value of a function, after its graph; the last two to one of them, where a formula is true to the first; the last
 -- to its absolute value; the last two to the first where it stands in a relation to the second, else to the second. At the
 -- end the last two are related, or a predicate is applied to the last k.
 pub data Action : Type 0 where
@@ -56,7 +56,7 @@ is_simple (multiply left) = true
 is_simple (add subtracted) = true
 is_simple _ = false
 
--- the stack behind a simple action
+-- the stack after a simple action
 abbrev pub acted : List ℕ → Action → List Linear → Traced (List Linear)
 acted at (put_number v) vs = just (linear.number v ∷ vs)
 acted at (put_name x) vs = just (named at x ∷ vs)
@@ -69,7 +69,7 @@ acted at _ vs = just vs
 abbrev pub parted : (Bool → Traced Form) → List Linear → Bool → List Linear → (List Linear → Traced Form) → Traced Form
 parted test first turned second rest = cases (test true) (rest first) (test false) (next (cond turned (negated second) (just second)) rest)
 
--- the graph of a function, and behind it a formula
+-- the graph of a function, and after it a formula
 abbrev pub behind : ℕ → List Linear → ℕ → Form → Form
 behind f ls n g = universal (disjunction (forms (differs f ls (linear.name n) ∷ g ∷ [])))
 

@@ -16,7 +16,7 @@ use Rattle.function_encoding.specs.declared.answer.EncodeRefusal.TheVariants.{La
 use Rattle.function_encoding.specs.declared.component.Component.{Component}
 
 -- Large exactly where the whole formula is too large; else Overflow exactly where a raw number leaves the range, with the
--- place of one that does; else the formula. Want of memory alone is free.
+-- place of one that does; else the formula. Running out of memory alone is free.
 abbrev pub Encodes : Traced Form → Result Core EncodeRefusal → Type 0
 Encodes work (Ok f) = (is_large work.value ≡ false) × Made form work (Ok f)
 Encodes work (Err Large) = is_large work.value ≡ true

@@ -21,6 +21,6 @@ action_of (code.Predicate plus p k) = predicate plus p k
 abbrev pub actions_of : List Instruction → List Action
 actions_of = map action_of
 
--- behind the old actions come those that f puts before others
+-- after the old actions come those that f puts before others
 pub record FollowsActions (old new : List Action) (f : List Action → List Action) : Type 0 where
   pub is : (more : List Action) → new ++ more ≡ old ++ f more

@@ -24,7 +24,7 @@ abbrev pub tested : List ℕ → ℕ → Test → Bool → Traced Form
 tested at n (test.Formula g) plus = encoded at n plus (formula g.now)
 tested at n (test.Relation r a b) plus = related (signed_relation plus r) a b
 
--- the formula that a stop makes, with the actions behind it
+-- the formula that a stop makes, with the actions after it
 abbrev pub stopped : List ℕ → ℕ → List Action → Stop → Traced Form
 stopped at n c stop.Nothing = just (conjunction no_form)
 stopped at n c (stop.Related r a b) = related r a b
@@ -68,7 +68,7 @@ pub record IsStopOf (a : Action) (vs : List Linear) (s : Stop) : Type 0 where
   pub ranged : (c : List Action) → AreActionsRanged (a ∷ c) → IsStopRanged s × AreActionsRanged c
   pub weight : (c : List Action) → stop_weight s (weight_left c) ≤ weight_left (a ∷ c)
 
--- the stop and what is behind it are what the actions come to over this stack
+-- the stop and what is after it are what the actions come to over this stack
 pub record Halts (at : List ℕ) (c : List Action) (vs : List Linear) (s : Stop) (more : List Action) : Type 0 where
   pub works : (n : ℕ) (r : Result Form StepFault) → Worked (stopped at n more s) r → Worked (ran at c n vs) r
   pub extent : stop_extent s (extent_left more) ≡ extent_left c

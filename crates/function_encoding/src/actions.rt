@@ -65,7 +65,7 @@ fn summed(alloc: Global, subtracted: bool, mut stack: Items<Term>) -> Result<Ite
     Ok(with_last(stack, value)?)
 }
 
-/// The stack behind a simple instruction; another one leaves it as it is.
+/// The stack after a simple instruction; another one leaves it as it is.
 pub fn acted(
     alloc: Global,
     at: &[u32],

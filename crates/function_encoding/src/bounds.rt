@@ -127,7 +127,7 @@ fn limit(alloc: Global, all: bool, x: u32, greatest: bool, n: &i128) -> Result<C
     within(alloc, x, greatest, n)
 }
 
-/// The formulas with that one behind them.
+/// The formulas with that one after them.
 fn with_limit(
     alloc: Global,
     all: bool,
@@ -146,7 +146,7 @@ fn with_limit(
     Ok(all_formulas)
 }
 
-/// The formulas with the limits of the name x of this type behind them.
+/// The formulas with the limits of the name x of this type after them.
 pub fn limits(
     alloc: Global,
     all: bool,

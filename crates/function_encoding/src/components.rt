@@ -24,7 +24,7 @@ fn contains(set: &[u32], k: u32) -> bool
     false
 }
 
-/// Those of a formula that stands with this sign, true for plus, behind others.
+/// Those of a formula that stands with this sign, true for plus, after others.
 #[cycle(components)]
 fn collect<'a>(
     plus: bool,

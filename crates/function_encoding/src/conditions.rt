@@ -38,7 +38,7 @@ fn is_kept(all: bool, marks: &[bool], x: usize) -> bool
     all || is_marked(marks, x)
 }
 
-/// The formulas, with the conditions of the name x behind them, where it is kept.
+/// The formulas, with the conditions of the name x after them, where it is kept.
 fn with_kept(
     alloc: Global,
     kept: bool,
@@ -55,7 +55,7 @@ fn with_kept(
     Ok(out)
 }
 
-/// The formulas, with the conditions of the names of these types behind them, from the name `first` on: of all of them, or
+/// The formulas, with the conditions of the names of these types after them, from the name `first` on: of all of them, or
 /// else of those that are marked.
 pub fn conditions(
     alloc: Global,
@@ -77,7 +77,7 @@ pub fn conditions(
     Ok(formulas)
 }
 
-/// Formulas behind the conditions of a name, where it is kept.
+/// Formulas after the conditions of a name, where it is kept.
 fn behind_kept(kept: bool, sort: &Sort, e: Extent) -> Extent
     ensures { counted result ≡ behind_atoms (cond kept (length (encoding.bounds sort.now)) 0) (counted e) }
 {
@@ -87,7 +87,7 @@ fn behind_kept(kept: bool, sort: &Sort, e: Extent) -> Extent
     e
 }
 
-/// Formulas behind the conditions of the names of these types, of all of them, or else of those that are marked.
+/// Formulas after the conditions of the names of these types, of all of them, or else of those that are marked.
 pub fn behind_conditions(
     all: bool,
     marks: &[bool],

@@ -65,7 +65,7 @@ fn in_both(condition: Extent, rest: Extent) -> Extent
     above_two(case, case)
 }
 
-/// Formulas behind the conditions of a type.
+/// Formulas after the conditions of a type.
 pub fn behind(sort: &Sort, e: Extent) -> Extent
     ensures { counted result ≡ extents_of.behind_atoms (length (bounds sort.now)) (counted e) }
 {
@@ -121,7 +121,7 @@ fn extents(formulas: &[Typed]) -> Extent
     all
 }
 
-/// The extent of the rest, behind a term.
+/// The extent of the rest, after a term.
 #[cycle(extent)]
 fn extent_with(term: &TypedTerm, rest: Extent) -> Extent
     ensures { counted result ≡ extents_of.extent_with (expression term.now) (counted rest) }
@@ -143,7 +143,7 @@ fn extent_with(term: &TypedTerm, rest: Extent) -> Extent
     }
 }
 
-/// The same behind several terms, from the last one back.
+/// The same after several terms, from the last one back.
 #[cycle(extent)]
 fn extents_with(terms: &[TypedTerm], rest: Extent) -> Extent
     ensures { counted result ≡ extents_of.extents_with (expressions_of terms.now) (counted rest) }

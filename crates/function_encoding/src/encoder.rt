@@ -224,7 +224,7 @@ fn run(
     }
 }
 
-/// What the instructions make of the value of a function, behind its graph.
+/// What the instructions make of the value of a function, after its graph.
 #[cycle(encode)]
 fn graph(
     alloc: Global,

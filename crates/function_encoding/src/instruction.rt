@@ -12,7 +12,7 @@ pub enum Instruction<'a> {
     Multiply(bool),
     /// The second of two terms is subtracted, or added.
     Add(bool),
-    /// A function, by its number, of so many arguments.
+    /// A function, by its number, of this many arguments.
     Call(u32, usize),
     /// The first of two terms where the formula is true, else the second.
     Choose(&'a Typed),
@@ -20,6 +20,6 @@ pub enum Instruction<'a> {
     /// The first of two terms where it stands in this relation to the second, else the second.
     Extreme(Relation),
     Relate(Relation),
-    /// A predicate, by its number, with plus (true) or minus, of so many arguments.
+    /// A predicate, by its number, with plus (true) or minus, of this many arguments.
     Predicate(bool, u32, usize),
 }

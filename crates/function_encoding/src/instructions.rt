@@ -20,7 +20,7 @@ fn put<'a>(code: &mut Items<Instruction<'a>>, instruction: Instruction<'a>) -> R
     Ok(code.push(instruction)?)
 }
 
-/// The instructions that finish the term, behind others.
+/// The instructions that finish the term, after others.
 #[cycle(compile)]
 fn compile<'a>(term: &'a TypedTerm, code: &mut Items<Instruction<'a>>) -> Result<(), Memory>
     ensures { OnOk result (FollowsActions (actions_of code.old) (actions_of code.new) (compiled (expression term.now))) }
@@ -50,7 +50,7 @@ fn compile<'a>(term: &'a TypedTerm, code: &mut Items<Instruction<'a>>) -> Result
     }
 }
 
-/// The instructions that finish the term, and one more instruction, behind others.
+/// The instructions that finish the term, and one more instruction, after others.
 #[cycle(compile)]
 fn compile_one<'a>(
     term: &'a TypedTerm,
@@ -63,7 +63,7 @@ fn compile_one<'a>(
     put(code, last)
 }
 
-/// The instructions that finish two terms, and one more instruction, behind others.
+/// The instructions that finish two terms, and one more instruction, after others.
 #[cycle(compile)]
 fn compile_two<'a>(
     s: &'a TypedTerm,
@@ -77,7 +77,7 @@ fn compile_two<'a>(
     compile_one(t, last, code)
 }
 
-/// The instructions that finish the terms, and one more instruction, behind others.
+/// The instructions that finish the terms, and one more instruction, after others.
 #[cycle(compile)]
 fn compile_call<'a>(
     terms: &'a [TypedTerm],
@@ -111,7 +111,7 @@ fn compile_sum<'a>(terms: &'a [TypedTerm], code: &mut Items<Instruction<'a>>) ->
     compile_more(others, code)
 }
 
-/// The instructions of the further members of a sum, behind others.
+/// The instructions of the further members of a sum, after others.
 #[cycle(compile)]
 fn compile_more<'a>(terms: &'a [TypedTerm], code: &mut Items<Instruction<'a>>) -> Result<(), Memory>
     ensures { OnOk result (FollowsActions (actions_of code.old) (actions_of code.new) (compiled_more (expressions_of terms.now))) }

@@ -161,7 +161,7 @@ fn mark_all_parts(plus: bool, formulas: &[Typed], set: &[u32], marks: &mut [bool
     }
 }
 
-/// So many marks, none of them set.
+/// This many marks, none of them set.
 fn no_marks(alloc: Global, n: usize) -> Result<Vec<bool>, AllocError>
     ensures { IfOk result (λ marks. marks.items ≡ replicate n false) }
 {

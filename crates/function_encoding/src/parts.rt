@@ -42,7 +42,7 @@ use sqlite_items::Items;
 use std::alloc::Global;
 
 /// What the parts with these numbers assume, over all constants of the problem: one flat conjunction of what their
-/// components assume, in the order of the file, a component that stands with plus by its negation, and behind them of the
+/// components assume, in the order of the file, a component that stands with plus by its negation, and after them of the
 /// conditions of the constants that occur in it. Large and Overflow come as `encode` says, for this conjunction.
 pub fn encode_parts(alloc: Global, p: &Problem, set: &[u32]) -> Result<Core, EncodeRefusal>
     requires { IsWellFormed p.now }
@@ -73,7 +73,7 @@ fn extent_of_conditions(p: &Problem, marks: &[bool]) -> Extent
     behind_conditions(false, marks, 0, p.existential_types.as_slice(), last)
 }
 
-/// The extent of the conjunction of what these components assume, with others behind them.
+/// The extent of the conjunction of what these components assume, with others after them.
 fn extent_of_all(components: &[Component], others: Extent) -> Extent
     ensures { counted result ≡ extents.above (extents_before (all_assumed components.now) (counted others)) }
 {
@@ -107,7 +107,7 @@ fn all_of(
     Ok(junction(true, all))
 }
 
-/// The formulas, with the conditions of the constants that are marked behind them.
+/// The formulas, with the conditions of the constants that are marked after them.
 fn all_conditions(
     alloc: Global,
     p: &Problem,

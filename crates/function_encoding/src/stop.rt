@@ -13,7 +13,7 @@ pub enum Test<'a> {
     Relation(Relation, Term, Term),
 }
 
-/// What comes behind simple instructions.
+/// What comes after simple instructions.
 #[derive(Drop)]
 pub enum Stop<'a> {
     /// No instruction is left.
@@ -27,7 +27,7 @@ pub enum Stop<'a> {
     Cases(Test<'a>, Items<Term>, bool, Items<Term>),
 }
 
-/// A stop, and the instructions behind it.
+/// A stop, and the instructions after it.
 #[derive(Drop)]
 pub struct Halt<'a> {
     pub stop: Stop<'a>,

@@ -1,4 +1,4 @@
-// What comes behind the simple instructions at the head of a list.
+// What comes after the simple instructions at the head of a list.
 
 ghost use Rattle.std.specs.Prelude.{◌≡◌, ◌<◌, ◌+◌, false, cond, ℕ, drop, length, Err, IfOk, IfErr, reverse};
 ghost use Rattle.base_budget.specs.Trace.{just};

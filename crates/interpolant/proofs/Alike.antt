@@ -21,7 +21,7 @@ record Agree (x : ℕ) (e d : List ℤ) : Type 0 where
 agree_back : {x : ℕ} {e d : List ℤ} → Agree x e d → Agree x d e
 agree_back a = record { long = sym a.long; same = λ y n. sym (a.same y n) }
 
--- the entries of two lists with one more value behind them
+-- the entries of two lists with one more value after them
 entries_more : (e d : List ℤ) (v : ℤ) (y : ℕ) → length e ≡ length d → entry e y ≡ entry d y → entry (e ++ v ∷ []) y ≡ entry (d ++ v ∷ []) y
 entries_more [] [] v y l h = refl
 entries_more [] (b ∷ d) v y l h = absurd (omega (arith, l))

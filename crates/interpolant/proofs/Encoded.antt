@@ -50,7 +50,7 @@ name-lacks : (x y : ℕ) → x ≢ y → mentions (linear.name y) x ≡ false
 unfolding mentions
 name-lacks x y n = let e : nat_eq y x ≡ false = grind (arith, nat_tests) in ap (λ b. cond b true false) e
 
--- the names other than x of a formula stand for terms without x, and new names come behind it
+-- the names other than x of a formula stand for terms without x, and new names come after it
 record Sends (x : ℕ) (at : List ℕ) (n : ℕ) : Type 0 where
   behind : x < n
   lack : (y : ℕ) → x ≢ y → mentions (named at y) x ≡ false

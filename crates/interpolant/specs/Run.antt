@@ -62,7 +62,7 @@ abbrev pub without_log : {A : Type 0} → Result A ElimFault → Result A StepFa
 without_log (Ok v) = Ok v
 without_log (Err f) = Err (cause_of f)
 
--- the fault carries this log; want of memory carries none
+-- the fault carries this log; running out of memory carries none
 abbrev pub IsFaultLog : ElimFault → List Entry → Type 0
 IsFaultLog (Steps log) es = log.entries ≡ es
 IsFaultLog (Overflow log p) es = log.entries ≡ es

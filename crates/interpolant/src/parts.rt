@@ -71,7 +71,7 @@ pub fn between_sides(
     between_parts(alloc, p, before.as_slice(), behind.as_slice(), purse)
 }
 
-// The numbers of several sets, in their order. Want of memory counts as the encoding's.
+// The numbers of several sets, in their order. Running out of memory counts as the encoding's.
 fn part_numbers(alloc: Global, sets: &[Items<u32>]) -> Result<Vec<u32>, EncodeRefusal>
     ensures whole { IfOk result (λ v. v.items ≡ concat sets.now) }
     ensures memory { IfErr result (λ refusal. refusal ≡ Memory) }
@@ -79,7 +79,7 @@ fn part_numbers(alloc: Global, sets: &[Items<u32>]) -> Result<Vec<u32>, EncodeRe
     Ok(together(alloc, sets)?)
 }
 
-/// The numbers of several sets, in their order. Returns the error if memory is wanting.
+/// The numbers of several sets, in their order. Returns the error if memory runs out.
 pub fn together(alloc: Global, sets: &[Items<u32>]) -> Result<Vec<u32>, linear_term::Memory>
     ensures { IfOk result (λ v. v.items ≡ concat sets.now) }
 {

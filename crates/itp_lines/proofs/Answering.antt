@@ -281,7 +281,7 @@ concat_join : (xs ys : List (List ℕ)) → concat (xs ++ ys) ≡ concat xs ++ c
 concat_join [] ys = refl
 concat_join (x ∷ xs) ys = ap (λ z. x ++ z) (concat_join xs ys) ∙ sym (append_assoc x (concat xs) (concat ys))
 
--- what is left of the seams: with the lines for the rest the text is whole, and behind them the purse is as it will be
+-- what is left of the seams: with the lines for the rest the text is whole, and after them the purse is as it will be
 pub record Goes (p : Problem) (bs : List Seam) (now : Funds) (text : List ℕ) (all : List Seam) (old : Funds) : Type 0 where
   pub goes : (rest : List (List ℕ)) → AreLines p bs now rest → IsLinesText p all old (text ++ concat rest)
   pub left : after_lines p bs now ≡ after_lines p all old
@@ -314,7 +314,7 @@ goes_left p bs now old text all none h = ap (λ xs. after_lines p xs now) (sym n
 
 -- ---- the seams that are left
 
--- those of a block from a place on, and the ones behind it
+-- those of a block from a place on, and the ones after it
 pub seams_next : (b : Cut) (n at : ℕ) → at < n → seams_from b at (n - at) ≡ record { cut = b; at = at } ∷ seams_from b (at + 1) (n - (at + 1))
 seams_next b n at lt =
     let less : n - at ≡ suc (n - (at + 1)) = omega (arith, lt) in

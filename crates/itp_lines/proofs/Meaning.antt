@@ -124,7 +124,7 @@ case_says p s = by (is_empty (symbols_in (before p s))) refl (is_within (before 
     by false e false f true g = g
     by false e false f false g = tt
 
--- a seam of a block of the problem, with a set behind it
+-- a seam of a block of the problem, with a set after it
 record IsInside (p : Problem) (s : Seam) : Type 0 where
   among : Contains p.cuts s.cut
   below : s.at < length s.cut.sets

@@ -76,7 +76,7 @@ below_true w p f i g b v t h = b.follows v t h
 pub above_true : (w : Meaning) (p : Problem) (f i g : Formula) → Separates w p f i g → (v : List ℤ) → AreTyped p v → Truth w (contradicts i g) v
 above_true w p f i g b v t h = absurd (b.contradicts v t h.0 h.1.0)
 
--- ---- the budget behind the obligations
+-- ---- the budget after the obligations
 pub obligations_budget : (p : Problem) (cut at : ℕ) (old new : Funds) (o : Obligations) (n : ℕ) → MakesObligations p cut at old (Ok o) new → old.budget < n → new.budget < n
 obligations_budget p cut at old new o n h lt = by (case_of p (cut_of p cut) at) o.formula h.0
   where

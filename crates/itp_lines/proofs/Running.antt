@@ -36,7 +36,7 @@ use Rattle.itp_lines.specs.Runs.{FindsTree as FindsTree, MakesMiddle, StopsRun}
 use Rattle.itp_lines.specs.Ends.{Cause, steps, overflow, symbols, branch, large, LineEnd, prints, tells, above_by, below_by, formula_by, found_by, middle_by, normal_end, proof_ended, run_ended, seam_end, seam_run, stays, then_encoded, then_proved}
 use Rattle.itp_lines.specs.Seams.{Seam, before, behind}
 
--- what a fault tells; want of memory tells nothing
+-- what a fault tells; running out of memory tells nothing
 abbrev pub cause_of : MiddleFault → Cause
 cause_of fault.Symbols = symbols
 cause_of fault.Steps = steps
@@ -91,7 +91,7 @@ run_missed p b old new (Encode (refusal.Overflow place)) small h n =
     normal_left p b old (left_stays (parts_root p (first_sets b.cut b.at)) place h.0.1) ∙ ap (tells overflow) (sym h.1)
 run_missed p b old new (Encode refusal.Memory) small h n = absurd n
 
--- ---- what comes behind a formula
+-- ---- what comes after a formula
 
 pub encoded_on : (p : Problem) (f : Formula) (c : Core) (left : Funds) → IsRootOf p f c → then_encoded p f (prints left) ≡ prints left
 encoded_on p f c left h =

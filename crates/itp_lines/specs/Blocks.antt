@@ -16,11 +16,11 @@ use Rattle.itp_lines.specs.Ends.{Cause, cause_text, formula_by, left_by, line_en
 use Rattle.itp_lines.specs.Proved.{AreObligationsProved}
 use Rattle.itp_lines.specs.Seams.{Seam, seams}
 
--- how the purse stands behind the line of a seam
+-- how the purse stands after the line of a seam
 abbrev pub after_line : Problem → Seam → Funds → Funds
 after_line p s old = left_by (line_end p s old)
 
--- and behind several
+-- and after several
 abbrev pub after_lines : Problem → List Seam → Funds → Funds
 after_lines p [] old = old
 after_lines p (s ∷ ss) old = after_lines p ss (after_line p s old)

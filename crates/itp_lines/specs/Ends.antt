@@ -66,7 +66,7 @@ is_plainly_valid p = list_any is_plainly_true (components_of p)
 abbrev pub seam_case : Problem → Seam → Case
 seam_case p s = if is_applied p then case_of p s.cut s.at else arithmetic
 
--- the interpolant of the sets before a seam and those behind it, with its run, where the first side has no application
+-- the interpolant of the sets before a seam and those after it, with its run, where the first side has no application
 abbrev pub seam_run : Problem → Seam → Traced (List (List Literal))
 seam_run p s = interpolating p (first_sets s.cut s.at) (other_sets s.cut s.at)
 

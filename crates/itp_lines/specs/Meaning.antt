@@ -19,13 +19,13 @@ pub record Between (w : Meaning) (p : Problem) (first between second : Formula) 
   pub shares : Shares p first between second
 
 -- A formula with the same truth has a proof of each obligation: that it follows from what is assumed before a seam, and that it
--- contradicts what is assumed behind it.
+-- contradicts what is assumed after it.
 pub record IsProvedAs (w : Meaning) (p : Problem) (s : Seam) (formula : Formula) : Type 0 where
   pub made : Formula
   pub same : (e : List ℤ) → Truth w formula e ↔ Truth w made e
   pub proved : AreObligationsProved p s made
 
--- The printed x is this formula, and it stands between what is assumed before a seam and what behind it; where no component of the
+-- The printed x is this formula, and it stands between what is assumed before a seam and what after it; where no component of the
 -- problem is plainly true, it is never true together with the latter; and where the problem has predicates or functions, that it
 -- stands between the two is proved.
 pub record Interpolates (w : Meaning) (p : Problem) (s : Seam) (x : List ℕ) (formula : Formula) : Type 0 where

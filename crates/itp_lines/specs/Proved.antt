@@ -1,4 +1,4 @@
--- The proofs behind a printed interpolant of a problem with predicates or functions.
+-- The proofs after a printed interpolant of a problem with predicates or functions.
 use Rattle.std.specs.Prelude.{ℕ, List, [], length}
 use Rattle.form_typed.specs.Formula.{Formula}
 use Rattle.pri_typing.specs.declared.problem.Problem.{Problem}
@@ -16,7 +16,7 @@ pub record HasProvingTree (p : Problem) (f : Formula) : Type 0 where
   pub charges : ℕ
   pub proves : Proves (obligation_root p f).value (length p.existentials) tree conclusion charges (verdict.Valid [])
 
--- one tree proves that the formula follows from what is assumed before a seam, and one that it contradicts what is assumed behind it
+-- one tree proves that the formula follows from what is assumed before a seam, and one that it contradicts what is assumed after it
 pub record AreObligationsProved (p : Problem) (s : Seam) (f : Formula) : Type 0 where
   pub below : HasProvingTree p (follows (before p s) f)
   pub above : HasProvingTree p (contradicts f (behind p s))

@@ -36,7 +36,7 @@ abbrev pub FindsTree : Problem → Formula → Funds → Tree → Funds → Type
 FindsTree p f old t new =
     (ms : List Mark) × (x : Proof) × (run_end p f old ≡ ends_with (valid [] x) (at new ms)) × IsTree (obligation_root p f).value (length p.existentials) x (Solution []) t
 
--- the run ends early with this fault: the budget ends, a number leaves the range, or a branch is too long; want of memory alone may
+-- the run ends early with this fault: the budget ends, a number leaves the range, or a branch is too long; running out of memory alone may
 -- come anywhere
 abbrev pub StopsRun : Problem → Formula → Funds → MiddleFault → Funds → Type 0
 StopsRun p f old fault.Steps new = (ms : List Mark) × (run_end p f old ≡ out_of_steps (at new ms))

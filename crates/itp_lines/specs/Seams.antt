@@ -5,7 +5,7 @@ use Rattle.pri_typing.specs.declared.problem.Cut.{Cut}
 use Rattle.pri_typing.specs.declared.problem.Problem.{Problem}
 use Rattle.itp_sides.specs.Sides.{first_side, other_side, set_side}
 
--- a place between the sets of a block: so many sets stand before it
+-- a place between the sets of a block: this many sets stand before it
 pub record Seam : Type 0 where
   pub cut : Cut
   pub at : ℕ
@@ -14,11 +14,11 @@ pub record Seam : Type 0 where
 abbrev pub before : Problem → Seam → Formula
 before p s = first_side p s.cut s.at
 
--- what those behind it assume
+-- what those after it assume
 abbrev pub behind : Problem → Seam → Formula
 behind p s = other_side p s.cut s.at
 
--- what the set right behind it assumes
+-- what the set right after it assumes
 abbrev pub set_behind : Problem → Seam → Formula
 set_behind p s = set_side p s.cut s.at
 

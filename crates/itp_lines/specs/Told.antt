@@ -13,7 +13,7 @@ use Rattle.pred_interpolant.specs.declared.fault.MiddleFormula.TheVariants.{Arit
 use Rattle.pri_lines.specs.Constraint.{IsLineOf, interpolant_line}
 use Rattle.itp_lines.specs.Blocks.{IsTypedText, unknown_line}
 
--- the text is what the call for a run has met; there is none where memory was wanting
+-- the text is what the call for a run has met; there is none where memory runs out
 abbrev pub IsFaultText : InterpolantFault → List ℕ → Type 0
 IsFaultText (Elim (elimination.Steps log)) text = text ≡ codes "steps"
 IsFaultText (Elim (elimination.Overflow log place)) text = text ≡ codes "overflow"
@@ -26,7 +26,7 @@ IsFaultText (Encode refusal.Memory) text = ⊥
 abbrev pub TellsInterpolantFault : InterpolantFault → List ℕ → Type 0
 TellsInterpolantFault fault text = (cause : List ℕ) × IsFaultText fault cause × (text ≡ unknown_line cause)
 
--- the text is what the call for a formula with two proofs has met; there is none where memory was wanting
+-- the text is what the call for a formula with two proofs has met; there is none where memory runs out
 abbrev pub IsMiddleCause : MiddleFault → List ℕ → Type 0
 IsMiddleCause fault.Symbols text = text ≡ codes "symbols"
 IsMiddleCause fault.Steps text = text ≡ codes "steps"

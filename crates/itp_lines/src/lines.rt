@@ -23,7 +23,7 @@ use pri_typing::{Cut, Problem};
 use std::alloc::Global;
 
 /// The lines of all `\interpolant` blocks of a problem that holds and whose encoding is not too large, in their order; each is
-/// of work on the purse as the ones before left it. The one error is want of memory.
+/// of work on the purse as the ones before left it. The one error is running out of memory.
 pub fn interpolant_lines(alloc: Global, p: &Problem, purse: &mut Purse) -> Result<Vec<u8>, Memory>
     requires well_formed { IsWellFormed p.now }
     requires distinct { HasDistinctNames p.now }
@@ -70,7 +70,7 @@ fn block_lines(
     Ok(text)
 }
 
-// The line of the place behind the first `at` sets of the block with this number.
+// The line of the place after the first `at` sets of the block with this number.
 fn seam_line(
     alloc: Global,
     p: &Problem,

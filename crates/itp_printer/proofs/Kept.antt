@@ -4,7 +4,7 @@ use Rattle.form_typed.specs.Formula.{Formula, Formulas, Expression, Expressions,
 use Rattle.form_encoding.specs.Occurrences.{names_in, names_in_all, names_in_term, names_in_terms}
 use Rattle.itp_printer.specs.Plain.{plain, plain_all, plain_term, plain_terms, joined, summed}
 
--- two lists behind one another
+-- two lists after one another
 both : {A : Type 0} {a b c d : List A} → a ≡ b → c ≡ d → (a ++ c) ≡ (b ++ d)
 both h k = λ i. h i ++ k i
 

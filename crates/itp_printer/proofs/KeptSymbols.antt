@@ -4,7 +4,7 @@ use Rattle.form_typed.specs.Formula.{Formula, Formulas, Expression, Expressions,
 use Rattle.itp_sides.specs.Symbols.{symbols_in, symbols_in_all, symbols_in_term, symbols_in_terms}
 use Rattle.itp_printer.specs.Plain.{plain, plain_all, plain_term, plain_terms, joined, summed}
 
--- two lists behind one another
+-- two lists after one another
 both : {A : Type 0} {a b c d : List A} → a ≡ b → c ≡ d → (a ++ c) ≡ (b ++ d)
 both h k = λ i. h i ++ k i
 

@@ -1,4 +1,4 @@
--- Levels, texts behind one another, and lines of the grammar with one operand.
+-- Levels, texts after one another, and lines of the grammar with one operand.
 use Rattle.std.proofs.Common.{ℕ, suc, ◌≡◌, ◌≤◌, true, List, [], ◌∷◌, ◌++◌, ap, ◌∙◌, arith, append_assoc}
 use Rattle.pri_tokens.specs.declared.terminals.Lexeme.{Lexeme}
 use Rattle.pri_reader.specs.declared.tree.Expr.{Expr}
@@ -30,7 +30,7 @@ lifted m n part Q text l h = record {
   wherever = λ s d rest a e p. h.wherever s d rest (record { numerals = a.numerals; levels = λ after k small. a.levels after k (omega arith) }) e p;
 }
 
--- a text behind another one and a sign
+-- a text after another one and a sign
 pub behind_sign : (bytes left sign more : List ℕ) → Ends bytes (left ++ (sign ++ more)) → Ends bytes more
 behind_sign bytes left sign more e = ends_behind bytes sign more (ends_behind bytes left (sign ++ more) e)
 

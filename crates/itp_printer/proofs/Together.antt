@@ -28,7 +28,7 @@ constant_is p x h = ap (λ c. cond c (get_or (constants_of p) x []) (variable_te
 pub variable_is : (p : Problem) (x : ℕ) → length (constants_of p) ≤ x → name_text p x ≡ variable_name (variable_number p (x - length (constants_of p)))
 variable_is p x h = ap (λ c. cond c (get_or (constants_of p) x []) (variable_text p (x - length (constants_of p)))) (less_is_not x (length (constants_of p)) h)
 
--- One text behind another.
+-- One text after another.
 
 pub two_texts : (o0 o1 o2 a b e : List ℕ) → o1 ≡ o0 ++ a → o2 ≡ o1 ++ b → e ≡ a ++ b → o2 ≡ o0 ++ e
 two_texts o0 o1 o2 a b e h k m = k ∙ ap (λ o. o ++ b) h ∙ append_assoc o0 a b ∙ ap (λ z. o0 ++ z) (sym m)

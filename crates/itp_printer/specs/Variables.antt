@@ -9,7 +9,7 @@ use Rattle.pri_typing.specs.WellFormed.{names_of_symbols}
 abbrev pub variable_name : ℕ → List ℕ
 variable_name n = codes "v" ++ decimal n
 
--- the first number from n on, of so many, whose name is not among these
+-- the first number from n on, of this many, whose name is not among these
 abbrev pub free_from : ℕ → ℕ → List (List ℕ) → ℕ
 free_from zero n names = n
 free_from (suc more) n names = cond (is_among (variable_name n) names) (free_from more (suc n) names) n

@@ -19,7 +19,7 @@ use linear_term::Memory;
 use pri_typing::Problem;
 use std::alloc::Global;
 
-/// Puts a formula behind a text.
+/// Puts a formula after a text.
 #[cycle(printing)]
 pub(crate) fn put_formula(
     alloc: Global,
@@ -74,7 +74,7 @@ pub(crate) fn put_formula(
     }
 }
 
-/// Puts a formula in parentheses behind a text.
+/// Puts a formula in parentheses after a text.
 #[cycle(printing)]
 pub(crate) fn put_grouped(
     alloc: Global,
@@ -96,7 +96,7 @@ pub(crate) fn put_grouped(
     Ok(())
 }
 
-/// Puts a conjunction or a disjunction behind a text.
+/// Puts a conjunction or a disjunction after a text.
 #[cycle(printing)]
 fn put_chain(
     alloc: Global,
@@ -122,7 +122,7 @@ fn put_chain(
     put_members(alloc, p, numbers, depth, all, formulas, out)
 }
 
-/// Puts formulas behind a text, one behind the other.
+/// Puts formulas after a text, one after the other.
 #[cycle(printing)]
 fn put_only(
     alloc: Global,
@@ -144,7 +144,7 @@ fn put_only(
     Ok(())
 }
 
-/// Puts formulas in parentheses behind a text, with the sign of a conjunction or a disjunction between each two.
+/// Puts formulas in parentheses after a text, with the sign of a conjunction or a disjunction between each two.
 #[cycle(printing)]
 fn put_members(
     alloc: Global,

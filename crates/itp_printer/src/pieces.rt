@@ -15,7 +15,7 @@ use linear_term::Memory;
 use pri_typing::{Problem, Symbol};
 use std::alloc::Global;
 
-/// Puts the digits of a number behind a text.
+/// Puts the digits of a number after a text.
 pub(crate) fn put_number(alloc: Global, n: u128, out: &mut Vec<u8>) -> Result<(), Memory>
     ensures { OnOk result (out.new.items ≡ out.old.items ++ decimal n) }
 {
@@ -24,7 +24,7 @@ pub(crate) fn put_number(alloc: Global, n: u128, out: &mut Vec<u8>) -> Result<()
     Ok(())
 }
 
-/// Puts a number with its sign behind a text.
+/// Puts a number with its sign after a text.
 pub(crate) fn put_signed(alloc: Global, n: &i128, out: &mut Vec<u8>) -> Result<(), Memory>
     ensures { OnOk result (out.new.items ≡ out.old.items ++ signed_decimal n.now) }
 {
@@ -33,7 +33,7 @@ pub(crate) fn put_signed(alloc: Global, n: &i128, out: &mut Vec<u8>) -> Result<(
     Ok(())
 }
 
-/// Puts the name of a bound variable behind a text.
+/// Puts the name of a bound variable after a text.
 pub(crate) fn put_variable(alloc: Global, number: u128, out: &mut Vec<u8>) -> Result<(), Memory>
     ensures { OnOk result (out.new.items ≡ out.old.items ++ variable_name number) }
 {
@@ -54,7 +54,7 @@ fn constant_name(p: &Problem, x: usize) -> &[u8]
     }
 }
 
-/// Puts a name behind a text: that of a constant, or of a bound variable.
+/// Puts a name after a text: that of a constant, or of a bound variable.
 pub(crate) fn put_name(
     alloc: Global,
     p: &Problem,
@@ -83,7 +83,7 @@ pub(crate) fn symbol_name(symbols: &[Symbol], k: usize) -> &[u8]
     symbols[k].name.as_slice()
 }
 
-/// Puts the sign of a relation behind a text.
+/// Puts the sign of a relation after a text.
 pub(crate) fn put_relation(r: Relation, out: &mut Vec<u8>) -> Result<(), Memory>
     ensures { OnOk result (out.new.items ≡ out.old.items ++ relation_text r) }
 {
@@ -98,7 +98,7 @@ pub(crate) fn put_relation(r: Relation, out: &mut Vec<u8>) -> Result<(), Memory>
     Ok(())
 }
 
-/// Puts `true` or `false` behind a text.
+/// Puts `true` or `false` after a text.
 pub(crate) fn put_truth(b: bool, out: &mut Vec<u8>) -> Result<(), Memory>
     ensures { OnOk result (out.new.items ≡ out.old.items ++ truth_text b) }
 {
@@ -110,7 +110,7 @@ pub(crate) fn put_truth(b: bool, out: &mut Vec<u8>) -> Result<(), Memory>
     Ok(())
 }
 
-/// Puts the sign of a conjunction or a disjunction behind a text, where something stands before it.
+/// Puts the sign of a conjunction or a disjunction after a text, where something stands before it.
 pub(crate) fn put_joint(all: bool, started: bool, out: &mut Vec<u8>) -> Result<(), Memory>
     ensures { OnOk result (out.new.items ≡ out.old.items ++ cond started (joint_text all) []) }
 {
@@ -125,7 +125,7 @@ pub(crate) fn put_joint(all: bool, started: bool, out: &mut Vec<u8>) -> Result<(
     Ok(())
 }
 
-/// Puts a comma behind a text, where something stands before it.
+/// Puts a comma after a text, where something stands before it.
 pub(crate) fn put_comma(started: bool, out: &mut Vec<u8>) -> Result<(), Memory>
     ensures { OnOk result (out.new.items ≡ out.old.items ++ cond started (codes ", ") []) }
 {
@@ -135,7 +135,7 @@ pub(crate) fn put_comma(started: bool, out: &mut Vec<u8>) -> Result<(), Memory>
     Ok(())
 }
 
-/// Puts a plus behind a text, where something stands before it.
+/// Puts a plus after a text, where something stands before it.
 pub(crate) fn put_plus(started: bool, out: &mut Vec<u8>) -> Result<(), Memory>
     ensures { OnOk result (out.new.items ≡ out.old.items ++ cond started (codes " + ") []) }
 {
@@ -145,7 +145,7 @@ pub(crate) fn put_plus(started: bool, out: &mut Vec<u8>) -> Result<(), Memory>
     Ok(())
 }
 
-/// Puts the type `int[a, b]` behind a text.
+/// Puts the type `int[a, b]` after a text.
 fn put_range(alloc: Global, a: &i128, b: &i128, out: &mut Vec<u8>) -> Result<(), Memory>
     ensures { OnOk result (out.new.items ≡ out.old.items ++ sort_text (Range a.now b.now)) }
 {
@@ -157,7 +157,7 @@ fn put_range(alloc: Global, a: &i128, b: &i128, out: &mut Vec<u8>) -> Result<(),
     Ok(())
 }
 
-/// Puts a type behind a text.
+/// Puts a type after a text.
 fn put_sort(alloc: Global, sort: &Sort, out: &mut Vec<u8>) -> Result<(), Memory>
     ensures { OnOk result (out.new.items ≡ out.old.items ++ sort_text sort.now) }
 {
@@ -169,7 +169,7 @@ fn put_sort(alloc: Global, sort: &Sort, out: &mut Vec<u8>) -> Result<(), Memory>
     Ok(())
 }
 
-/// Puts a quantifier behind a text.
+/// Puts a quantifier after a text.
 fn put_quantifier(all: bool, out: &mut Vec<u8>) -> Result<(), Memory>
     ensures { OnOk result (out.new.items ≡ out.old.items ++ quantifier_text all) }
 {
@@ -181,7 +181,7 @@ fn put_quantifier(all: bool, out: &mut Vec<u8>) -> Result<(), Memory>
     Ok(())
 }
 
-/// Puts a quantifier with its variable and the variable's type behind a text.
+/// Puts a quantifier with its variable and the variable's type after a text.
 pub(crate) fn put_binder(
     alloc: Global,
     all: bool,

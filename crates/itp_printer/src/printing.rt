@@ -23,7 +23,7 @@ use std::alloc::Global;
 /// conjunction, a disjunction or a sum of one as its member.
 ///
 /// Read with the symbols of the problem the text says the plain form of the formula, which is true at the same integers in
-/// every interpretation. The one error is want of memory.
+/// every interpretation. The one error is running out of memory.
 #[tactic(auto, using(crate::proofs::Truths::plain_same))]
 pub fn print_typed(alloc: Global, p: &Problem, f: &Typed) -> Result<Vec<u8>, Memory>
     requires well_formed { IsWellFormed (with_formula p.now f.now) }

@@ -19,7 +19,7 @@ use linear_term::Memory;
 use pri_typing::Problem;
 use std::alloc::Global;
 
-/// Puts a term behind a text.
+/// Puts a term after a text.
 #[cycle(printing)]
 pub(crate) fn put_term(
     alloc: Global,
@@ -77,7 +77,7 @@ pub(crate) fn put_term(
     }
 }
 
-/// Puts a term in parentheses behind a text.
+/// Puts a term in parentheses after a text.
 #[cycle(printing)]
 fn put_grouped_term(
     alloc: Global,
@@ -99,7 +99,7 @@ fn put_grouped_term(
     Ok(())
 }
 
-/// Puts a term and a comma behind a text.
+/// Puts a term and a comma after a text.
 #[cycle(printing)]
 fn put_first(
     alloc: Global,
@@ -120,7 +120,7 @@ fn put_first(
     Ok(())
 }
 
-/// Puts a term and a closing parenthesis behind a text.
+/// Puts a term and a closing parenthesis after a text.
 #[cycle(printing)]
 fn put_last(
     alloc: Global,
@@ -141,7 +141,7 @@ fn put_last(
     Ok(())
 }
 
-/// Puts arguments behind a symbol.
+/// Puts arguments after a symbol.
 #[cycle(printing)]
 pub(crate) fn put_arguments(
     alloc: Global,
@@ -166,7 +166,7 @@ pub(crate) fn put_arguments(
     Ok(())
 }
 
-/// Puts terms behind a text, with a comma between each two.
+/// Puts terms after a text, with a comma between each two.
 #[cycle(printing)]
 fn put_listed(
     alloc: Global,
@@ -191,7 +191,7 @@ fn put_listed(
     Ok(())
 }
 
-/// Puts a sum behind a text.
+/// Puts a sum after a text.
 #[cycle(printing)]
 fn put_sum(
     alloc: Global,
@@ -217,7 +217,7 @@ fn put_sum(
     put_addends(alloc, p, numbers, depth, terms, out)
 }
 
-/// Puts terms behind a text, one behind the other.
+/// Puts terms after a text, one after the other.
 #[cycle(printing)]
 fn put_only_term(
     alloc: Global,
@@ -239,7 +239,7 @@ fn put_only_term(
     Ok(())
 }
 
-/// Puts terms in parentheses behind a text, with a plus between each two.
+/// Puts terms in parentheses after a text, with a plus between each two.
 #[cycle(printing)]
 fn put_addends(
     alloc: Global,

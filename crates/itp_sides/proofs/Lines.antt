@@ -136,7 +136,7 @@ false_by : (b : Bool) → (b ≡ true → ⊥) → b ≡ false
 false_by true f = absurd (f refl)
 false_by false f = refl
 
--- once the negation of the second side stands between two sides, it does behind every later set
+-- once the negation of the second side stands between two sides, it does after every later set
 rises : (f g h k : Formula) → ((a : Bool × ℕ) → uses f a ≡ true → uses h a ≡ true) → ((a : Bool × ℕ) → uses k a ≡ true → uses g a ≡ true)
     → case_between f g ≡ second_denied → case_between h k ≡ second_denied
 rises f g h k up down c =

@@ -11,7 +11,7 @@ use Rattle.form_typed.proofs.Values.{value_more}
 use Rattle.form_encoding.specs.Occurrences.{names_in, names_in_all, names_in_term, names_in_terms}
 use Rattle.itp_sides.specs.Closing.{renamed, renamed_all, renamed_term, renamed_terms}
 
--- the names behind those of e go behind those of d
+-- the names after those of e go after those of d
 abbrev pub GoesBehind : (ℕ → ℕ) → List ℤ → List ℤ → Type 0
 GoesBehind r e d = (x : ℕ) → length e ≤ x → r x ≡ (x - length e) + length d
 

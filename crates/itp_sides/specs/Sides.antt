@@ -1,4 +1,4 @@
--- The two sides of a cut behind its first j sets, and which formula stands between them.
+-- The two sides of a cut after its first j sets, and which formula stands between them.
 use Rattle.std.specs.Prelude.{ℕ, cond, List, [], take, drop, slice_index_or}
 use Rattle.std.specs.List.{concat}
 use Rattle.form_typed.specs.Formula.{Formula}
@@ -45,7 +45,7 @@ pub data Case : Type 0 where
 abbrev pub case_between : Formula → Formula → Case
 case_between f g = cond (is_empty (symbols_in f)) arithmetic (cond (is_within f g) first_itself (cond (is_within g f) second_denied none))
 
--- which one behind the first j sets of a cut
+-- which one after the first j sets of a cut
 abbrev pub case_of : Problem → Cut → ℕ → Case
 case_of p cut j = case_between (first_side p cut j) (other_side p cut j)
 
@@ -56,6 +56,6 @@ StandsBy w p f g c first_itself = IsStrongest w p f g c
 StandsBy w p f g c second_denied = IsWeakest w p f g c
 StandsBy w p f g c none = ⊥
 
--- and behind the first j sets of a cut
+-- and after the first j sets of a cut
 abbrev pub Stands : Meaning → Problem → Cut → ℕ → Condition → Type 0
 Stands w p cut j c = StandsBy w p (first_side p cut j) (other_side p cut j) c (case_of p cut j)

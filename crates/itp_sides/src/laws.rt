@@ -52,9 +52,9 @@ pub fn neighbours_law()
         → IsWeakest w p wider narrower (Truth w j) → Leads w p (Truth w i) between (Truth w j) }
 {}
 
-/// Where a problem holds and no component is plainly true, the two sides of a cut behind any of its sets are never true together;
+/// Where a problem holds and no component is plainly true, the two sides of a cut after any of its sets are never true together;
 /// then a formula that stands between them by its case follows from the first side, and contradicts the second. Once the
-/// negation of the second side stands between two sides, it does behind every later set.
+/// negation of the second side stands between two sides, it does after every later set.
 pub fn sides_law()
     ensures apart { (w : Meaning) (p : Problem) (cut : Cut) (j : ℕ) → IsWellFormed p → p.existentials ≡ [] → Contains p.cuts cut
         → ¬ (IsPlainlyValid p) → Holds w p [] → Contradict w p (first_side p cut j) (other_side p cut j) }

@@ -102,7 +102,7 @@ name_same m n e = ap (drop 15) (append_cancel_right (codes "refused proof: " ++ 
 pub letters_same : (a : Answer) (m n : List ℕ) → a ≡ refused_proof_answer m → a ≡ refused_proof_answer n → slice_index_or m 0 0 ≡ slice_index_or n 0 0
 letters_same a m n e f = ap (λ t. slice_index_or t 0 0) (name_same m n (sym e ∙ f))
 
--- the numbers behind the same word are written the same
+-- the numbers after the same word are written the same
 pub numbers_same : (a : Answer) (word : List ℕ) (m n : ℕ) → a ≡ refused_proof_answer (word ++ decimal m) → a ≡ refused_proof_answer (word ++ decimal n) → decimal m ≡ decimal n
 numbers_same a word m n e f = append_cancel_left word (decimal m) (decimal n) (name_same (word ++ decimal m) (word ++ decimal n) (sym e ∙ f))
 

@@ -33,7 +33,7 @@ abbrev pub TellsVerdict : Problem → List (List Literal) → Verdict → Answer
 TellsVerdict p d (Valid vs) answer = IsCheckedValid p d vs answer
 TellsVerdict p d Invalid answer = answer ≡ says_line 0 (codes "CHECKED INVALID")
 
--- the answer says why the proof is refused; none tells want of memory
+-- the answer says why the proof is refused; none tells running out of memory
 abbrev pub TellsFault : TextFault → Answer → Type 0
 TellsFault (text.Syntax at) answer = answer ≡ refused_proof_answer (codes "Syntax at " ++ decimal at)
 TellsFault (text.Deep at) answer = answer ≡ refused_proof_answer (codes "Deep at " ++ decimal at)
@@ -42,7 +42,7 @@ TellsFault (text.Range n place) answer = answer ≡ refused_proof_answer (codes 
 TellsFault (text.Cost n) answer = answer ≡ refused_proof_answer (codes "cost " ++ decimal n)
 TellsFault text.Memory answer = ⊥
 
--- the answer says why the clause proof is refused; none tells want of memory
+-- the answer says why the clause proof is refused; none tells running out of memory
 abbrev pub TellsClauseFault : ClauseFault → Answer → Type 0
 TellsClauseFault (clause.Syntax at) answer = answer ≡ refused_proof_answer (codes "Syntax at " ++ decimal at)
 TellsClauseFault (clause.Line n) answer = answer ≡ refused_proof_answer (codes "line " ++ decimal n)

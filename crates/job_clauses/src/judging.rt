@@ -33,7 +33,7 @@ pub enum Judged {
 }
 
 /// Searches a clause proof of the problem, which has no existential constants, or a model that refutes it, with this budget. A proof is
-/// checked as one in a file, and a model is evaluated, with this budget too. The one error is want of memory.
+/// checked as one in a file, and a model is evaluated, with this budget too. The one error is running out of memory.
 pub fn search_judged<X: Watch>(
     alloc: Global,
     problem: &Problem,

@@ -68,7 +68,7 @@ pub struct Counts {
     pub(crate) search: Progress,
 }
 
-/// What is told of a run behind it.
+/// What is told of a run after it.
 #[derive(Clone, Copy)]
 pub struct Statistics<'a> {
     pub counts: &'a Counts,

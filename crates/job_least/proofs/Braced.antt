@@ -65,7 +65,7 @@ problem_taken at e (grammar.block_interpolant x o m n c) is = absurd cc
 
 -- ---- the tokens of a term alone
 
--- the limits of a file do not look behind
+-- the limits of a file do not look after
 still_loose : (text : List ℕ) → IsLooser (file_setting text) (file_setting text)
 still_loose text = record { small = λ rest more n h. h; shallow = λ rest more n h. h }
 

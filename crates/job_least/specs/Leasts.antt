@@ -42,7 +42,7 @@ pub data AnswersWork {A : Type 0} (IsAnswer : A → Funds → Answer → Type 0)
   overflow : (numbers : List Place) (stands : At) → cut work.events (at funds []) ≡ out_of_range numbers stands → answer ≡ unknown_answer (codes "overflow")
       → AnswersWork IsAnswer work funds answer
 
--- what is told of work that is cut by this fault; want of memory is not told
+-- what is told of work that is cut by this fault; running out of memory is not told
 abbrev pub IsToldCut : ElimFault → Answer → Type 0
 IsToldCut (fault.Steps log) answer = answer ≡ unknown_answer (codes "steps")
 IsToldCut (fault.Overflow log place) answer = answer ≡ unknown_answer (codes "overflow")

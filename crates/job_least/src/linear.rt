@@ -47,7 +47,7 @@ fn product_of(alloc: Global, left: bool, s: &Term, t: &Term) -> Result<Term, Ste
     }
 }
 
-/// The linear term that a plain term over so many names is.
+/// The linear term that a plain term over this many names is.
 #[cycle(linear)]
 #[tactic(auto, using(base_budget::proofs::Charging::working))]
 pub fn linear_term(alloc: Global, names: u32, term: &TypedTerm) -> Result<Term, StepFault>

@@ -11,7 +11,7 @@ use Rattle.job_smt.specs.declared.checking.CheckAnswer.TheVariants.{Unsat, Sat, 
 use Rattle.job_smt.specs.Lines.{AreCheckLines, raised}
 use Rattle.job_smt.specs.Answers.{AnswersChecks, AreCheckAnswers, IsCheckAnswer, is_unknown, large, lines, lines_answer, word}
 
--- the status behind many answers
+-- the status after many answers
 abbrev pub status_with : ℕ → List CheckAnswer → ℕ
 status_with s [] = s
 status_with s (a ∷ xs) = status_with (raised s a) xs

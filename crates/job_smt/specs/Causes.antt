@@ -11,7 +11,7 @@ use Rattle.job_smt.specs.declared.checking.CheckAnswer.{CheckAnswer}
 use Rattle.job_smt.specs.Answers.{AllAlike, AreCheckAnswers, is_unknown, lines_answer}
 use Rattle.job_smt.specs.Answered.{refusal_name}
 
--- the text is refused so as a script; want of memory is no refusal
+-- the text is refused so as a script; running out of memory is no refusal
 abbrev pub IsTextRefused : List ℕ → ScriptRefusal → Type 0
 IsTextRefused bytes e = IsScriptRefusal bytes e × (e ≢ r.Memory)
 

@@ -14,7 +14,7 @@ abbrev pub AreCheckLines : ℕ → List Problem → Option Output → Type 0
 AreCheckLines budget ps None = (p : Problem) × Contains ps p × IsLarge p
 AreCheckLines budget ps (Some output) = (xs : List CheckAnswer) × AreCheckAnswers budget ps xs × (answer_of output ≡ lines_answer xs)
 
--- the status behind a further answer
+-- the status after a further answer
 abbrev pub raised : ℕ → CheckAnswer → ℕ
 raised s Unsat = s
 raised s Sat = s

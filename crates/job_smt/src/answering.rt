@@ -14,7 +14,7 @@ use smt_reader::script;
 use std::alloc::Global;
 
 /// The answer to a script of these bytes: why it is refused, or a line for each `check-sat` in order, by the canonical run on its
-/// problem, or the clause search, each with this budget: `unsat`, `sat` or `unknown`. The one error is want of memory.
+/// problem, or the clause search, each with this budget: `unsat`, `sat` or `unknown`. The one error is running out of memory.
 pub fn answer<X: Watch>(
     alloc: Global,
     bytes: &[u8],

@@ -31,7 +31,7 @@ pub enum CheckAnswer {
 
 /// The answer to the check whose problem this is, without existential constants, with this budget: by the canonical run, and where that
 /// is cut within the first part of the budget, by the clause search, if its proof or model is accepted. None comes exactly where the encoding of
-/// the problem has more than 1,000,000 nodes or more than 2,000 levels. The one error is want of memory.
+/// the problem has more than 1,000,000 nodes or more than 2,000 levels. The one error is running out of memory.
 pub fn check<X: Watch>(
     alloc: Global,
     p: &Problem,

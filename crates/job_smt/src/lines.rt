@@ -17,7 +17,7 @@ use pri_typing::Problem;
 use std::alloc::Global;
 
 /// The answer to a script with checks of these problems: a line for each, `unsat`, `sat` or `unknown`, with status 2 where one is
-/// `unknown` and 0 elsewhere; `refused: Large` where the encoding of one is too large. The one error is want of memory.
+/// `unknown` and 0 elsewhere; `refused: Large` where the encoding of one is too large. The one error is running out of memory.
 pub fn answer_checks<X: Watch>(
     alloc: Global,
     problems: &[Problem],
@@ -59,7 +59,7 @@ fn lines<X: Watch>(
     Ok(Some(Output { status, text }))
 }
 
-// The status behind a further answer.
+// The status after a further answer.
 fn raised(status: u8, answer: CheckAnswer) -> u8
     ensures { result ≡ raised status answer }
 {

@@ -10,7 +10,7 @@ use linear_term::Memory;
 use smt_commands::ScriptRefusal;
 use std::alloc::Global;
 
-/// The answer that tells why a script is refused, with the name and the offset; where memory was wanting there is none.
+/// The answer that tells why a script is refused, with the name and the offset; where memory runs out there is none.
 pub(crate) fn refuse(alloc: Global, refusal: ScriptRefusal) -> Result<Output, Memory>
     ensures told { IfOk result (λ output. answer_of output ≡ refused_answer (refusal_name refusal)) }
     ensures known { IfOk result (λ _. refusal ≢ ScriptRefusal.Memory) }

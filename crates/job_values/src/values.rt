@@ -50,7 +50,7 @@ fn encoded_values(
     }
 }
 
-// No values, where there is no encoding; but for want of memory.
+// No values, where there is no encoding; but for lack of memory.
 fn no_values(refusal: EncodeRefusal) -> Result<Option<Items<i128>>, Memory>
     ensures { (p : Problem) → RefusesEncoding p refusal → IfOk result (λ found. (found ≡ None) × ¬ (Fits p)) }
 {

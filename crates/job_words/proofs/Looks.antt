@@ -52,7 +52,7 @@ sees_dash (b ∷ rest) is = go (b == 45) refl
           },
         )
 
--- what stands behind a dash is text
+-- what stands after a dash is text
 behind_dash : (rest : Text) → IsUtf8 (45 ∷ rest) → IsUtf8 rest
 behind_dash rest is = IsUtf8-drop (45 ∷ rest) 1 is (IsCharBoundary-after_ascii (45 ∷ rest) 0 is (omega arith) (omega arith))
 

@@ -20,7 +20,7 @@ command_of (minimise file term budget) = codes "least"
 command_of (check file proof) = codes "check"
 command_of (drill count budget) = codes "drill"
 
--- behind a command stands a job of that command
+-- after a command stands a job of that command
 pub only_solve : (line : List Text) → ((f : Text) (n : ℕ) (a : Option ProofForm) (k v : Bool) → NamesSolve line f n a k v → ⊥) → (task : Task) → NamesJob (codes "solve" ∷ line) task → ⊥
 only_solve line none (solve f n a k v) names = none f n a k v names.1
 only_solve line none task names =

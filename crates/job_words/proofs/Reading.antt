@@ -1,29 +1,29 @@
--- The words behind a command word, read from the left.
+-- The words after a command word, read from the left.
 use Rattle.std.proofs.Common.{◌==◌, Bool, true, false, List, [], ◌∷◌, map, Option, Some, None, if◌then◌else◌}
 use Rattle.std.specs.Prelude.{option_map}
 use Rattle.std.specs.List.{list_any, before_first, after_first}
 use Rattle.job_words.specs.Uses.{Text, Use, Options, operand, valued, flag, takes_value}
 
--- what a word is by its first bytes: '--' alone, an option by its name and what stands behind a '=', another word with a dash, or a positional word
+-- what a word is by its first bytes: '--' alone, an option by its name and what stands after a '=', another word with a dash, or a positional word
 pub data Look : Type 0 where
   ends : Look
   named : Text → Option Text → Look
   dashed : Look
   plain : Look
 
--- the name before the first '=', and what stands behind it
+-- the name before the first '=', and what stands after it
 abbrev pub name_and_value : Text → Text × Option Text
 name_and_value text = (
   before_first (λ x. x == 61) text,
   if list_any (λ x. x == 61) text then Some (after_first (λ x. x == 61) text) else None,
 )
 
--- behind two dashes
+-- after two dashes
 abbrev pub look_long : Text → Look
 look_long [] = ends
 look_long (b ∷ rest) = named (name_and_value (b ∷ rest)).0 (name_and_value (b ∷ rest)).1
 
--- behind one dash
+-- after one dash
 abbrev pub look_dash : Text → Look
 look_dash [] = plain
 look_dash (b ∷ rest) = if b == 45 then look_long rest else dashed
@@ -32,7 +32,7 @@ abbrev pub look : Text → Look
 look [] = plain
 look (b ∷ rest) = if b == 45 then look_dash rest else plain
 
--- an option's word: with its value behind '=', waiting for its value, or a flag
+-- an option's word: with its value after '=', waiting for its value, or a flag
 abbrev pub option_uses : Text → Option Text → Option Bool → (Option Text → Option (List Use)) → Option (List Use)
 option_uses name value None reads = None
 option_uses name (Some v) (Some true) reads = option_map (λ us. valued name v ∷ us) (reads None)

@@ -8,7 +8,7 @@ use Rattle.clap.proofs.LexerLemmas.{name_and_value-at, name_and_value-without}
 use Rattle.job_words.specs.Uses.{Text, Use, Options, operand, valued, flag, takes_value, IsOperand, Spells, over, behind_dashes, positional, value_apart, value_joined, raised}
 use Rattle.job_words.proofs.Reading.{Look, ends, named, dashed, plain, look, look_dash, look_long, name_and_value, uses, option_uses, word_uses}
 
--- a name, and what stands behind its '='
+-- a name, and what stands after its '='
 abbrev joined_name : Text → Option Text → Text
 joined_name n None = n
 joined_name n (Some v) = n ++ 61 ∷ v

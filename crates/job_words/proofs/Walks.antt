@@ -174,7 +174,7 @@ on_operand name c t rows p w i (Some a) word rest o known next =
     ∙ ap (λ x. after (settle_fault c false h) x) (next now (Some (a.id, word ∷ [])) (next_position a i))
     ∙ pending_then name c a now (word ∷ []) (next_position a i) (settle_fault c false h) o (known a refl).1
 
--- behind `--` every word is positional
+-- after `--` every word is positional
 trails : (name : Text) (c : List Rule) (options : Options) → IsFlat c options → (words : List Text) (rows : List Row) (p : Option (Text × List Text)) (w : Waiting) (i : ℕ)
     → outcome name c (behind_dashes (held rows p) w i) words ≡ settles name c (held rows p) i (map operand words)
 unfolding walked apply

@@ -75,7 +75,7 @@ asks_short None = false
 asks_short (Some Whole) = false
 asks_short (Some Short) = true
 
--- the words behind `solve` name a file and a budget, and ask for the proof by the flag of its form, for the calculus alone by its flag, and
+-- the words after `solve` name a file and a budget, and ask for the proof by the flag of its form, for the calculus alone by its flag, and
 -- for a counterexample by its flag
 pub record NamesSolve (line : List Text) (file : Text) (budget : ℕ) (asked : Option ProofForm) (calculus shows : Bool) : Type 0 where
   pub us : List Use
@@ -87,27 +87,27 @@ pub record NamesSolve (line : List Text) (file : Text) (budget : ℕ) (asked : O
   pub calculus_is : times (codes "calculus") us ≡ tally calculus
   pub shows_is : times (codes "counterexample") us ≡ tally shows
 
--- the words behind `elim` or `smt` name a file and a budget
+-- the words after `elim` or `smt` name a file and a budget
 pub record NamesFile (line : List Text) (file : Text) (budget : ℕ) : Type 0 where
   pub us : List Use
   pub spells : Spells budget_option line us
   pub file_is : operands us ≡ file ∷ []
   pub budget_is : IsBudget (values_of (codes "budget") us) budget
 
--- the words behind `least` name a file, a term and a budget
+-- the words after `least` name a file, a term and a budget
 pub record NamesLeast (line : List Text) (file term : Text) (budget : ℕ) : Type 0 where
   pub us : List Use
   pub spells : Spells budget_option line us
   pub words_are : operands us ≡ file ∷ term ∷ []
   pub budget_is : IsBudget (values_of (codes "budget") us) budget
 
--- the words behind `check` name two files
+-- the words after `check` name two files
 pub record NamesCheck (line : List Text) (file proof : Text) : Type 0 where
   pub us : List Use
   pub spells : Spells [] line us
   pub files_are : operands us ≡ file ∷ proof ∷ []
 
--- the words behind `drill` name a size from 1 to 1,000 and a budget
+-- the words after `drill` name a size from 1 to 1,000 and a budget
 pub record NamesDrill (line : List Text) (count budget : ℕ) : Type 0 where
   pub us : List Use
   pub spells : Spells budget_option line us

@@ -1,4 +1,4 @@
--- What the words behind a command are there for.
+-- What the words after a command are there for.
 use Rattle.std.specs.Prelude.{◌≡◌, ◌≢◌, ◌⊎◌, ℕ, Bool, true, false, suc, List, [], ◌∷◌, ◌++◌, map, Option, Some, codes, if◌then◌else◌, None, option_map, find}
 use Rattle.std.specs.Str.{bytes_eq}
 
@@ -26,7 +26,7 @@ IsOperand word = (word ≡ codes "-") ⊎ ((rest : Text) → word ≢ 45 ∷ res
 -- the line spells these uses of a command with these options, in this order
 pub data Spells (options : Options) : List Text → List Use → Type 0 where
   over : Spells options [] []
-  -- behind '--' every word is positional
+  -- after '--' every word is positional
   behind_dashes : {words : List Text} → Spells options (codes "--" ∷ words) (map operand words)
   positional : {word : Text} {words : List Text} {us : List Use} → IsOperand word → Spells options words us → Spells options (word ∷ words) (operand word ∷ us)
   -- '--name', and its value as the next word

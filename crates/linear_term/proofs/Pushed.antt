@@ -1,4 +1,4 @@
--- A term with one more monomial behind its others is in normal form.
+-- A term with one more monomial after its others is in normal form.
 use Rattle.std.proofs.Common.{◌≡◌, ◌+◌, ◌<◌, ◌^◌, ℕ, ℤ, ◌+ℤ◌, ◌*ℤ◌, List, [], ◌∷◌, ◌++◌, sym, ◌∙◌, ap, subst, arith}
 use Rattle.std.specs.List.{AllByRecursion}
 use Rattle.std.proofs.lemmas.Int.{ints}
@@ -44,7 +44,7 @@ pub value-push : (t : Linear) (x : ℕ) (k : ℤ) (e : List ℤ) → value_of (w
 unfolding value_of
 value-push t x k e = ap (λ z. z +ℤ t.constant) (total_push (value_at e) t.pairs (x, k)) ∙ regroup (total (value_at e) t.pairs) (k *ℤ entry e x) t.constant
 
--- the names of a term are below a name behind them
+-- the names of a term are below a name after them
 pub over-push : (n : ℕ) (t : Linear) (x : ℕ) (k : ℤ) → IsOver n t → x < n → IsOver n (with_monomial t x k)
 over-push n t x k h lt =
     All-from_recursion (λ (p : ℕ × ℤ). p.0 < n) _ (all_push (λ (p : ℕ × ℤ). p.0 < n) t.pairs (x, k) (recursion_from_All (λ (p : ℕ × ℤ). p.0 < n) t.pairs h) lt)

@@ -76,6 +76,6 @@ number k = record { pairs = []; constant = k }
 abbrev pub name : ℕ → Linear
 name x = record { pairs = (x, pos 1) ∷ []; constant = pos 0 }
 
--- the term t and the monomial k·x behind its others
+-- the term t and the monomial k·x after its others
 abbrev pub with_monomial : Linear → ℕ → ℤ → Linear
 with_monomial t x k = record { pairs = t.pairs ++ (x, k) ∷ []; constant = t.constant }

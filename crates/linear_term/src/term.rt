@@ -119,7 +119,7 @@ impl Term {
     }
 
     /// Appends the monomial k·x, in constant time but for a growth of memory. The name x is above all names of the term,
-    /// and k is in the range and not 0. At want of memory the term stays as it was.
+    /// and k is in the range and not 0. At running out of memory the term stays as it was.
     #[tactic(auto, using(crate::proofs::Pushed::pushing))]
     pub fn push(&mut self, x: u32, k: i128) -> Result<(), Memory>
         requires above { IsOver x self.old }

@@ -16,7 +16,7 @@ pub enum Hole<'a> {
     Text(&'a [u8]),
     /// The front of a token.
     Token(&'a [u8]),
-    /// So many arguments, in words.
+    /// This many arguments, in words.
     Arguments(usize),
     /// A number.
     Number(u64),
@@ -58,7 +58,7 @@ impl<'a> Slip<'a> {
         Slip::new(sentence).with_name(Hole::Text(name))
     }
 
-    /// A sentence about a name that is declared in this line with so many arguments, and used with so many.
+    /// A sentence about a name that is declared in this line with this many arguments, and used with this many.
     pub fn counted(sentence: &'static str, declared: usize, used: usize, line: u64) -> Slip<'a> {
         Slip {
             sentence,

@@ -125,7 +125,7 @@ impl<'a> Faults<'a> {
         }
     }
 
-    /// Judges the use of a name with so many arguments, whose first token is at this place, and answers whether it is known what it
+    /// Judges the use of a name with this many arguments, whose first token is at this place, and answers whether it is known what it
     /// stands for.
     fn judge(
         &mut self,

@@ -53,7 +53,7 @@ fn judged(
     Ok(!b)
 }
 
-/// Whether the formula is false in the model at these integers; a name behind them counts as 0. It is exact: where it answers
+/// Whether the formula is false in the model at these integers; a name after them counts as 0. It is exact: where it answers
 /// at all, true comes exactly where the formula is false, false exactly where it is true. It is cut where the budget ends, a
 /// number leaves the range of coefficients, or the expansion has too many nodes.
 pub fn is_false(

@@ -48,7 +48,7 @@ fn is_met(rows: &[ValueEntry], xs: &[i128]) -> bool
     false
 }
 
-/// Where the arguments are those of a row that is behind these others; None where an earlier row is for them, or none of
+/// Where the arguments are those of a row that is after these others; None where an earlier row is for them, or none of
 /// their values is.
 #[tactic(auto, using(crate::proofs::Chosen::guarding))]
 fn row_guard(

@@ -115,7 +115,7 @@ pub(crate) fn differing_at(
     Ok(g)
 }
 
-/// The terms, and behind them the name x.
+/// The terms, and after them the name x.
 pub(crate) fn with_name(
     alloc: Global,
     effort: &mut Effort,
@@ -128,7 +128,7 @@ pub(crate) fn with_name(
     Ok(r)
 }
 
-/// The terms, and behind them the value of the guard.
+/// The terms, and after them the value of the guard.
 pub(crate) fn with_value(
     alloc: Global,
     effort: &mut Effort,

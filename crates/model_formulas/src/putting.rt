@@ -99,7 +99,7 @@ pub fn put_all(
     Ok(out)
 }
 
-/// The terms, and behind them one more.
+/// The terms, and after them one more.
 pub fn with_term(
     alloc: Global,
     effort: &mut Effort,

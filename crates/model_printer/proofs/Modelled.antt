@@ -14,7 +14,7 @@ use Rattle.pri_printer.specs.Text.{behind_each}
 use Rattle.pri_typing.specs.declared.problem.Symbol.{Symbol}
 use Rattle.model_printer.specs.Models.{default_truth, default_value, function_lines, functions_lines, predicate_lines, predicates_lines, truth_lines, value_lines}
 
--- lines behind lines
+-- lines after lines
 pub lines-append : (a b : List (List ℕ)) → lines_text (a ++ b) ≡ lines_text a ++ lines_text b
 lines-append [] b = refl
 lines-append (u ∷ us) b =
@@ -27,7 +27,7 @@ lines-append (u ∷ us) b =
 one_piece : (out mid piece rest left done : List ℕ) → mid ≡ out ++ piece → left ≡ piece ++ rest → out ++ left ≡ done → mid ++ rest ≡ done
 one_piece out mid piece rest left done m l h = ap (λ z. z ++ rest) m ∙ append_assoc out piece rest ∙ ap (λ z. out ++ z) (sym l) ∙ h
 
--- two pieces, one behind the other
+-- two pieces, one after the other
 two_pieces : (out mid end piece rest left : List ℕ) → mid ≡ out ++ piece → left ≡ piece ++ rest → end ≡ mid ++ rest → end ≡ out ++ left
 two_pieces out mid end piece rest left m l e = e ∙ ap (λ z. z ++ rest) m ∙ append_assoc out piece rest ∙ ap (λ z. out ++ z) (sym l)
 
@@ -72,7 +72,7 @@ function_put r out mid end name d rows y t same default these some m h =
     (λ e. two_pieces out mid end (lines_text (value_lines y.name t.default t.rows)) (lines_text (default_value y t.default)) (lines_text (function_lines y t)) lines (function_is y t some)
     (e ∙ ap (λ v. mid ++ lines_text (default_value y v)) default)) h
 
--- ---- what is said of the first symbol, and of those behind it
+-- ---- what is said of the first symbol, and of those after it
 
 pub predicates_step : (out mid done : List ℕ) (ys zs : List Symbol) (ts us : List PredicateModel) (y : Symbol) (t : PredicateModel) → ys ≡ y ∷ zs → ts ≡ t ∷ us
     → mid ≡ out ++ lines_text (predicate_lines y t) → out ++ lines_text (predicates_lines ys ts) ≡ done → mid ++ lines_text (predicates_lines zs us) ≡ done

@@ -11,7 +11,7 @@ use pri_printer::{put_applied, put_constants, put_integer};
 use pri_typing::{Problem, Symbol};
 use std::alloc::Global;
 
-/// Puts n further underscores behind a text.
+/// Puts n further underscores after a text.
 fn put_blanks(n: u32, out: &mut Vec<u8>) -> Result<(), Memory>
     ensures { OnOk result (out.new.items ≡ out.old.items ++ behind_each (codes ", ") (replicate n (codes "_"))) }
 {
@@ -22,7 +22,7 @@ fn put_blanks(n: u32, out: &mut Vec<u8>) -> Result<(), Memory>
     Ok(())
 }
 
-/// Puts a symbol at any n integers behind a text.
+/// Puts a symbol at any n integers after a text.
 fn put_anywhere(name: &[u8], n: u32, out: &mut Vec<u8>) -> Result<(), Memory>
     ensures { OnOk result (out.new.items ≡ out.old.items ++ texts.anywhere_text name.now n) }
 {
@@ -37,7 +37,7 @@ fn put_anywhere(name: &[u8], n: u32, out: &mut Vec<u8>) -> Result<(), Memory>
     Ok(())
 }
 
-/// Puts what a row says of a predicate behind a text.
+/// Puts what a row says of a predicate after a text.
 fn put_signed(alloc: Global, name: &[u8], row: &TruthEntry, out: &mut Vec<u8>) -> Result<(), Memory>
     ensures { OnOk result (out.new.items ≡ out.old.items ++ texts.signed_text name.now row.now) }
 {
@@ -47,7 +47,7 @@ fn put_signed(alloc: Global, name: &[u8], row: &TruthEntry, out: &mut Vec<u8>) -
     put_applied(alloc, name, row.at.as_slice(), out)
 }
 
-/// Puts a line for each row of a predicate that says other than its default behind a text.
+/// Puts a line for each row of a predicate that says other than its default after a text.
 fn put_truth_lines(
     alloc: Global,
     name: &[u8],
@@ -67,7 +67,7 @@ fn put_truth_lines(
     Ok(())
 }
 
-/// Puts a line for a predicate that is true everywhere behind a text.
+/// Puts a line for a predicate that is true everywhere after a text.
 fn put_default_truth(symbol: &Symbol, truth: bool, out: &mut Vec<u8>) -> Result<(), Memory>
     ensures { OnOk result (out.new.items ≡ out.old.items ++ lines_text (texts.default_truth symbol.now truth)) }
 {
@@ -79,7 +79,7 @@ fn put_default_truth(symbol: &Symbol, truth: bool, out: &mut Vec<u8>) -> Result<
     Ok(())
 }
 
-/// Puts what a model says of a predicate behind a text.
+/// Puts what a model says of a predicate after a text.
 fn put_predicate(
     alloc: Global,
     symbol: &Symbol,
@@ -101,7 +101,7 @@ fn put_predicate(
     put_default_truth(symbol, model.default, out)
 }
 
-/// Puts what a model says of each predicate behind a text.
+/// Puts what a model says of each predicate after a text.
 fn put_predicates(
     alloc: Global,
     symbols: &[Symbol],
@@ -123,7 +123,7 @@ fn put_predicates(
     Ok(())
 }
 
-/// Puts `f(0) = 1` behind a text.
+/// Puts `f(0) = 1` after a text.
 fn put_row(alloc: Global, name: &[u8], row: &ValueEntry, out: &mut Vec<u8>) -> Result<(), Memory>
     ensures { OnOk result (out.new.items ≡ out.old.items ++ value_text (applied_text name.now row.now.at) row.now.value) }
 {
@@ -132,7 +132,7 @@ fn put_row(alloc: Global, name: &[u8], row: &ValueEntry, out: &mut Vec<u8>) -> R
     put_integer(alloc, &row.value, out)
 }
 
-/// Puts a line for each row of a function with another value than its default behind a text.
+/// Puts a line for each row of a function with another value than its default after a text.
 fn put_value_lines(
     alloc: Global,
     name: &[u8],
@@ -152,7 +152,7 @@ fn put_value_lines(
     Ok(())
 }
 
-/// Puts a line for a function that has this value everywhere behind a text; none where it is 0.
+/// Puts a line for a function that has this value everywhere after a text; none where it is 0.
 fn put_default_value(
     alloc: Global,
     symbol: &Symbol,
@@ -171,7 +171,7 @@ fn put_default_value(
     Ok(())
 }
 
-/// Puts what a model says of a function behind a text.
+/// Puts what a model says of a function after a text.
 fn put_function(
     alloc: Global,
     symbol: &Symbol,
@@ -193,7 +193,7 @@ fn put_function(
     put_default_value(alloc, symbol, model.default, out)
 }
 
-/// Puts what a model says of each function behind a text.
+/// Puts what a model says of each function after a text.
 fn put_functions(
     alloc: Global,
     symbols: &[Symbol],
@@ -218,7 +218,7 @@ fn put_functions(
 /// The lines of a counterexample in a model: `counterexample:`, each universal constant with its value, as `x = 3`, then of each
 /// predicate the rows that say other than its default, as `p(3)` or `!p(3)`, and `p(_)` where the default is true, and of each
 /// function the rows with other values than its default, as `f(0) = 1`, and `f(_) = 5` where the default is not 0. The one error
-/// is want of memory.
+/// is running out of memory.
 pub fn print_model(
     alloc: Global,
     p: &Problem,

@@ -23,7 +23,7 @@ use Rattle.pri_typing.specs.declared.problem.Symbol.{Symbol}
 never : (A : Type 0) → false ≡ true → A
 never A e = absurd (let bad : false ≡ true = e in cc)
 
--- two tests, one behind the other
+-- two tests, one after the other
 pub both : (a b : Bool) (P Q : Type 0) → Decides a P → Decides b Q → Decides (a && b) (P × Q)
 both true b P Q d e = (λ h. (d.0 refl, e.0 h), λ h. e.1 h.1)
 both false b P Q d e = (λ h. never (P × Q) h, λ h. d.1 h.0)

@@ -68,7 +68,7 @@ root_false s x v stop h is =
     let same : r.stop ≡ stop = (let two : Some r.stop ≡ Some stop = sym r.is ∙ is in cc) in
     subst (λ (z : Stop). AreFalse (meaning_of (table_at z).value) v s.members) same r.root
 
--- ---- atoms, and one member behind them
+-- ---- atoms, and one member after them
 abbrev pub IsAtom : Form → Type 0
 IsAtom (at_least t) = Unit {0}
 IsAtom (equal t) = ⊥
@@ -260,7 +260,7 @@ limits_atoms x [] = tt
 limits_atoms x (least n ∷ bs) = (tt, limits_atoms x bs)
 limits_atoms x (greatest n ∷ bs) = (tt, limits_atoms x bs)
 
--- a walk at a formula behind atoms, whose values and end are those of a walk from s
+-- a walk at a formula after atoms, whose values and end are those of a walk from s
 pub record Behind (s : Sequent) (x : Proof) (v : List ℤ) (g : Form) (n : ℕ) : Type 0 where
   pub members : List Member
   pub atoms : AreAtomMembers members

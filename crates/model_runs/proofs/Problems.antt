@@ -36,7 +36,7 @@ front_taken zero (x ∷ u) r h = absurd (omega (arith, h))
 front_taken (suc k) [] r h = absurd (omega (arith, h))
 front_taken (suc k) (x ∷ u) r h = ap (λ v. x ∷ v) (front_taken k u r (omega (arith, h)))
 
--- the values of the universal constants stand behind those of the existential ones
+-- the values of the universal constants stand after those of the existential ones
 found_is : (m k : ℕ) (e u r values : List ℤ) → length e ≡ m → length u ≡ k → values ≡ e ++ (u ++ r) → universals_of m k values ≡ u
 found_is m k e u r values le lu is = ap (universals_of m k) is ∙ ap (take k) (front_dropped m e (u ++ r) le) ∙ front_taken k u r lu
 

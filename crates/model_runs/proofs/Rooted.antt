@@ -1,5 +1,5 @@
 -- At the root of an encoded problem stand the conditions of the existential constants' types. They are true at values of the types, so
--- the walk goes on to the formula behind them.
+-- the walk goes on to the formula after them.
 use Rattle.std.proofs.Common.{◌≡◌, ◌⊎◌, inl, inr, ℕ, zero, suc, ℤ, Bool, true, false, ◌&&◌, List, [], ◌∷◌, ◌++◌, length, Some, refl, sym, ◌∙◌, ap, subst}
 use Rattle.std.specs.List.{AllByRecursion}
 use Rattle.form_typed.specs.Sorts.{AreValuesOf}

@@ -1,4 +1,4 @@
--- The canonical trees of a formula without a `some` over an application have no gamma node, and leave none behind.
+-- The canonical trees of a formula without a `some` over an application have no gamma node, and leave none after.
 use Rattle.std.proofs.Common.{◌≡◌, ℕ, zero, suc, ◌-◌, ℤ, Bool, true, false, cond, not, ◌&&◌, ◌||◌, List, [], ◌∷◌, ◌++◌, map, Option, Some, None, refl, sym, ◌∙◌, ap}
 use Rattle.std.specs.List.{AllByRecursion, list_any, remove, slice_get}
 use Rattle.base_budget.specs.Trace.{just, step, next}

@@ -27,7 +27,7 @@ pub record IsCounterexample (p : Problem) (e : List ℤ) (c : Table × List ℤ)
   pub truths_sorted : IsStrictlySortedBy truth_cmp c.0.truths
   pub values_sorted : IsStrictlySortedBy value_cmp c.0.values
 
--- the values of the k universal constants, behind those of the m existential ones
+-- the values of the k universal constants, after those of the m existential ones
 abbrev pub universals_of : ℕ → ℕ → List ℤ → List ℤ
 universals_of m k values = take k (drop m values)
 

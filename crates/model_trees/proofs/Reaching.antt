@@ -179,7 +179,7 @@ beta_ends s i (Some m) ns v k formed at len one f = by m.over m.used m.formula k
     by over used (conjunction no_form) k at one f = absurd (cc)
     by over used h k at one f = absurd (cc)
 
--- the child x, or one behind it
+-- the child x, or one after it
 beta_step : (n : ℕ) (s : Sequent) (ss : List Sequent) (x : Proof) (xs : Proofs) (u : List ℤ) (b : Bool) → dnf_truth (given x) u ≡ b → IsGiven n (given x) → length u ≡ n
     → (dnf_truth (given x) u ≡ false → Ends s u (walk s x u)) → (IsOneFalse (truths (all_given xs)) u → EndsBelow ss u (walk_false n ss xs u)) → IsOneFalse (truths (all_given (and_proof x xs))) u
     → EndsBelow (s ∷ ss) u (walk_false n (s ∷ ss) (and_proof x xs) u)

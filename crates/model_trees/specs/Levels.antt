@@ -2,7 +2,7 @@
 use Rattle.std.specs.Prelude.{ℕ, zero, suc}
 use Rattle.proof_tree.specs.Proof.{Proof, Proofs, node, no_proof, and_proof}
 
--- at most so many
+-- at most this many
 abbrev mutual
   pub IsWithinLevels : ℕ → Proof → Type 0
   IsWithinLevels zero x = ⊥

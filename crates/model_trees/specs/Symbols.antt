@@ -4,7 +4,7 @@ use Rattle.std.specs.List.{AllByRecursion}
 use Rattle.form_typed.specs.declared.world.Table.{Table}
 use Rattle.formula.specs.Form.{Form, Forms, equal, unequal, at_least, holds, fails, differs, conjunction, disjunction, universal, existential, no_form, and_form}
 
--- the predicates and the functions that there are, by number, with so many arguments
+-- the predicates and the functions that there are, by number, with this many arguments
 pub record Vocabulary : Type 1 where
   pub predicate : ℕ → ℕ → Type 0
   pub function : ℕ → ℕ → Type 0

@@ -119,7 +119,7 @@ objective_reduced n t h = reduced-combination (pos 1) (negsuc 0) (name n) t (nam
 put_end : (w : List ℤ) (n : ℕ) (v : ℤ) → length w ≡ n → put w n v ≡ w ++ v ∷ []
 put_end w n v l = subst (λ (m : ℕ). put w m v ≡ w ++ v ∷ []) l (put-length w v)
 
--- a list of n integers satisfies d and gives t the value v exactly where it satisfies the joined clauses with v behind
+-- a list of n integers satisfies d and gives t the value v exactly where it satisfies the joined clauses with v after
 joined-truth : (n : ℕ) (d : List (List Literal)) (t : Linear) (w : List ℤ) (v : ℤ) → IsTask n d t
     → dnf_truth (with_zero d (combination (pos 1) (name n) (negsuc 0) t)).value (put w n v) ≡ (dnf_truth d w && int_eq (v -ℤ value_of t w) (pos 0))
 joined-truth n d t w v h =

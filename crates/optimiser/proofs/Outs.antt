@@ -71,7 +71,7 @@ none_before d [] r l = (λ t. record { values = []; as_many = refl; holds = t },
     by (x ∷ v) l h = absurd (omega (arith, l))
 none_before d (u ∷ w) r l = absurd (omega (arith, l))
 
--- what is left is true behind any n integers exactly where d is true behind some
+-- what is left is true after any n integers exactly where d is true after some
 pub names_out-before : (n : ℕ) (d : List (List Literal)) (w r : List ℤ) → AreFormed d → length w ≡ n → (dnf_truth (names_out n d).value (w ++ r) ≡ true) ↔ Before d n r
 unfolding next just
 names_out-before zero d w r f l = none_before d w r l

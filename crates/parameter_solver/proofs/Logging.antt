@@ -14,7 +14,7 @@ use Rattle.base_budget.specs.Followed.{after_notes, UnlessMemory, Followed}
 use Rattle.base_budget.proofs.Cutting.{behind, end_behind, cut-behind, stand-behind}
 use Rattle.parameter_solver.specs.Logs.{in_log}
 
--- ---- notes behind others
+-- ---- notes after others
 -- the same work where nothing was noted before; ns is what it notes
 record Stripped {A : Type 0} (work : Traced A) (f g : Funds) (ms ks : List Mark) (r : Result A StepFault) : Type 0 where
   notes : List Mark
@@ -137,7 +137,7 @@ follow_entries work es ds r {f} {g} h =
     record { notes = s.notes; charged = s.charged; kept = always r (sym (unmapped [] es ds s.notes s.whole)) }
 
 -- ---- which entries are added
--- where a run stands that was not cut: behind its notes
+-- where a run stands that was not cut: after its notes
 cut_notes : (es : List Event) (a b : At) → cut es a ≡ done b → b.marks ≡ a.marks ++ notes es
 unfolding cut
 cut_notes [] a b h = let same : a ≡ b = cc in ap (λ (z : At). z.marks) (sym same) ∙ sym (append-nil a.marks)

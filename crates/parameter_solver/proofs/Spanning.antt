@@ -71,7 +71,7 @@ left_names j k d left h is =
     subst (All (IsOfName j)) (sym is)
     (to_names j (names_from k (suc j) d).value (kept-weaker (AllByRecursion (IsIn (IsFrom j (suc j)))) (AllByRecursion (IsIn (IsName j))) (λ c f. kept-weaker (IsIn (IsFrom j (suc j))) (IsIn (IsName j)) (the_name j) c f) (names_from k (suc j) d).value s))
 
--- what a value leaves speaks of the names behind
+-- what a value leaves speaks of the names after
 pub step_names : (j k n : ℕ) (d r : List (List Literal)) (v : ℤ) {a b : Funds} {s t : List Entry} → IsOfNames j n d → Followed in_log (value_step k j d) a s (Ok (v, r)) b t → IsOfNames (j + 1) n r
 unfolding next just step
 step_names j k n d r v h did =

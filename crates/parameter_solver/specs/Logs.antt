@@ -21,12 +21,12 @@ in_log es (round k) = es
 in_log es (enter k) = es
 in_log es (back k) = es
 
--- the value of j and what it leaves of d, where k names come behind j; a log begins
+-- the value of j and what it leaves of d, where k names come after j; a log begins
 abbrev pub value_step : ℕ → ℕ → List (List Literal) → Traced (ℤ × List (List Literal))
 value_step k j d =
     next (note new_log) (λ _. next (names_from k (suc j) d) (λ left. next (chosen j left) (λ v. next (with_value j v d) (λ r. just (v, r)))))
 
--- an outcome with the log in progress; values carry no log, and want of memory has none
+-- an outcome with the log in progress; values carry no log, and running out of memory has none
 abbrev pub answer_with : Result (Option (List ℤ)) StepFault → ElimLog → Result Solved ElimFault
 answer_with (Ok None) log = Ok (solved.None log)
 answer_with (Ok (Some vs)) log = Ok (solved.Values vs)

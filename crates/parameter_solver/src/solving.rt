@@ -52,7 +52,7 @@ pub fn names_from(
     Ok(left)
 }
 
-/// The value of j, and d where j has it; k names come behind j.
+/// The value of j, and d where j has it; k names come after j.
 fn value_step(
     alloc: Global,
     d: &Dnf,

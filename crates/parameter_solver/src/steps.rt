@@ -42,7 +42,7 @@ fn divisibility_place(ls: &[Literal], j: u32) -> Option<usize>
     ls.iter().position(|l| is_divisibility(l, j))
 }
 
-/// The literals behind the one at i.
+/// The literals after the one at i.
 fn behind(ls: &[Literal], i: usize) -> &[Literal]
     requires { i < length ls.now }
     ensures { result.now ≡ drop (i + 1) ls.now }

@@ -17,11 +17,11 @@ ranged_first xs ys more x e q h = (subst (All (λ p. InRange p.1)) (e ∙ q) h) 
 pub ranged_more : (xs ys more : List (ℕ × ℤ)) (x : ℕ × ℤ) → xs ≡ ys → ys ≡ x ∷ more → All (λ p. InRange p.1) xs → All (λ p. InRange p.1) more
 ranged_more xs ys more x e q h = λ k d lt. (subst (All (λ p. InRange p.1)) (e ∙ q) h) (suc k) d (omega (arith, lt))
 
--- what comes behind the first monomial
+-- what comes after the first monomial
 abbrev behind : List (ℕ × ℤ) → ℤ → List SignedSummand
 behind more k = map monomial more ++ cond (int_eq k (pos 0)) [] (constant k ∷ [])
 
--- the rest of a sum, put behind nothing in two steps
+-- the rest of a sum, put after nothing in two steps
 pub rest_is : (start first second : List TypedTerm) (more : List (ℕ × ℤ)) (k : ℤ) → start ≡ [] → map expression first ≡ map expression start ++ map later (map later_part (map monomial more))
     → map expression second ≡ map expression first ++ map later (map later_part (cond (int_eq k (pos 0)) [] (constant k ∷ [])))
     → map expression second ≡ map later (map later_part (behind more k))

@@ -47,7 +47,7 @@ FindsBy p cut at c old m new = ⊥
 abbrev pub Finds : Problem → ℕ → ℕ → Funds → MiddleFormula → Funds → Type 0
 Finds p cut at old m new = FindsBy p cut at (case_of p (cut_of p cut) at) old m new
 
--- there is no formula by the case, or the run of the interpolant of both sides ends early with this fault; want of memory alone is free
+-- there is no formula by the case, or the run of the interpolant of both sides ends early with this fault; running out of memory alone is free
 pub data Misses (p : Problem) (cut at : ℕ) (old : Funds) (e : MiddleFault) (new : Funds) : Type 0 where
   symbols : case_of p (cut_of p cut) at ≡ none → e ≡ fault.Symbols → new ≡ old → Misses p cut at old e new
   run : (x : InterpolantFault) → case_of p (cut_of p cut) at ≡ arithmetic

@@ -29,7 +29,7 @@ fn is_only_first(first: &[bool], second: &[bool], x: usize) -> bool
     first[x] && !second[x]
 }
 
-/// Puts a number behind others, if it is kept.
+/// Puts a number after others, if it is kept.
 fn put_kept(kept: bool, x: u32, out: &mut Vec<u32>) -> Result<(), Memory>
     ensures { OnOk result (out.new.items ≡ out.old.items ++ cond kept (x ∷ []) []) }
 {

@@ -11,7 +11,7 @@ use linear_term::Memory;
 use sqlite_items::{Boxed, Items};
 use std::alloc::Global;
 
-/// A name below the length of the table becomes its entry there, and one behind it has so many more before it. No memory holds a
+/// A name below the length of the table becomes its entry there, and one after it has this many more before it. No memory holds a
 /// formula with so many quantifiers that a name leaves a `u32`.
 fn send(table: &[u32], more: u32, x: u32) -> Result<u32, Memory>
     ensures { IfOk result (λ y. y ≡ sent table.now more x) }

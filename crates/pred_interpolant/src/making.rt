@@ -112,7 +112,7 @@ struct Sides {
     second: Typed,
 }
 
-/// The sides of the cut with this number, behind its first `at` sets.
+/// The sides of the cut with this number, after its first `at` sets.
 fn sides_at(alloc: Global, p: &Problem, cut: u32, at: u32) -> Result<Sides, Memory>
     requires formed { IsWellFormed p.now }
     requires within { cut < length p.now.cuts }

@@ -101,7 +101,7 @@ fn alone(alloc: Global, k: i128) -> Result<TypedTerm, Memory>
     }
 }
 
-/// Puts later monomials behind others.
+/// Puts later monomials after others.
 fn put_later(alloc: Global, pairs: &[(u32, i128)], out: &mut Items<TypedTerm>) -> Result<(), Memory>
     requires { All (λ pair. InRange pair.1) pairs.now }
     ensures { OnOk result (map expression out.new ≡ map expression out.old ++ map later (map later_part (map monomial pairs.now))) }
@@ -112,7 +112,7 @@ fn put_later(alloc: Global, pairs: &[(u32, i128)], out: &mut Items<TypedTerm>) -
     Ok(())
 }
 
-/// Puts the number of a linear term behind its monomials, if it is not 0.
+/// Puts the number of a linear term after its monomials, if it is not 0.
 fn put_constant(alloc: Global, k: i128, out: &mut Items<TypedTerm>) -> Result<(), Memory>
     requires { InRange k }
     ensures { OnOk result (map expression out.new ≡ map expression out.old ++ map later (map later_part (cond (int_eq k (pos 0)) [] (summands.constant k ∷ [])))) }

@@ -36,7 +36,7 @@ fn assumed_of(alloc: Global, plus: bool, f: &Typed) -> Result<Typed, Memory>
     }
 }
 
-/// What those components of a formula that stands with this sign, true for plus, assume that are parts of the set, behind others.
+/// What those components of a formula that stands with this sign, true for plus, assume that are parts of the set, after others.
 #[cycle(side)]
 fn collect(
     alloc: Global,

@@ -116,7 +116,7 @@ fn mark_symbol(predicate: bool, k: u32, marks: &mut [bool])
     }
 }
 
-/// So many marks, none of them set.
+/// This many marks, none of them set.
 fn no_marks(alloc: Global, n: usize) -> Result<Vec<bool>, AllocError>
     ensures { IfOk result (λ marks. marks.items ≡ replicate n false) }
 {

@@ -62,7 +62,7 @@ same_made old new all ss ts is made =
     (made_ok (map form) (λ (u : Unit {0}). map form new) (equations ss ts []) (λ fs. just (map form old ++ conjunction (forms fs) ∷ [])) made
     (made_just (λ (u : Unit {0}). map form new) (map form old ++ conjunction (forms (map form all)) ∷ []) tt (ap (map form) is ∙ pushed old (c.And all) (conjunction (forms (map form all))) (form-And all))))
 
--- the pair of two values, behind the formulas in out
+-- the pair of two values, after the formulas in out
 values_onto : (out : List Form) (ss : List Linear) (u : Linear) (ts : List Linear) (v : Linear)
     → onto out (other_values ss u ts v) ≡ next (equations ss ts []) (λ fs. next (difference u v) (λ d. just (out ++ conjunction (forms (fs ++ unequal d ∷ [])) ∷ [])))
 values_onto out ss u ts v =
@@ -93,7 +93,7 @@ pub each_next : (f : q.Member → Traced (List Form)) (rs : List (Bor Member)) (
     → Left (each f (members_of (behind (drop i rs))) (map form out)) work → Left (next (f (member_of r.now)) (λ ds. each f (members_of (behind (drop (i + 1) rs))) (map form out ++ ds))) work
 each_next f rs i r out work lt is inv = subst (λ l. Left (each f (members_of (behind l)) (map form out)) work) (drop-item rs i r lt is) inv
 
--- the work of the member at the index, behind the formulas in out, and then that of the later ones
+-- the work of the member at the index, after the formulas in out, and then that of the later ones
 pub each_onto : (f : q.Member → Traced (List Form)) (rs : List (Bor Member)) (i : ℕ) (r : Bor Member) (out : List Core) (work : Traced (List Form)) → i < length rs → r ≡ get_or rs i r
     → Left (each f (members_of (behind (drop i rs))) (map form out)) work → Left (next (onto (map form out) (f (member_of r.now))) (λ fs. each f (members_of (behind (drop (i + 1) rs))) fs)) work
 each_onto f rs i r out work lt is inv =
@@ -105,7 +105,7 @@ each_end f rs i out work le inv =
     left_done (λ (u : Unit {0}). map form out) (Ok tt) (subst (λ l. Left (each f (members_of (behind l)) (map form out)) work) (drop_all rs i le) inv)
     (made_just (λ (u : Unit {0}). map form out) (map form out) tt refl)
 
--- function pairs that begin behind some formulas are the same behind them
+-- function pairs that begin after some formulas are the same after them
 values_behind : (ms : List q.Member) (a b : List Form) → function_pairs ms (a ++ b) ≡ onto a (function_pairs ms b)
 values_behind [] a b = sym (next-just b (λ fs. just (a ++ fs)))
 values_behind (m ∷ ms) a b =
@@ -130,14 +130,14 @@ predicates_made ms g p ss same old new r is slice made =
     subst (λ x. Made (λ (u : Unit {0}). map form new) x r)
     (each_from (λ m. predicate_pair p same m.formula) ms (map form old) ∙ ap (λ l. onto (map form old) (each (λ m. predicate_pair p l m.formula) ms [])) slice ∙ ap (λ f. onto (map form old) (with_predicates ms f)) (sym is)) made
 
--- the work of the member at the index of a loop over places, behind the formulas in out, and then that of the later ones
+-- the work of the member at the index of a loop over places, after the formulas in out, and then that of the later ones
 pub each_at : (f : q.Member → Traced (List Form)) (rs : List (Bor Member)) (i : ℕ) (d : Bor Member) (out : List Core) (work : Traced (List Form)) → i < length rs
     → Left (each f (members_of (behind (drop i rs))) (map form out)) work → Left (next (onto (map form out) (f (member_of (get_or rs i d).now))) (λ fs. each f (members_of (behind (drop (i + 1) rs))) fs)) work
 each_at f rs i d out work lt inv =
     subst (λ w. Left w work) (sym (onto_next (f (member_of (get_or rs i d).now)) (λ fs. each f (members_of (behind (drop (i + 1) rs))) fs) (map form out)))
     (subst (λ l. Left (each f (members_of (behind l)) (map form out)) work) (drop_more rs i d lt) inv)
 
--- the work of what lies at the index, behind the formulas in out, and then that of the later ones
+-- the work of what lies at the index, after the formulas in out, and then that of the later ones
 pub met_onto : (f : Met → Traced (List Form)) (xs : List Met) (i : ℕ) (x : Met) (out : List Core) (work : Traced (List Form)) → i < length xs → x ≡ get_or xs i x
     → Left (each f (drop i xs) (map form out)) work → Left (next (onto (map form out) (f x)) (λ fs. each f (drop (i + 1) xs) fs)) work
 met_onto f xs i x out work lt is inv =
@@ -176,7 +176,7 @@ later_made rs i d old new r made =
     let whole : take (length rs - (i + 1)) (drop (i + 1) rs) ≡ drop (i + 1) rs = take_all (length rs - (i + 1)) (drop (i + 1) rs) (omega (arith, length-drop (i + 1) rs)) in
     subst (λ l. Made (λ (u : Unit {0}). map form new) (onto (map form old) (with_functions (members_of (behind l)) (form (get_or rs i d).now.formula))) r) whole made
 
--- the pairs of a sequent, behind some formulas, looked for where a predicate is met and among the values of functions
+-- the pairs of a sequent, after some formulas, looked for where a predicate is met and among the values of functions
 pairs_onto : (ms ds : List Member) (hs : List (Bor Member)) (xs : List Met) (old : List Form) → meetings_by hs xs ≡ meetings ms → ds ≡ among is_differing ms
     → next (each (λ x. with_predicates (members_of (behind (drop x.first hs))) (form x.failing.now.formula)) xs old) (λ fs. function_pairs (members_of ds) fs) ≡ onto old (pairs_of (members_of ms))
 pairs_onto ms ds hs xs old met other =

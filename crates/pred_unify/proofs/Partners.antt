@@ -94,7 +94,7 @@ values_kept (m ∷ ms) out = by (is_differing (form m.formula)) refl (values_kep
 pub onto_next : (w : Traced (List Form)) (k : List Form → Traced (List Form)) (out : List Form) → next (onto out w) k ≡ next w (λ fs. k (out ++ fs))
 onto_next w k out = next-assoc w (λ fs. just (out ++ fs)) k ∙ (λ i. next w (λ fs. next-just (out ++ fs) k i))
 
--- work that begins behind some formulas gives the same behind them
+-- work that begins after some formulas gives the same after them
 each_behind : {C : Type 0} (f : C → Traced (List Form)) (xs : List C) (a b : List Form) → each f xs (a ++ b) ≡ onto a (each f xs b)
 each_behind f [] a b = sym (next-just b (λ fs. just (a ++ fs)))
 each_behind f (x ∷ xs) a b =

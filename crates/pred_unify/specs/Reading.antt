@@ -54,7 +54,7 @@ with_bit _ mask = mask
 abbrev pub Masks : ℕ → List Member → Type 0
 Masks mask hs = (p : ℕ) (ss : List Linear) → bit_and mask (2 ^ (p % 64)) ≡ 0 → filter (λ h. meets p ss (form h.formula)) hs ≡ []
 
--- what the work gives, behind those in out
+-- what the work gives, after those in out
 abbrev pub onto : List Form → Traced (List Form) → Traced (List Form)
 onto out w = next w (λ fs. just (out ++ fs))
 

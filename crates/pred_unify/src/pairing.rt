@@ -1,4 +1,4 @@
-// The pairs of a sequent, each behind the formulas that are there before.
+// The pairs of a sequent, each after the formulas that are there before.
 
 ghost use Rattle.std.specs.Prelude.{◌≡◌, ◌≤◌, ◌<◌, ◌+◌, ◌-◌, ◌^◌, drop, length, [], map, IfOk};
 ghost use Rattle.std.specs.List.{AllByRecursion};

@@ -12,8 +12,8 @@ use pri_printer::print_solution;
 use pri_typing::Problem;
 use std::alloc::Global;
 
-/// A first line, and behind it the lines of a constraint over the existential constants of a problem and of a value for each of
-/// these. The one error is want of memory.
+/// A first line, and after it the lines of a constraint over the existential constants of a problem and of a value for each of
+/// these. The one error is running out of memory.
 pub fn valued_lines(
     alloc: Global,
     first: &[u8],

@@ -15,7 +15,7 @@ use pri_typing::Problem;
 use std::alloc::Global;
 
 /// The line `constraint: F` of a constraint over the existential constants of a problem. Its text is read back as the formula
-/// that the constraint is. The one error is want of memory.
+/// that the constraint is. The one error is running out of memory.
 pub fn constraint_line(alloc: Global, p: &Problem, d: &Dnf) -> Result<Vec<u8>, Memory>
     requires well_formed { IsWellFormed p.now }
     requires distinct { HasDistinctNames p.now }
@@ -37,7 +37,7 @@ pub fn interpolant_line(alloc: Global, p: &Problem, d: &Dnf) -> Result<Vec<u8>, 
     labelled(alloc, b"interpolant: ", p, d)
 }
 
-// The line of a normal form behind a label.
+// The line of a normal form after a label.
 fn labelled(alloc: Global, label: &[u8], p: &Problem, d: &Dnf) -> Result<Vec<u8>, Memory>
     requires well_formed { IsWellFormed p.now }
     requires distinct { HasDistinctNames p.now }

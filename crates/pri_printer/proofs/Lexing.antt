@@ -14,7 +14,7 @@ use Rattle.pri_tokens.proofs.Scan.{lexemes_piece}
 use Rattle.base_numerals.proofs.Tests.{left_true, right_true}
 use Rattle.pri_printer.proofs.Writing.{Ends, tokens_at, is_parted, lexeme_at}
 
--- what the bytes end with behind a text with which they go on
+-- what the bytes end with after a text with which they go on
 pub ends_behind : (bytes word more : List ℕ) → Ends bytes (word ++ more) → Ends bytes more
 ends_behind bytes word more e = record { front = e.front ++ word; parts = e.parts ∙ sym (append_assoc e.front word more) }
 
@@ -59,7 +59,7 @@ text-lexed bytes word more terminal e =
     ∙ ap (take (length word)) (drop_front _ e.front (word ++ more) (length_front bytes (word ++ more) e))
     ∙ take_front (length word) word more refl
 
--- as many bytes pass as a word has whose bytes pass, where the byte behind it does not
+-- as many bytes pass as a word has whose bytes pass, where the byte after it does not
 prefix_len_word : (p : ℕ → Bool) (word more : List ℕ) → list_all p word ≡ true → prefix_len p more ≡ 0 → prefix_len p (word ++ more) ≡ length word
 prefix_len_word p [] more a e = e
 prefix_len_word p (b ∷ word) more a e =

@@ -191,7 +191,7 @@ not_spelled n Q R text r b h = record {
       };
 }
 
--- a text behind another one and a sign
+-- a text after another one and a sign
 behind_sign : (bytes left sign more : List ℕ) → Ends bytes (left ++ (sign ++ more)) → Ends bytes more
 behind_sign bytes left sign more e = ends_behind bytes sign more (ends_behind bytes left (sign ++ more) e)
 

@@ -20,7 +20,7 @@ constants_of p = p.existentials ++ p.universals
 abbrev pub dnf_text : Problem → List (List Literal) → List ℕ
 dnf_text p d = normal_form_text (constants_of p) (quotient_name (quotient_number p)) d
 
--- the formula that the text is: the quotient of a divisibility is the bound variable behind the constants
+-- the formula that the text is: the quotient of a divisibility is the bound variable after the constants
 abbrev pub dnf_formula : Problem → List (List Literal) → Formula
 dnf_formula p d = normal_form_formula (length (constants_of p)) d
 

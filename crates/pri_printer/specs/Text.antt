@@ -48,7 +48,7 @@ literal_text names k (Geq t) = term_text names t ++ (codes " >= " ++ codes "0")
 literal_text names k (Div d t) = divides_text names k d t
 literal_text names k (NDiv d t) = codes "!" ++ divides_text names k d t
 
--- the texts, each behind the sign
+-- the texts, each after the sign
 abbrev pub behind_each : List ℕ → List (List ℕ) → List ℕ
 behind_each sign [] = []
 behind_each sign (u ∷ us) = sign ++ (u ++ behind_each sign us)

@@ -17,7 +17,7 @@ use linear_term::Memory;
 use pri_typing::Problem;
 use std::alloc::Global;
 
-/// Puts the later literals of a clause behind a text.
+/// Puts the later literals of a clause after a text.
 fn put_literals(
     alloc: Global,
     p: &Problem,
@@ -35,7 +35,7 @@ fn put_literals(
     Ok(())
 }
 
-/// Puts a clause behind a text.
+/// Puts a clause after a text.
 fn put_clause(
     alloc: Global,
     p: &Problem,
@@ -54,7 +54,7 @@ fn put_clause(
     put_literals(alloc, p, k, more, out)
 }
 
-/// Puts the later clauses of a normal form behind a text.
+/// Puts the later clauses of a normal form after a text.
 fn put_clauses(
     alloc: Global,
     p: &Problem,
@@ -72,7 +72,7 @@ fn put_clauses(
     Ok(())
 }
 
-/// Puts a normal form behind a text.
+/// Puts a normal form after a text.
 fn put_normal_form(
     alloc: Global,
     p: &Problem,
@@ -121,12 +121,12 @@ pub fn know_clauses(clauses: &[Clause])
 
 /// The text of a disjunctive normal form over the constants of the problem, as a formula of the problem's language: `true`
 /// for a clause without literals and `false` where there is no clause, and else `2*a - b + 1 >= 0`, `a = 0`,
-/// `\exists int k0; a = 3*k0` or the same behind `!`, joined by ` & ` to clauses and these by ` | `. The quotient has the
+/// `\exists int k0; a = 3*k0` or the same after `!`, joined by ` & ` to clauses and these by ` | `. The quotient has the
 /// first of the names k0, k1, .. that no symbol of the problem has.
 ///
 /// Read with the symbols of the problem the text says a formula that is true at values of the constants exactly where the
 /// normal form is, in every interpretation, without applications and of the constants that occur in the normal form alone.
-/// It is within the limits of a file. The one error is want of memory.
+/// It is within the limits of a file. The one error is running out of memory.
 pub fn print_dnf(alloc: Global, p: &Problem, d: &Dnf) -> Result<Vec<u8>, Memory>
     requires well_formed { IsWellFormed p.now }
     requires distinct { HasDistinctNames p.now }

@@ -13,7 +13,7 @@ use pri_typing::{Problem, Symbol};
 use sqlite_items::Items;
 use std::alloc::Global;
 
-/// Puts an integer behind a text.
+/// Puts an integer after a text.
 pub fn put_integer(alloc: Global, value: &i128, out: &mut Vec<u8>) -> Result<(), Memory>
     ensures { OnOk result (out.new.items ≡ out.old.items ++ signed_decimal value.now) }
 {
@@ -22,7 +22,7 @@ pub fn put_integer(alloc: Global, value: &i128, out: &mut Vec<u8>) -> Result<(),
     Ok(())
 }
 
-/// Puts the later integers of a list behind a text.
+/// Puts the later integers of a list after a text.
 fn put_later(alloc: Global, values: &[i128], out: &mut Vec<u8>) -> Result<(), Memory>
     ensures { OnOk result (out.new.items ≡ out.old.items ++ behind_each (codes ", ") (map signed_decimal values.now)) }
 {
@@ -33,7 +33,7 @@ fn put_later(alloc: Global, values: &[i128], out: &mut Vec<u8>) -> Result<(), Me
     Ok(())
 }
 
-/// Puts a symbol at these integers behind a text.
+/// Puts a symbol at these integers after a text.
 pub fn put_applied(alloc: Global, name: &[u8], at: &[i128], out: &mut Vec<u8>) -> Result<(), Memory>
     ensures { OnOk result (out.new.items ≡ out.old.items ++ applied_text name.now at.now) }
 {
@@ -48,7 +48,7 @@ pub fn put_applied(alloc: Global, name: &[u8], at: &[i128], out: &mut Vec<u8>) -
     Ok(())
 }
 
-/// Puts a line for each constant with its value behind a text.
+/// Puts a line for each constant with its value after a text.
 pub fn put_constants(
     alloc: Global,
     names: &[Items<u8>],
@@ -75,7 +75,7 @@ fn symbol_name(symbols: &[Symbol], id: u32) -> &[u8]
     }
 }
 
-/// Puts a line for each row of a predicate behind a text.
+/// Puts a line for each row of a predicate after a text.
 fn put_truths(
     alloc: Global,
     p: &Problem,
@@ -93,7 +93,7 @@ fn put_truths(
     Ok(())
 }
 
-/// Puts a line for each row of a function behind a text.
+/// Puts a line for each row of a function after a text.
 fn put_values(
     alloc: Global,
     p: &Problem,

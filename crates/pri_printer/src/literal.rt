@@ -19,7 +19,7 @@ fn put_divisor(alloc: Global, d: &i128, out: &mut Vec<u8>) -> Result<(), Memory>
     put_number(alloc, divisor.unsigned_abs(), out)
 }
 
-/// Puts a divisibility, with the name k for its quotient, behind a text.
+/// Puts a divisibility, with the name k for its quotient, after a text.
 fn put_divides(
     alloc: Global,
     p: &Problem,
@@ -42,7 +42,7 @@ fn put_divides(
     Ok(())
 }
 
-/// Puts a literal, with the name k for the quotient of a divisibility, behind a text.
+/// Puts a literal, with the name k for the quotient of a divisibility, after a text.
 pub(crate) fn put_literal(
     alloc: Global,
     p: &Problem,

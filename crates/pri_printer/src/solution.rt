@@ -10,7 +10,7 @@ use pri_typing::Problem;
 use sqlite_items::Items;
 use std::alloc::Global;
 
-/// Puts `x = 1` behind a text.
+/// Puts `x = 1` after a text.
 pub fn put_value(alloc: Global, name: &[u8], value: &i128, out: &mut Vec<u8>) -> Result<(), Memory>
     ensures { OnOk result (out.new.items ≡ out.old.items ++ value_text name.now value.now) }
 {
@@ -21,7 +21,7 @@ pub fn put_value(alloc: Global, name: &[u8], value: &i128, out: &mut Vec<u8>) ->
     Ok(())
 }
 
-/// Puts the later values behind a text.
+/// Puts the later values after a text.
 fn put_values(
     alloc: Global,
     names: &[Items<u8>],
@@ -38,7 +38,7 @@ fn put_values(
     Ok(())
 }
 
-/// Puts names with their values behind a text.
+/// Puts names with their values after a text.
 fn put_listed(
     alloc: Global,
     names: &[Items<u8>],
@@ -59,7 +59,7 @@ fn put_listed(
 }
 
 /// The values of the existential constants in the order of their declarations, as `x = 1, y = -2`; nothing where there
-/// are none. The one error is want of memory.
+/// are none. The one error is running out of memory.
 pub fn print_solution(alloc: Global, p: &Problem, values: &[i128]) -> Result<Vec<u8>, Memory>
     requires { length values.now ≡ length p.now.existentials }
     ensures { IfOk result (λ v. v.items ≡ solution_text p.now values.now) }

@@ -25,7 +25,7 @@ fn constant_name(p: &Problem, x: usize) -> &[u8]
     }
 }
 
-/// Puts the digits of a number behind a text.
+/// Puts the digits of a number after a text.
 pub(crate) fn put_number(alloc: Global, n: u128, out: &mut Vec<u8>) -> Result<(), Memory>
     ensures { OnOk result (out.new.items ≡ out.old.items ++ decimal n) }
 {
@@ -34,7 +34,7 @@ pub(crate) fn put_number(alloc: Global, n: u128, out: &mut Vec<u8>) -> Result<()
     Ok(())
 }
 
-/// Puts ` - ` or ` + ` behind a text.
+/// Puts ` - ` or ` + ` after a text.
 fn put_sign(minus: bool, out: &mut Vec<u8>) -> Result<(), Memory>
     ensures { OnOk result (out.new.items ≡ out.old.items ++ adding_text minus) }
 {
@@ -46,7 +46,7 @@ fn put_sign(minus: bool, out: &mut Vec<u8>) -> Result<(), Memory>
     Ok(())
 }
 
-/// Puts a number times a constant behind a text.
+/// Puts a number times a constant after a text.
 fn put_monomial(
     alloc: Global,
     p: &Problem,
@@ -65,7 +65,7 @@ fn put_monomial(
     Ok(())
 }
 
-/// Puts a monomial without its sign behind a text.
+/// Puts a monomial without its sign after a text.
 fn put_pair(alloc: Global, p: &Problem, pair: &(u32, i128), out: &mut Vec<u8>) -> Result<(), Memory>
     requires { pair.now.0 < length (constants_of p.now) }
     ensures { OnOk result (out.new.items ≡ out.old.items ++ summand_text (constants_of p.now) (times (unsigned_abs pair.now.1) pair.now.0)) }
@@ -80,7 +80,7 @@ fn is_subtracted(pair: &(u32, i128)) -> bool
     pair.1 < 0
 }
 
-/// Puts the later monomials of a sum behind a text.
+/// Puts the later monomials of a sum after a text.
 fn put_pairs(
     alloc: Global,
     p: &Problem,
@@ -106,7 +106,7 @@ fn put_minus(minus: bool, out: &mut Vec<u8>) -> Result<(), Memory>
     Ok(())
 }
 
-/// Puts a constant that is not 0, with its sign, behind a sum.
+/// Puts a constant that is not 0, with its sign, after a sum.
 fn put_constant(alloc: Global, p: &Problem, t: &Term, out: &mut Vec<u8>) -> Result<(), Memory>
     ensures { OnOk result (out.new.items ≡ out.old.items
         ++ added_texts (map (later_text (constants_of p.now)) (cond (int_eq t.now.constant (pos 0)) [] (constant_summand t.now.constant ∷ [])))) }
@@ -119,7 +119,7 @@ fn put_constant(alloc: Global, p: &Problem, t: &Term, out: &mut Vec<u8>) -> Resu
     Ok(())
 }
 
-/// Puts the constant alone behind a text.
+/// Puts the constant alone after a text.
 fn put_alone(alloc: Global, t: &Term, out: &mut Vec<u8>) -> Result<(), Memory>
     ensures { OnOk result (out.new.items ≡ out.old.items ++ (cond (int_lt t.now.constant (pos 0)) (codes "-") [] ++ decimal (unsigned_abs t.now.constant))) }
 {
@@ -128,7 +128,7 @@ fn put_alone(alloc: Global, t: &Term, out: &mut Vec<u8>) -> Result<(), Memory>
     put_number(alloc, k.unsigned_abs(), out)
 }
 
-/// Puts a term over the constants of the problem behind a text.
+/// Puts a term over the constants of the problem after a text.
 pub(crate) fn put_term(
     alloc: Global,
     p: &Problem,

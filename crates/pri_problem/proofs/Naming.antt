@@ -1,4 +1,4 @@
--- What a text of a refusal comes of: the names of refusals are different, and that of want of memory is none of them.
+-- What a text of a refusal comes of: the names of refusals are different, and that of running out of memory is none of them.
 use Rattle.std.proofs.Common.{◌≡◌, ◌+◌, ◌*◌, ℕ, cond, ◌==◌, List, [], ◌∷◌, ◌++◌, drop, Option, Some, None, slice_index_or, sym, ◌∙◌, ap, codes, arith}
 use Rattle.std.specs.Str.Parse.{digits_value}
 use Rattle.std.proofs.lemmas.Fmt.{decimal_is_IsNumeral}
@@ -15,7 +15,7 @@ use Rattle.pri_problem.specs.Refused.{ComesOf}
 abbrev letters : List ℕ → ℕ
 letters text = slice_index_or text 0 0 * 1000 + slice_index_or text 2 0
 
--- the place behind a name of n bytes
+-- the place after a name of n bytes
 abbrev place_behind : ℕ → List ℕ → ℕ
 place_behind n text = digits_value 10 (drop (n + 4) text)
 

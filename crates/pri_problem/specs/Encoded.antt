@@ -46,13 +46,13 @@ pub record IsEncoded (p : Problem) (e : Encoded) : Type 0 where
   pub pure : (is_pure (form e.root) ≡ true) ↔ IsPure p
   pub truth : (w : Meaning) (v : List ℤ) → length v ≡ length p.existentials → FormTruth w (form e.root) v ↔ Holds w p v
 
--- what it says of a problem that there is no encoding; want of memory says nothing
+-- what it says of a problem that there is no encoding; running out of memory says nothing
 abbrev pub RefusesEncoding : Problem → EncodeRefusal → Type 0
 RefusesEncoding p Large = IsLarge p
 RefusesEncoding p (Overflow place) = LeavesRange p
 RefusesEncoding p Memory = Unit {0}
 
--- the output tells why there is no encoding; none tells want of memory
+-- the output tells why there is no encoding; none tells running out of memory
 abbrev pub IsToldUnencoded : EncodeRefusal → Output → Type 0
 IsToldUnencoded Large output = answer_of output ≡ refused_answer (codes "Large")
 IsToldUnencoded (Overflow place) output = answer_of output ≡ unknown_answer (codes "overflow")

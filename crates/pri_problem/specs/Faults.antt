@@ -12,12 +12,12 @@ use Rattle.pri_problem.specs.declared.fault.FileFault.TheVariants as fault
 use Rattle.pri_problem.specs.Reads.{FirstRefusal, unread, untyped}
 use Rattle.pri_problem.specs.Refusals.{refusal_name}
 
--- what a fault says of the bytes: it is their first refusal; want of memory says nothing
+-- what a fault says of the bytes: it is their first refusal; running out of memory says nothing
 abbrev pub RefusesFile : List ℕ → FileFault → Type 0
 RefusesFile bytes (fault.Reading e) = Refuses (file_setting bytes) (length bytes) (lexemes_of bytes) e
 RefusesFile bytes (fault.Typing e) = (e ≡ typing.Memory) ⊎ FirstRefusal bytes (untyped e)
 
--- the output tells the fault; none tells want of memory
+-- the output tells the fault; none tells running out of memory
 abbrev pub IsTold : FileFault → Output → Type 0
 IsTold (fault.Reading reading.Memory) output = ⊥
 IsTold (fault.Reading e) output = answer_of output ≡ refused_answer (refusal_name (unread e))

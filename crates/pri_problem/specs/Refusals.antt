@@ -5,7 +5,7 @@ use Rattle.pri_reader.specs.declared.tree.ReadRefusal.TheVariants as reading
 use Rattle.pri_typing.specs.declared.problem.TypeRefusal.TheVariants as typing
 use Rattle.pri_problem.specs.Reads.{Refusal, unread, untyped}
 
--- what a refusal is called; want of memory is none
+-- what a refusal is called; running out of memory is none
 abbrev pub refusal_name : Refusal → List ℕ
 refusal_name (unread (reading.Syntax at)) = placed (codes "Syntax") at
 refusal_name (unread (reading.Literal at)) = placed (codes "Literal") at
@@ -20,7 +20,7 @@ refusal_name (untyped (typing.Many at)) = placed (codes "Many") at
 refusal_name (unread reading.Memory) = []
 refusal_name (untyped typing.Memory) = []
 
--- a refusal has a name: it is not want of memory, and its place is a number of 64 bits
+-- a refusal has a name: it is not running out of memory, and its place is a number of 64 bits
 abbrev pub IsNamed : Refusal → Type 0
 IsNamed (unread (reading.Syntax at)) = at < 2 ^ 64
 IsNamed (unread (reading.Literal at)) = at < 2 ^ 64

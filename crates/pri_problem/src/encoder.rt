@@ -20,7 +20,7 @@ pub fn encode_problem(alloc: Global, p: &Problem) -> Result<Encoded, EncodeRefus
     encode(alloc, p)
 }
 
-/// The answer that tells why a problem has no encoding; where memory was wanting there is none.
+/// The answer that tells why a problem has no encoding; where memory runs out there is none.
 pub fn refuse_encoding(alloc: Global, refusal: EncodeRefusal) -> Result<Output, Memory>
     ensures { IfOk result (IsToldUnencoded refusal) }
 {

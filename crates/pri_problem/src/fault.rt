@@ -3,7 +3,7 @@
 use pri_reader::ReadRefusal;
 use pri_typing::TypeRefusal;
 
-/// Why the bytes of a file are not held as a problem. Want of memory is one of the refusals of the reader and of typing.
+/// Why the bytes of a file are not held as a problem. Running out of memory is one of the refusals of the reader and of typing.
 #[derive(Clone, Copy, Debug, PartialEq, Eq)]
 pub enum FileFault {
     /// They are no file.

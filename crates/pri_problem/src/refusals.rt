@@ -10,7 +10,7 @@ use pri_reader::ReadRefusal;
 use pri_typing::TypeRefusal;
 use std::alloc::Global;
 
-/// The answer that tells why a file is refused, with the name and the offset; where memory was wanting there is none.
+/// The answer that tells why a file is refused, with the name and the offset; where memory runs out there is none.
 pub fn refuse(alloc: Global, fault: FileFault) -> Result<Output, Memory>
     ensures { IfOk result (IsTold fault) }
 {

@@ -7,7 +7,7 @@ use Rattle.pri_reader.specs.declared.classes.Heading.{Heading}
 use Rattle.pri_reader.specs.MachineStates.{Want}
 use Rattle.pri_reader.specs.BlockReading.{IsNoBlock, StopsReader}
 
--- want of memory says nothing of the file
+-- running out of memory says nothing of the file
 pub stops_memory : {b : List ℕ} {A : Type 0} {want : A → Want} {tokens : List Lexeme} {e : ReadRefusal} → e ≡ refusal.Memory → StopsReader b want tokens e
 stops_memory h = rw h (record { run = λ a. tt })
 

@@ -15,7 +15,7 @@ use Rattle.pri_reader.proofs.Exits.{through}
 use Rattle.pri_reader.proofs.BinderSteps.{plain_pass, grouped_step, bound_bad, bound_step, bound_deep, bound_comma_step, bound_line_step, bound_plain_end_step, bound_grouped_end_step, plain_more_bad, grouped_more_bad}
 use Rattle.pri_reader.proofs.TokenSteps.{gives_wrap}
 
--- Behind a bound name.
+-- After a bound name.
 
 pub more_comma : {b : List ℕ} {several : Bool} {sort : TypeName} {x : Lexeme} {t0 t1 : List Lexeme} → Takes t.Comma x t0 t1 → BindsMore b several sort sort t0 t1
 more_comma s = record { run = λ n names. record { run = λ at all frames. bound_comma_step _ _ _ _ _ _ _ _ _ _ _ s } }

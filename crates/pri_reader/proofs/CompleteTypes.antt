@@ -45,7 +45,7 @@ unfolding moves
 endpoint_complete {s = s} end (endpoint_plain n) for side frames = step_numeral s end n.takes _ _ refl n.small
 endpoint_complete {s = s} end (endpoint_minus m n) for side frames = step_on s end m _ _ refl ∙ step_numeral s end n.takes _ _ refl n.small
 
--- a type, behind which no `[` comes
+-- a type, after which no `[` comes
 pub type_complete : {s : Setting} {sort : TypeName} {tokens rest : List Lexeme} (end : ℕ) → IsType s sort tokens rest → next_opens_range rest ≡ false
     → (for : TypeFor) (frames : List Frame) → run s end tokens (a_type for) frames ≡ run s end rest (behind_type for sort) frames
 unfolding moves

@@ -20,7 +20,7 @@ use Rattle.pri_reader.specs.Reading.{AddsTerm, BeginsTerm, Compares, FailsWith, 
 pub through : {outcome inner : Result File ReadRefusal} (e : ReadRefusal) → outcome ≡ inner → FailsWith e inner → FailsWith e outcome
 through e p h = subst (FailsWith e) (sym p) h
 
--- want of memory says nothing of the file
+-- running out of memory says nothing of the file
 pub memory : {b : List ℕ} {want : Want} {above : List Frame} {tokens : List Lexeme} {e : ReadRefusal} → e ≡ refusal.Memory → IsReadRefused b want above tokens e
 memory h = rw h (record { run = λ frames. tt })
 
@@ -47,7 +47,7 @@ pub handed_both : {A : Type 0} (r : Result A ReadRefusal) (P Q S : A → Type 0)
 handed_both (Ok x) P Q S g h f = f x g h
 handed_both (Err e) P Q S g h f = tt
 
--- a token less stands behind a token
+-- a token less stands after a token
 pub takes_shorter : {k : Terminal} {x : Lexeme} {tokens rest : List Lexeme} → Takes k x tokens rest → length rest < length tokens
 takes_shorter {rest = rest} s = rw s.parts (omega arith)
 
@@ -66,7 +66,7 @@ begins_shorter {rest = rest} s = rw s.parts (omega arith)
 pub heads_shorter : {heading : Heading} {x : Lexeme} {tokens rest : List Lexeme} → Heads heading x tokens rest → length rest < length tokens
 heads_shorter {rest = rest} s = rw s.parts (omega arith)
 
--- the tokens behind a part, one after the other
+-- the tokens after a part, one after the other
 pub then_shorter : {a b c : ℕ} → a < b → b < c → a < c
 then_shorter p q = omega (arith, p, q)
 

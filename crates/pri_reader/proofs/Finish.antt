@@ -78,7 +78,7 @@ block_by s blocks frames false e = problem_missing s blocks frames e
 a_block_completes : (s : Setting) (blocks : List Block) (frames : List Frame) → Completes s (a_block blocks) frames
 a_block_completes s blocks frames = block_by s blocks frames (has_problem blocks) refl
 
--- Behind an expression.
+-- After an expression.
 
 -- these tokens, of which the first goes on with no line, complete an expression to a file
 record Closes (s : Setting) (f : Expr) (frames : List Frame) : Type 0 where

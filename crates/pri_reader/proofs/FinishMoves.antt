@@ -79,7 +79,7 @@ word_heading : (k : Terminal) (g : Heading) → heading_of k ≡ Some g → is_n
 word_heading t.Number g e = absurd cc
 word_heading _ g e = refl
 
--- Behind an expression.
+-- After an expression.
 
 right_whole : (r : Right) (n : ℕ) (frames : List Frame) → IsInProblem frames → IsWhole (wants_right r n) (under_right r n frames)
 right_whole equivalence n frames i = i

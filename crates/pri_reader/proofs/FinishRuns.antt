@@ -1,4 +1,4 @@
--- The state of the machine behind the first tokens of a file, and what a file's front and its state have to do with each other:
+-- The state of the machine after the first tokens of a file, and what a file's front and its state have to do with each other:
 -- the tokens begin a file exactly where the machine takes them.
 use Rattle.std.proofs.Common.{ℕ, ◌≡◌, ◌≤◌, ◌<◌, ◌||◌, Bool, true, false, List, [], ◌∷◌, ◌++◌, length, Result, Ok, Err, refl, sym, ap, subst, ◌∙◌, arith, if◌then◌else◌, nat_lt}
 use Rattle.std.proofs.lemmas.List.{append-nil, length-append}
@@ -31,12 +31,12 @@ abbrev pub and_then : Next → Result State ReadRefusal → Result State ReadRef
 and_then next (Ok state) = next state.0 state.1
 and_then next (Err e) = Err e
 
--- the state behind the tokens, from a state on; for limits that ask of the number alone
+-- the state after the tokens, from a state on; for limits that ask of the number alone
 unfoldable pub after : Setting → List Lexeme → Want → List Frame → Result State ReadRefusal
 after s [] want frames = Ok (want, frames)
 after s (x ∷ front) want frames = and_then (after s front) (limited (s.small []) (s.shallow []) x.at (moves s x x.terminal want frames))
 
--- The run of a file is that of its front, and then that of what is behind it.
+-- The run of a file is that of its front, and then that of what is after it.
 
 run_limit : (v w : Bool) (more : Rest) (next : Next) (last : Rest) (want : Want) (frames : List Frame) (e : ReadRefusal) → v ≡ w
     → more want frames ≡ goes_on last (next want frames)
@@ -54,7 +54,7 @@ run_move more next last small shallow few low at (on want frames) u v r = r want
 run_move more next last small shallow few low at (numeral n want frames) u v r = run_limit (small n) (few n) more next last want frames (refusal.Literal at) (u n) (r want frames)
 run_move more next last small shallow few low at (level n want frames) u v r = run_limit (shallow n) (low n) more next last want frames (refusal.Deep at) (v n) (r want frames)
 
--- a limit is this one at every token that has so many tokens behind it
+-- a limit is this one at every token that has this many tokens after it
 abbrev Agrees : ℕ → Limit → (ℕ → Bool) → Type 0
 Agrees most limit few = (rest : List Lexeme) (n : ℕ) → most ≤ length rest → limit rest n ≡ few n
 
@@ -79,7 +79,7 @@ run_all s end tokens want frames u v =
     ap (λ z. run s end z want frames) (sym (append-nil tokens))
     ∙ run_front s s.small s.shallow end [] tokens want frames (λ rest n h. u rest [] n) (λ rest n h. v rest [] n)
 
--- Two fronts, one behind the other.
+-- Two fronts, one after the other.
 
 and_then_twice : (one two : Next) (both : Next) (o : Result State ReadRefusal) → ((want : Want) (frames : List Frame) → both want frames ≡ and_then two (one want frames))
     → and_then both o ≡ and_then two (and_then one o)
@@ -129,7 +129,7 @@ unfolding after
 and_then_nothing s (Ok state) = refl
 and_then_nothing s (Err e) = refl
 
--- the state behind one more token, with wider limits
+-- the state after one more token, with wider limits
 pub after_one : (s : Setting) (small shallow : Limit) → Wider (s.small []) (small []) → Wider (s.shallow []) (shallow [])
     → (front : List Lexeme) (x : Lexeme) (state : State) (m : Move) → after s front (a_block []) [] ≡ Ok state → moves s x x.terminal state.0 state.1 ≡ m
     → after (with_limits s small shallow) (front ++ x ∷ []) (a_block []) [] ≡ limited (small []) (shallow []) x.at m
@@ -139,7 +139,7 @@ after_one s small shallow u v front x state m e q =
     ∙ ap (and_then (after (with_limits s small shallow) (x ∷ []))) (after_wider s small shallow u v front (a_block []) [] state e)
     ∙ and_then_nothing (with_limits s small shallow) (limited (small []) (shallow []) x.at (moves s x x.terminal state.0 state.1)) ∙ ap (limited (small []) (shallow []) x.at) q
 
--- Each state behind a front is whole.
+-- Each state after a front is whole.
 
 kept_limit : (v : Bool) (next : Next) (want : Want) (frames : List Frame) (e : ReadRefusal) (state : State) → (next want frames ≡ Ok state → IsWhole state.0 state.1)
     → and_then next (if v then Ok (want, frames) else Err e) ≡ Ok state → IsWhole state.0 state.1
@@ -201,7 +201,7 @@ run_free s small shallow most end u v (x ∷ tokens) h want frames =
     free_move (run (with_limits s small shallow) end tokens) (run (unlimited s) end tokens) (small tokens) (shallow tokens) x.at (moves s x x.terminal want frames)
     (λ n. u tokens n (omega arith)) (λ n. v tokens n (omega arith)) (λ w f. run_free s small shallow most end u v tokens (omega arith) w f)
 
--- A front begins a file exactly where there is a state behind it.
+-- A front begins a file exactly where there is a state after it.
 
 pub begins_after : (s : Setting) → AsksNumber s.small → AsksNumber s.shallow → (front : List Lexeme) (state : State) → after s front (a_block []) [] ≡ Ok state → BeginsFile s front
 begins_after s u v front state e =

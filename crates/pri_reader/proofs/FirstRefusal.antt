@@ -16,7 +16,7 @@ use Rattle.pri_reader.proofs.Sound.{file_sound}
 use Rattle.pri_reader.proofs.FinishMoves.{is_number, Keeps, moves_keep}
 use Rattle.pri_reader.proofs.FinishRuns.{State, and_then, after, run_all, after_two, after_one, state_whole, begins_after, IsTaken, after_begins}
 
--- The state behind a front and the token there, with the limits, without those of levels, and without any.
+-- The state after a front and the token there, with the limits, without those of levels, and without any.
 
 one_more : (s : Setting) (front : List Lexeme) (x : Lexeme) (state : State) (m : Move) → after s front (a_block []) [] ≡ Ok state → moves s x x.terminal state.0 state.1 ≡ m
     → after s (front ++ x ∷ []) (a_block []) [] ≡ limited (s.small []) (s.shallow []) x.at m
@@ -37,7 +37,7 @@ asks_none one two n = refl
 not_taken : (o r : Result State ReadRefusal) (e : ReadRefusal) → o ≡ r → r ≡ Err e → IsTaken o → ⊥
 not_taken o r e p q b = let i = b.is in absurd cc
 
--- A refusal of the machine has a front, a state behind it, and a token that is refused there.
+-- A refusal of the machine has a front, a state after it, and a token that is refused there.
 
 record Stop (s : Setting) (tokens : List Lexeme) (want : Want) (frames : List Frame) (e : ReadRefusal) : Type 0 where
   front : List Lexeme

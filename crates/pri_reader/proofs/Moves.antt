@@ -103,7 +103,7 @@ rank factor = 1
 rank primary = 1
 rank parenthesized = 0
 
--- the token behind a part goes on with none of its lines
+-- the token after a part goes on with none of its lines
 abbrev pub Stops : ℕ → List Lexeme → Type 0
 Stops r rest = r < next_joins rest
 

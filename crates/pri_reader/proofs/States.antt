@@ -20,7 +20,7 @@ use Rattle.pri_reader.specs.Grammar.{Right, multiplication, Chain, Part, right, 
 use Rattle.pri_reader.specs.MachineStates.{Frame, right_of, chain_of, rel_of, sum_of, wrap, Wrap, wrapped, parenthesis_of, test_of, branch_of, arguments_of, pair_left, pair_right, problem_of, Want, a_unary, a_minus, a_parenthesis, behind_name, an_argument, a_pair, a_binder, TypeFor, for_line, for_binder, Side, lower, upper, a_type, behind_int_word, an_endpoint, an_endpoint_number, behind_endpoint, a_bound, bound_more, a_part_bracket, a_part_name, a_part_close, gives, a_block, a_brace, a_line, a_name, names_more, an_item_line, an_item, behind_item, a_first_parameter, a_parameter, behind_int, parameters_more, items_more, NamesFor, for_constants, for_set, ItemsFor, Move, bad, on, numeral, level, applied}
 
 -- what a frame says: K says of a part, a depth and tokens that an expression of that part, which begins there, fits below the
--- frames behind it
+-- frames after it
 abbrev pub Fits : Type 1
 Fits = Part → ℕ → List Lexeme → Type 0
 
@@ -254,7 +254,7 @@ pub record BehindIntWord (s : Setting) (start : List Lexeme) (for : TypeFor) (fr
   pub takes : Takes t.Int x outer tokens
   pub done : (sort : TypeName) (rest : List Lexeme) → IsType s sort outer rest → BehindType s start for sort frames rest
 
--- what a state says behind an endpoint of this value: behind the rest of its range, the names of that type begin
+-- what a state says after an endpoint of this value: after the rest of its range, the names of that type begin
 abbrev pub BehindEndpoint : Setting → List Lexeme → TypeFor → Side → ℤ → List Frame → List Lexeme → Type 0
 BehindEndpoint s start for lower value frames tokens = (most : ℤ) (c e : Lexeme) (inner close rest : List Lexeme) → Takes t.Comma c tokens inner → Endpoint s most inner close
     → Takes t.CloseBracket e close rest → BehindType s start for (type.Range value most) frames rest

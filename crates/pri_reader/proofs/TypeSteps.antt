@@ -35,7 +35,7 @@ pub int_step : (b : List ℕ) (tokens inner : List Lexeme) (x : Lexeme) (for : T
 unfolding moves
 int_step b tokens inner x for frames e = goes b e _ _ refl
 
--- the names of a type begin as the state behind it says
+-- the names of a type begin as the state after it says
 pub names_move : (s : Setting) (x : Lexeme) (k : Terminal) (for : TypeFor) (sort : TypeName) (frames : List Frame)
     → moves s x k (behind_type for sort) frames ≡ behind_type_moves s x k for sort frames
 unfolding moves

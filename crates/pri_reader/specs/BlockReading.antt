@@ -50,7 +50,7 @@ abbrev pub heads_problem : Heading → Bool
 heads_problem h.Problem = true
 heads_problem _ = false
 
--- behind this heading, the tokens before the rest are this block
+-- after this heading, the tokens before the rest are this block
 pub record IsBlock (b : List ℕ) (heading : Heading) (at : ℕ) (block : Block) (tokens rest : List Lexeme) : Type 0 where
   pub run : (blocks : List Block) → reads b tokens (a_brace heading at blocks) [] ≡ reads b rest (a_block (blocks ++ block ∷ [])) []
   pub kind : is_problem block ≡ heads_problem heading

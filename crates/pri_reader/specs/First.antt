@@ -1,5 +1,5 @@
 -- The first refusal of a file: where, of its tokens in their order, the first one stands with which no file goes on, or which
--- leaves a limit. A token is judged by the tokens before it and by itself, never by those behind it.
+-- leaves a limit. A token is judged by the tokens before it and by itself, never by those after it.
 use Rattle.std.specs.Prelude.{ℕ, ◌≡◌, ◌||◌, Bool, true, false, List, [], ◌∷◌, ◌++◌, length, Ok, nat_lt}
 use Rattle.pri_tokens.specs.declared.terminals.Terminal.{Terminal}
 use Rattle.pri_tokens.specs.declared.terminals.Terminal.TheVariants as t
@@ -15,7 +15,7 @@ use Rattle.pri_reader.specs.Machine.{moves, run}
 abbrev pub with_limits : Setting → Limit → Limit → Setting
 with_limits s small shallow = record { bytes = s.bytes; small = small; shallow = shallow }
 
--- a limit that asks of the number alone, and not of the tokens behind it
+-- a limit that asks of the number alone, and not of the tokens after it
 abbrev pub AsksNumber : Limit → Type 0
 AsksNumber limit = (one two : List Lexeme) (n : ℕ) → limit one n ≡ limit two n
 
@@ -39,14 +39,14 @@ asked_before more limit rest n = limit rest n || nat_lt (length rest) (length mo
 abbrev pub in_front_of : List Lexeme → Setting → Setting
 in_front_of more s = with_limits s (asked_before more s.small) (asked_before more s.shallow)
 
--- The tokens begin a file: some tokens behind them make them one, in which their own numerals and the levels that they open
+-- The tokens begin a file: some tokens after them make them one, in which their own numerals and the levels that they open
 -- themselves keep to the limits.
 pub record BeginsFile (s : Setting) (front : List Lexeme) : Type 0 where
   pub more : List Lexeme
   pub file : File
   pub is_file : IsFile (in_front_of more s) file (front ++ more)
 
--- the token at this offset, with what stands before and behind it; and what stands before it begins a file
+-- the token at this offset, with what stands before and after it; and what stands before it begins a file
 pub record FirstAt (s : Setting) (tokens : List Lexeme) (at : ℕ) : Type 0 where
   pub front : List Lexeme
   pub x : Lexeme
@@ -121,7 +121,7 @@ pub record Completes (s : Setting) (want : Want) (frames : List Frame) : Type 0 
   pub file : File
   pub ends : (end : ℕ) → run (unlimited s) end more want frames ≡ Ok file
 
--- what a refusal says of tokens that end at this offset: it is their first one; want of memory says nothing
+-- what a refusal says of tokens that end at this offset: it is their first one; running out of memory says nothing
 abbrev pub Refuses : Setting → ℕ → List Lexeme → ReadRefusal → Type 0
 Refuses s end tokens refusal.Memory = Unit {0}
 Refuses s end tokens e = IsFirstRefusal s end tokens e

@@ -127,7 +127,7 @@ paired true at f g = expr at (form.Max f g)
 paired false at f g = expr at (form.Min f g)
 
 -- What is asked of numerals and levels: a test of each numeral's value, and of the number of levels that are open before
--- a token opens one more, each at the tokens behind it.
+-- a token opens one more, each at the tokens after it.
 abbrev pub Limit : Type 0
 Limit = List Lexeme → ℕ → Bool
 
@@ -178,7 +178,7 @@ of_type sort name = record { sort = sort; name = name }
 abbrev pub all_of_type : TypeName → List Name → List Declared
 all_of_type sort names = map (of_type sort) names
 
--- The names that a quantifier binds, each of which opens a level: below d levels before them, e behind them, the last of them
+-- The names that a quantifier binds, each of which opens a level: below d levels before them, e after them, the last of them
 -- of this type. They are type identifier { , identifier }, and in parentheses also { ; type identifier { , identifier } }.
 pub data Binding (s : Setting) : Bool → TypeName → ℕ → ℕ → List Declared → List Lexeme → List Lexeme → Type 0 where
   bound_first : {several : Bool} {sort : TypeName} {d : ℕ} {x : Lexeme} {tokens inner rest : List Lexeme}

@@ -56,7 +56,7 @@ pub data TypeFor : Type 0 where
   for_line : Bool → ℕ → List Declared → List Block → TypeFor
   for_binder : ℕ → Bool → Bool → ℕ → List Declared → TypeFor
 
--- which endpoint of a range is read: the lower one, or the upper one behind this lower one
+-- which endpoint of a range is read: the lower one, or the upper one after this lower one
 pub data Side : Type 0 where
   lower : Side
   upper : ℤ → Side
@@ -114,7 +114,7 @@ pub data Move : Type 0 where
   numeral : ℕ → Want → List Frame → Move
   level : ℕ → Want → List Frame → Move
 
--- behind a type: its names
+-- after a type: its names
 abbrev pub behind_type : TypeFor → TypeName → Want
 behind_type (for_line universal at names blocks) sort = a_name (for_constants sort universal at names blocks) []
 behind_type (for_binder at all several n names) sort = a_bound at all several sort n names

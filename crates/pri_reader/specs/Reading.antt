@@ -106,7 +106,7 @@ pub data RefusesNumber (b : List ℕ) (tokens : List Lexeme) (e : ReadRefusal) :
   too_large : {x : Lexeme} {rest : List Lexeme} → Takes t.Number x tokens rest → 2 ^ 127 ≤ value_of (file_setting b) x → e ≡ refusal.Literal x.at
       → RefusesNumber b tokens e
 
--- the file is refused so; want of memory says nothing
+-- the file is refused so; running out of memory says nothing
 abbrev pub FailsWith : ReadRefusal → Result File ReadRefusal → Type 0
 FailsWith refusal.Memory outcome = Unit {0}
 FailsWith (refusal.Syntax at) outcome = outcome ≡ Err (refusal.Syntax at)
@@ -156,7 +156,7 @@ ReadsNoEndpoint b tokens e = RefusedEach b (λ (p : TypeFor × Side). an_endpoin
 pub record LeadsBound (b : List ℕ) (tokens : List Lexeme) (want : ℕ → Bool → Want) (rest : List Lexeme) (new : ℕ → Bool → Want) : Type 0 where
   pub run : (at : ℕ) (all : Bool) (frames : List Frame) → reads b tokens (want at all) frames ≡ reads b rest (new at all) frames
 
--- the tokens before the rest end a binder with these names, and e levels are open behind it
+-- the tokens before the rest end a binder with these names, and e levels are open after it
 pub record Binds (b : List ℕ) (want : ℕ → Bool → Want) (names : List Declared) (e : ℕ) (tokens rest : List Lexeme) : Type 0 where
   pub run : (at : ℕ) (all : Bool) (frames : List Frame) → reads b tokens (want at all) frames ≡ reads b rest (a_unary e) (wrap (bound_at at all names) ∷ frames)
 
@@ -164,7 +164,7 @@ pub record Binds (b : List ℕ) (want : ℕ → Bool → Want) (names : List Dec
 pub record BindsNone (b : List ℕ) (want : ℕ → Bool → Want) (tokens : List Lexeme) (e : ReadRefusal) : Type 0 where
   pub run : (at : ℕ) (all : Bool) (frames : List Frame) → FailsWith e (reads b tokens (want at all) frames)
 
--- what the tokens behind a bound name of a type lead to: to one more name, of the new type, or to the end of the binder
+-- what the tokens after a bound name of a type lead to: to one more name, of the new type, or to the end of the binder
 pub record BindsMore (b : List ℕ) (several : Bool) (old new : TypeName) (tokens rest : List Lexeme) : Type 0 where
   pub run : (n : ℕ) (names : List Declared) → LeadsBound b tokens (λ at all. bound_more at all several old n names) rest (λ at all. a_bound at all several new n names)
 
@@ -178,7 +178,7 @@ BindsNext b several sort next.Body tokens rest = BindsEnd b several sort tokens 
 pub record BindsNoMore (b : List ℕ) (several : Bool) (sort : TypeName) (tokens : List Lexeme) (e : ReadRefusal) : Type 0 where
   pub run : (n : ℕ) (names : List Declared) → BindsNone b (λ at all. bound_more at all several sort n names) tokens e
 
--- the answer is this refusal, or want of memory
+-- the answer is this refusal, or running out of memory
 abbrev pub AnswersRefusal : ReadRefusal → Result File ReadRefusal → Type 0
 AnswersRefusal e (Ok found) = ⊥
 AnswersRefusal e (Err refusal.Memory) = Unit {0}

@@ -76,7 +76,7 @@ fn bound_names<'a>(
     }
 }
 
-/// What follows a bound name of this type, and the tokens behind its sign, or behind the new type.
+/// What follows a bound name of this type, and the tokens after its sign, or after the new type.
 fn next_bound<'a>(
     bytes: &[u8],
     tokens: &'a [Lexeme],

@@ -68,7 +68,7 @@ fn once(problem: bool, heading: Heading, at: u64) -> Result<bool, ReadRefusal>
     }
 }
 
-/// A block, from its `{` on, and the tokens behind its `}`.
+/// A block, from its `{` on, and the tokens after its `}`.
 fn block<'a>(
     alloc: Global,
     bytes: &[u8],
@@ -89,7 +89,7 @@ fn block<'a>(
     }
 }
 
-/// A `\problem` block, from its `{` on, and the tokens behind its `}`: `{` iff `}`
+/// A `\problem` block, from its `{` on, and the tokens after its `}`: `{` iff `}`
 fn problem<'a>(
     alloc: Global,
     bytes: &[u8],

@@ -15,7 +15,7 @@ use pri_tokens::{Lexeme, Terminal};
 use sqlite_items::Items;
 use std::alloc::Global;
 
-/// A block of constants, from its `{` on, and the tokens behind its `}`.
+/// A block of constants, from its `{` on, and the tokens after its `}`.
 pub fn constants<'a>(
     alloc: Global,
     bytes: &[u8],

@@ -26,7 +26,7 @@ pub fn refused(bytes: &[u8], tokens: &[Lexeme]) -> ReadRefusal
     ReadRefusal::Syntax(first.at)
 }
 
-/// The next token and those behind it, where it has this terminal.
+/// The next token and those after it, where it has this terminal.
 pub fn after(tokens: &[Lexeme], terminal: Terminal) -> Option<(Lexeme, &[Lexeme])>
     ensures { MatchOption result (NotNext terminal tokens.now) (λ x. Takes terminal x.0 tokens.now x.1.now) }
 {
@@ -38,7 +38,7 @@ pub fn after(tokens: &[Lexeme], terminal: Terminal) -> Option<(Lexeme, &[Lexeme]
     None
 }
 
-/// The next token, which has to have this terminal, and those behind it.
+/// The next token, which has to have this terminal, and those after it.
 pub fn sign<'a>(
     bytes: &[u8],
     tokens: &'a [Lexeme],
@@ -53,7 +53,7 @@ pub fn sign<'a>(
     }
 }
 
-/// The value of the next token, which has to be a number, and the tokens behind it.
+/// The value of the next token, which has to be a number, and the tokens after it.
 #[tactic(auto, using(crate::proofs::Numbers::number_lines))]
 pub fn number<'a>(bytes: &[u8], tokens: &'a [Lexeme]) -> Result<(i128, &'a [Lexeme]), ReadRefusal>
     ensures found { IfOk result (λ x. TakesValue bytes.now x.0 tokens.now x.1.now) }
@@ -67,7 +67,7 @@ pub fn number<'a>(bytes: &[u8], tokens: &'a [Lexeme]) -> Result<(i128, &'a [Lexe
     Ok((value, rest))
 }
 
-/// The sign before one more term, true for a minus, and the tokens behind it.
+/// The sign before one more term, true for a minus, and the tokens after it.
 pub fn added(tokens: &[Lexeme]) -> Option<(bool, &[Lexeme])>
     ensures { MatchOption result (AddsNone tokens.now) (λ x. AddsTerm x.0 tokens.now x.1.now) }
 {
@@ -76,7 +76,7 @@ pub fn added(tokens: &[Lexeme]) -> Option<(bool, &[Lexeme])>
     Some((sign, rest))
 }
 
-/// The comparison that comes next, and the tokens behind it.
+/// The comparison that comes next, and the tokens after it.
 pub fn compared(tokens: &[Lexeme]) -> Option<(Comparison, &[Lexeme])>
     ensures { MatchOption result (ComparesNone tokens.now) (λ x. Compares x.0 tokens.now x.1.now) }
 {
@@ -85,7 +85,7 @@ pub fn compared(tokens: &[Lexeme]) -> Option<(Comparison, &[Lexeme])>
     Some((sign, rest))
 }
 
-/// The formula that is no relation which the next token begins, that token, and those behind it.
+/// The formula that is no relation which the next token begins, that token, and those after it.
 pub fn prefix(tokens: &[Lexeme]) -> Option<(Prefix, Lexeme, &[Lexeme])>
     ensures { MatchOption result (PrefixesNone tokens.now) (λ x. Prefixes x.0 x.1 tokens.now x.2.now) }
 {
@@ -95,7 +95,7 @@ pub fn prefix(tokens: &[Lexeme]) -> Option<(Prefix, Lexeme, &[Lexeme])>
     Some((prefix, first, rest))
 }
 
-/// The term, or the formula in parentheses, which the next token begins, that token, and those behind it.
+/// The term, or the formula in parentheses, which the next token begins, that token, and those after it.
 pub fn opening(tokens: &[Lexeme]) -> Option<(Opening, Lexeme, &[Lexeme])>
     ensures { MatchOption result (BeginsNone tokens.now) (λ x. BeginsTerm x.0 x.1 tokens.now x.2.now) }
 {
@@ -105,7 +105,7 @@ pub fn opening(tokens: &[Lexeme]) -> Option<(Opening, Lexeme, &[Lexeme])>
     Some((opening, first, rest))
 }
 
-/// The block which the next token begins, that token, and those behind it.
+/// The block which the next token begins, that token, and those after it.
 pub fn heading(tokens: &[Lexeme]) -> Option<(Heading, Lexeme, &[Lexeme])>
     ensures { MatchOption result (HeadsNone tokens.now) (λ x. Heads x.0 x.1 tokens.now x.2.now) }
 {

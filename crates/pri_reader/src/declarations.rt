@@ -14,7 +14,7 @@ use pri_tokens::{Lexeme, Terminal};
 use sqlite_items::Items;
 use std::alloc::Global;
 
-/// A block of functions, or of predicates, from its `{` on, and the tokens behind its `}`.
+/// A block of functions, or of predicates, from its `{` on, and the tokens after its `}`.
 pub fn declarations<'a>(
     alloc: Global,
     bytes: &[u8],
@@ -40,7 +40,7 @@ pub fn declarations<'a>(
     }
 }
 
-/// The tokens of a line's items: behind its int, which only lines of functions have.
+/// The tokens of a line's items: after its int, which only lines of functions have.
 fn line<'a>(bytes: &[u8], tokens: &'a [Lexeme], typed: bool) -> Result<&'a [Lexeme], ReadRefusal>
     requires { NotNext t.CloseBrace tokens.now }
     ensures read { IfOk result (λ rest. BeginsLine bytes.now typed tokens.now rest.now) }

@@ -157,7 +157,7 @@ fn unary<'a>(
     }
 }
 
-/// Behind a quantifier: its binder, and the unary formula that is its body.
+/// After a quantifier: its binder, and the unary formula that is its body.
 #[cycle(reader)]
 fn quantified<'a>(
     alloc: Global,
@@ -178,7 +178,7 @@ fn quantified<'a>(
     made(alloc, at, form, rest)
 }
 
-/// Behind `\part`: `[` identifier `]` unary.
+/// After `\part`: `[` identifier `]` unary.
 #[cycle(reader)]
 fn part<'a>(
     alloc: Global,

@@ -12,7 +12,7 @@ use pri_tokens::{Lexeme, Terminal};
 use sqlite_items::Items;
 use std::alloc::Global;
 
-/// The block, from its `{` on, and the tokens behind its `}`.
+/// The block, from its `{` on, and the tokens after its `}`.
 pub fn interpolant<'a>(
     alloc: Global,
     bytes: &[u8],

@@ -14,7 +14,7 @@ use pri_tokens::{Lexeme, Terminal};
 use sqlite_items::Items;
 use std::alloc::Global;
 
-/// Items up to the `;` behind them, and the tokens behind it.
+/// Items up to the `;` after them, and the tokens after it.
 pub fn items<'a>(
     alloc: Global,
     bytes: &[u8],
@@ -38,7 +38,7 @@ pub fn items<'a>(
     }
 }
 
-/// One item, and the tokens behind it.
+/// One item, and the tokens after it.
 fn item<'a>(
     alloc: Global,
     bytes: &[u8],
@@ -55,7 +55,7 @@ fn item<'a>(
     Ok((Item { name, arity }, rest))
 }
 
-/// Behind the name of an item: the number of its arguments, and the tokens behind them.
+/// After the name of an item: the number of its arguments, and the tokens after them.
 #[tactic(auto, using(crate::proofs::BlockExits::memory, crate::proofs::Exits::shorter))]
 fn arity<'a>(bytes: &[u8], tokens: &'a [Lexeme]) -> Result<(u32, &'a [Lexeme]), ReadRefusal>
     requires { length tokens.now < 2 ^ 32 }
@@ -73,7 +73,7 @@ fn arity<'a>(bytes: &[u8], tokens: &'a [Lexeme]) -> Result<(u32, &'a [Lexeme]), 
     Ok((count, rest))
 }
 
-/// One argument or more up to the `)` behind them: their number, and the tokens behind it.
+/// One argument or more up to the `)` after them: their number, and the tokens after it.
 #[tactic(auto, using(crate::proofs::Exits::shorter))]
 fn parameters<'a>(bytes: &[u8], tokens: &'a [Lexeme]) -> Result<(u32, &'a [Lexeme]), ReadRefusal>
     requires { length tokens.now < 2 ^ 32 }
@@ -95,7 +95,7 @@ fn parameters<'a>(bytes: &[u8], tokens: &'a [Lexeme]) -> Result<(u32, &'a [Lexem
     }
 }
 
-/// The tokens behind the name of an argument, if it has one.
+/// The tokens after the name of an argument, if it has one.
 fn behind_name(tokens: &[Lexeme]) -> &[Lexeme]
     ensures read { MayTake t.Identifier tokens.now result.now }
     ensures shorter { length result.now ≤ length tokens.now }

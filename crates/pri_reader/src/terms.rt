@@ -124,7 +124,7 @@ fn factor<'a>(
     }
 }
 
-/// Behind an identifier: [ `(` [ iff { `,` iff } ] `)` ].
+/// After an identifier: [ `(` [ iff { `,` iff } ] `)` ].
 #[cycle(reader)]
 fn application<'a>(
     alloc: Global,
@@ -151,7 +151,7 @@ fn application<'a>(
     made(alloc, at, form, rest)
 }
 
-/// Behind the `(` of an application: iff { `,` iff } `)`.
+/// After the `(` of an application: iff { `,` iff } `)`.
 #[cycle(reader)]
 fn arguments<'a>(
     alloc: Global,
@@ -180,7 +180,7 @@ fn arguments<'a>(
     }
 }
 
-/// Behind `\if`: ( iff ) `\then` ( iff ) `\else` ( iff ).
+/// After `\if`: ( iff ) `\then` ( iff ) `\else` ( iff ).
 #[cycle(reader)]
 fn conditional<'a>(
     alloc: Global,
@@ -203,7 +203,7 @@ fn conditional<'a>(
     made(alloc, at, form, rest)
 }
 
-/// Behind `\min` or `\max`: `(` iff `,` iff `)`.
+/// After `\min` or `\max`: `(` iff `,` iff `)`.
 #[cycle(reader)]
 fn pair<'a>(
     alloc: Global,
@@ -259,7 +259,7 @@ fn pair_form(max: bool, first: Boxed<Expr>, second: Boxed<Expr>) -> Form
     }
 }
 
-/// An expression of this form, in a box, with the tokens behind it.
+/// An expression of this form, in a box, with the tokens after it.
 pub fn made<'a>(
     alloc: Global,
     at: u64,

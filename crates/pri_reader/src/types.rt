@@ -7,7 +7,7 @@ use crate::cursor::{after, number, sign};
 use crate::tree::{ReadRefusal, TypeName};
 use pri_tokens::{Lexeme, Terminal};
 
-/// A type, and the tokens behind it.
+/// A type, and the tokens after it.
 pub fn type_name<'a>(
     bytes: &[u8],
     tokens: &'a [Lexeme],
@@ -30,7 +30,7 @@ pub fn type_name<'a>(
     Ok((TypeName::Range(lower, upper), rest))
 }
 
-/// bound = [ `-` ] number: its value, and the tokens behind it. The `-` opens no level.
+/// bound = [ `-` ] number: its value, and the tokens after it. The `-` opens no level.
 #[tactic(auto, using(crate::proofs::TypeLines::endpoint_lines, crate::proofs::Exits::shorter))]
 fn endpoint<'a>(bytes: &[u8], tokens: &'a [Lexeme]) -> Result<(i128, &'a [Lexeme]), ReadRefusal>
     ensures read { IfOk result (λ x. ReadsEndpoint bytes.now x.0 tokens.now x.1.now) }

@@ -7,7 +7,7 @@ use Rattle.pri_tokens.specs.Lexemes.{behind_close}
 use Rattle.pri_tokens.specs.Tokenization.{Closes, IsBlockComment}
 use Rattle.base_numerals.proofs.Tests.{left_true, right_true}
 
--- the first `*/` behind the byte p
+-- the first `*/` after the byte p
 pub record CloseAt (p : ℕ) (text : List ℕ) (n : ℕ) : Type 0 where
   pub place : ℕ
   pub closes : Closes (p ∷ text) place

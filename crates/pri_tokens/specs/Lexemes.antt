@@ -44,7 +44,7 @@ abbrev pub comment_piece : List ℕ → Option ℕ → Piece
 comment_piece text (Some n) = blank (2 + n)
 comment_piece text None = named (2 + length text) t.Bad
 
--- what begins at a `/` with the text behind it: a comment to the end of the line, a comment to a `*/`, or a bad byte
+-- what begins at a `/` with the text after it: a comment to the end of the line, a comment to a `*/`, or a bad byte
 abbrev pub slash_piece : List ℕ → Piece
 slash_piece text =
     if slice_index text 0 == 47 then blank (1 + prefix_len is_not_line_feed text) else
@@ -54,7 +54,7 @@ slash_piece text =
 abbrev pub sign_piece : Sign → Piece
 sign_piece s = named s.len s.terminal
 
--- the longest token, or the white space or comment, that begins at the byte b with the text behind it
+-- the longest token, or the white space or comment, that begins at the byte b with the text after it
 abbrev pub piece_of : ℕ → List ℕ → Piece
 piece_of b text =
     if is_white b then blank 1 else
@@ -69,7 +69,7 @@ abbrev pub first_piece_of : List ℕ → Option Piece
 first_piece_of [] = None
 first_piece_of (b ∷ text) = Some (piece_of b text)
 
--- the piece at this offset, before the tokens behind it, where it is a token
+-- the piece at this offset, before the tokens after it, where it is a token
 abbrev pub put : ℕ → ℕ → Option Terminal → List Lexeme → List Lexeme
 put at n None more = more
 put at n (Some terminal) more = record { at = at; len = n; terminal = terminal } ∷ more

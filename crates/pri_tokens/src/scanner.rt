@@ -113,7 +113,7 @@ fn first_piece(text: &[u8]) -> Option<Piece>
     })
 }
 
-/// What begins at a `/` with this text behind it: a comment, a comment without end, or a bad byte.
+/// What begins at a `/` with this text after it: a comment, a comment without end, or a bad byte.
 fn slash(behind: &[u8]) -> Piece
     ensures exact { result ≡ slash_piece behind.now }
     ensures within { (1 ≤ result.len) × (result.len ≤ 1 + length behind.now) }

@@ -12,7 +12,7 @@ pub struct Sign {
     pub terminal: Terminal,
 }
 
-/// The terminal of a letter or `_` with letters, digits and `_` behind it.
+/// The terminal of a letter or `_` with letters, digits and `_` after it.
 pub fn word(text: &[u8]) -> Terminal
     ensures { result ≡ word_of text.now }
 {
@@ -31,7 +31,7 @@ pub fn word(text: &[u8]) -> Terminal
     Terminal::Identifier
 }
 
-/// The terminal of a `\` with letters behind it.
+/// The terminal of a `\` with letters after it.
 pub fn command(text: &[u8]) -> Terminal
     ensures { result ≡ command_of text.now }
 {

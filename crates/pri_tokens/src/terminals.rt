@@ -24,7 +24,7 @@ pub enum TokenKind {
     Command,
     /// A sign of one to three bytes.
     Sign,
-    /// A byte that begins none of the others, a `\` with other letters behind it, or a comment without end.
+    /// A byte that begins none of the others, a `\` with other letters after it, or a comment without end.
     Bad,
 }
 

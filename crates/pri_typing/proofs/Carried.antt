@@ -21,7 +21,7 @@ use Rattle.pri_typing.proofs.Identified.{split}
 abbrev pub AreSame : Setting → Setting → List Lexeme → Type 0
 AreSame s t = AllByRecursion (λ x. text_of t.bytes x ≡ text_of s.bytes x)
 
--- the limits of t allow what those of s do, whatever is behind
+-- the limits of t allow what those of s do, whatever is after
 pub record IsLooser (s t : Setting) : Type 0 where
   pub small : (rest more : List Lexeme) (n : ℕ) → s.small rest n ≡ true → t.small more n ≡ true
   pub shallow : (rest more : List Lexeme) (n : ℕ) → s.shallow rest n ≡ true → t.shallow more n ≡ true
@@ -35,7 +35,7 @@ pub record Carried (s t : Setting) (D : List Lexeme → List Lexeme → Type 0) 
 turn : {s t : Setting} {D E : List Lexeme → List Lexeme → Type 0} {tokens rest : List Lexeme} → ((xs ys : List Lexeme) → D xs ys → E xs ys) → Carried s t D tokens rest → Carried s t E tokens rest
 turn f c = record { front = c.front; parts = c.parts; derived = λ more k. f (c.front ++ more) more (c.derived more k) }
 
--- one behind the other
+-- one after the other
 abbrev Behind : (List Lexeme → List Lexeme → Type 0) → (List Lexeme → List Lexeme → Type 0) → List Lexeme → List Lexeme → Type 0
 Behind D E xs ys = (m : List Lexeme) × D xs m × E m ys
 

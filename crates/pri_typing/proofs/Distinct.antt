@@ -71,7 +71,7 @@ with_self t texts = by (is_among t texts) refl
     by true e = e
     by false e = among-append t texts (t ∷ []) ∙ or_right (is_among t texts) (is_among t (t ∷ [])) (or_left (is_text t t) false (text_self t))
 
--- a text that is not among others, and is not the one put behind them
+-- a text that is not among others, and is not the one put after them
 with_other : (t u : List ℕ) (texts : List (List ℕ)) → is_text t u ≡ false → is_among t texts ≡ false → is_among t (with_text u texts) ≡ false
 with_other t u texts e h = by (is_among u texts)
   where

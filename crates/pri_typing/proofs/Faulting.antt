@@ -53,7 +53,7 @@ all_faults-phrases s category (q ∷ ps) p =
     ap (λ z. faults s category (first_token q) q ++ z) (all_faults-phrases s category ps p)
     ∙ sym (append_assoc (faults s category (first_token q) q) (all_faults s category (phrases ps)) (faults s category (first_token p) p))
 
--- the least fault of a list, with one more behind it
+-- the least fault of a list, with one more after it
 pub all_faults-more : (s : Scope) (category : Category) (es : List Expr) (e : Expr)
     → least (all_faults s category (phrases_of (es ++ e ∷ []))) ≡ earlier (least (all_faults s category (phrases_of es))) (least (faults s category (first_token (phrase e)) (phrase e)))
 all_faults-more s category es e = ap (λ z. least (all_faults s category (phrases z))) (map-append phrase es (e ∷ []))

@@ -51,7 +51,7 @@ record Agree (i j : ℕ) (e d : List ℤ) : Type 0 where
 agree_back : {i j : ℕ} {e d : List ℤ} → Agree i j e d → Agree i j d e
 agree_back a = record { long = sym a.long; same = λ x h. sym (a.same x h) }
 
--- the entries of two lists with one more value behind them
+-- the entries of two lists with one more value after them
 entries_more : (e d : List ℤ) (v : ℤ) (x : ℕ) → length e ≡ length d → entry e x ≡ entry d x → entry (e ++ v ∷ []) x ≡ entry (d ++ v ∷ []) x
 entries_more [] [] v x l h = refl
 entries_more [] (b ∷ d) v x l h = absurd (omega (arith, l))

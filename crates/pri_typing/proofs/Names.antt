@@ -23,7 +23,7 @@ known_not : (known : Bool) (n at : ℕ) → own_faults known n at ≡ [] → kno
 known_not true n at e = absurd (nil_cons _ _ (nil_split (Redeclared at ∷ []) (if nat_eq n most_symbols then Many at ∷ [] else []) e).0)
 known_not false n at e = refl
 
--- behind those before, each declaration has a name of its own
+-- after those before, each declaration has a name of its own
 once_from : (before ds : List Declaration) → declaration_faults before ds ≡ [] → AreOnce (texts before) → AreOnce (texts (before ++ ds))
 once_from before [] e h = subst (λ z. AreOnce (texts z)) (sym (append-nil before)) h
 once_from before (d ∷ ds) e h =

@@ -40,7 +40,7 @@ arity_behind (x ∷ xs) y ys = arity_behind xs y ys
 shorter : (xs : List (List ℕ)) (x : List ℕ) (ys : List (List ℕ)) → length xs < length (xs ++ x ∷ ys)
 shorter xs x ys = omega (arith, length-append xs (x ∷ ys))
 
--- a declaration behind others is found with its number
+-- a declaration after others is found with its number
 at_place : (before : List Declaration) (d : Declaration) (ds : List Declaration) → IsProperKind d.kind → IsSymbol (before ++ d ∷ ds) d.kind (rank d.kind before)
 at_place before d ds = by d.kind refl
   where

@@ -32,7 +32,7 @@ of_text k = find (λ x. x) (λ x. k)
 abbrev of_symbol : (ℕ → Kind) → ℕ → List Symbol → List ℕ → Option Entry
 of_symbol k = find (λ y. y.name) (λ y. k y.arity)
 
--- in which list, behind so many symbols of each kind
+-- in which list, after this many symbols of each kind
 abbrev look : ℕ → ℕ → ℕ → ℕ → List (List ℕ) → List (List ℕ) → List Symbol → List Symbol → List ℕ → Option Entry
 look a b c d es us fs ps t =
     first_entry (of_text Existential a es t) (first_entry (of_text Universal b us t) (first_entry (of_symbol (λ n. Function n) c fs t) (of_symbol (λ n. Predicate n) d ps t)))

@@ -67,7 +67,7 @@ entry_at-append text (x ∷ es) k e = by (is_text text x.0.items) (entry_at-appe
     by true h = refl
     by false h = h
 
--- the declaration behind all others is the first of its text where no earlier one is
+-- the declaration after all others is the first of its text where no earlier one is
 pub declared_from-append : (text : List ℕ) (before ds : List Declaration) (d : Declaration)
     → declared_from before text (ds ++ d ∷ []) ≡ first_entry (declared_from before text ds) (if is_text text d.text then Some (entry (before ++ ds) d.kind) else None)
 declared_from-append text before [] d = ap (λ z. if is_text text d.text then Some (entry z d.kind) else None) (sym (append-nil before))
@@ -93,7 +93,7 @@ known_is text before (x ∷ ds) = by (is_text text x.text) (known_is text (befor
     by true h = refl
     by false h = h
 
--- the faults of the last declaration come behind those of the earlier ones
+-- the faults of the last declaration come after those of the earlier ones
 pub declaration_faults-append : (before ds : List Declaration) (d : Declaration)
     → declaration_faults before (ds ++ d ∷ []) ≡ declaration_faults before ds ++ declaration_faults (before ++ ds) (d ∷ [])
 declaration_faults-append before [] d = ap (λ z. declaration_faults z (d ∷ [])) (sym (append-nil before))

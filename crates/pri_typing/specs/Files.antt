@@ -21,11 +21,11 @@ use Rattle.pri_typing.specs.Parts.{formula_faults, block_faults, is_cut, cuts_in
 use Rattle.pri_typing.specs.Sorts.{existential_sorts, universal_sorts}
 use Rattle.pri_typing.specs.Typing.{says, applications, first_of, part_names}
 
--- the faults of a declaration behind so many others, of a name that one of them declares or not
+-- the faults of a declaration after this many others, of a name that one of them declares or not
 abbrev pub own_faults : Bool → ℕ → ℕ → List TypeRefusal
 own_faults known before at = (if known then Redeclared at ∷ [] else []) ++ (if nat_eq before most_symbols then Many at ∷ [] else [])
 
--- The faults of declarations, behind those before: a name that is declared before, and the 1,001st declaration.
+-- The faults of declarations, after those before: a name that is declared before, and the 1,001st declaration.
 abbrev pub declaration_faults : List Declaration → List Declaration → List TypeRefusal
 declaration_faults before [] = []
 declaration_faults before (d ∷ ds) =

@@ -53,7 +53,7 @@ formula_faults plus p = flat_map (λ c. component_faults c.what) (components plu
 abbrev pub own_name_faults : Bool → Bool → ℕ → List TypeRefusal
 own_name_faults known given at = (if known then [] else Parts at ∷ []) ++ (if given then Parts at ∷ [] else [])
 
--- the faults of names, behind those that are given
+-- the faults of names, after those that are given
 abbrev pub name_faults : List (List ℕ) → List (List ℕ) → List Name → List TypeRefusal
 name_faults parts given [] = []
 name_faults parts given (n ∷ names) = own_name_faults (is_among n.text parts) (is_among n.text given) n.at ++ name_faults parts (with_text n.text given) names

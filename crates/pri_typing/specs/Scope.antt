@@ -69,11 +69,11 @@ rank Universal ds = length (universals ds)
 rank (Function n) ds = length (functions ds)
 rank (Predicate n) ds = length (predicates ds)
 
--- a symbol that is declared behind others: its kind, and its number among those of its kind
+-- a symbol that is declared after others: its kind, and its number among those of its kind
 abbrev pub entry : List Declaration → Kind → Entry
 entry before kind = record { kind = kind; number = rank kind before }
 
--- the symbol that the first declaration of a text declares, behind those before
+-- the symbol that the first declaration of a text declares, after those before
 abbrev pub declared_from : List Declaration → List ℕ → List Declaration → Option Entry
 declared_from before text [] = None
 declared_from before text (d ∷ ds) = if is_text text d.text then Some (entry before d.kind) else declared_from (before ++ d ∷ []) text ds

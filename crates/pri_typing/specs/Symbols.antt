@@ -20,7 +20,7 @@ pub record IsListed (l : Lists) (ds : List Declaration) : Type 0 where
   pub functions_are : l.functions ≡ functions ds
   pub predicates_are : l.predicates ≡ predicates ds
 
--- the lists with a symbol of this kind behind the others
+-- the lists with a symbol of this kind after the others
 abbrev pub listed : Kind → List ℕ → Lists → Lists
 listed Existential text l = record { existentials = l.existentials ++ text ∷ []; universals = l.universals; functions = l.functions; predicates = l.predicates }
 listed Universal text l = record { existentials = l.existentials; universals = l.universals ++ text ∷ []; functions = l.functions; predicates = l.predicates }
@@ -43,7 +43,7 @@ pub record IsKept (t : Builder) : Type 0 where
   pub listed : IsListed t.lists t.declarations
   pub fault_is : t.fault ≡ least (declaration_faults [] t.declarations)
 
--- a table that has further declarations behind those of another
+-- a table that has further declarations after those of another
 pub record Extends (old new : Builder) (more : List Declaration) : Type 0 where
   pub declarations_are : new.declarations ≡ old.declarations ++ more
   pub kept : IsKept new

@@ -168,7 +168,7 @@ abbrev mutual
   addend_parts no_addend = []
   addend_parts (and_addend sign p more) = parts_in p ++ addend_parts more
 
--- the texts of the list behind those before, each once, where it comes first
+-- the texts of the list after those before, each once, where it comes first
 abbrev pub distinct_from : List (List ℕ) → List Name → List (List ℕ)
 distinct_from before [] = before
 distinct_from before (n ∷ names) = distinct_from (with_text n.text before) names

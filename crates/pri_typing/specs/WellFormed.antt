@@ -53,12 +53,12 @@ abbrev pub IsNameBelow : ℕ → ℕ → Expression → Type 0
 IsNameBelow constants n (name x) = x < constants + n
 IsNameBelow constants n _ = Unit {0}
 
--- a predicate is declared with so many arguments
+-- a predicate is declared with this many arguments
 abbrev pub IsPredicateDeclared : List Symbol → ℕ → Formula → Type 0
 IsPredicateDeclared predicates n (applies p ts) = HasArity predicates p (size ts)
 IsPredicateDeclared predicates n _ = Unit {0}
 
--- a function is declared with so many arguments, of which there is at least one
+-- a function is declared with this many arguments, of which there is at least one
 abbrev pub IsFunctionDeclared : List Symbol → ℕ → Expression → Type 0
 IsFunctionDeclared functions n (call f ts) = HasArity functions f (size ts) × (1 ≤ size ts)
 IsFunctionDeclared functions n _ = Unit {0}
@@ -133,7 +133,7 @@ part_numbers = flat_map (λ c. part_number c.what)
 
 -- Well-formed problems.
 
--- the sets of a cut give each of so many parts to one set, and none is empty
+-- the sets of a cut give each of this many parts to one set, and none is empty
 pub record IsDivision (parts : ℕ) (cut : Cut) : Type 0 where
   pub several : 2 ≤ length cut.sets
   pub filled : All (λ set. 1 ≤ length set) cut.sets
@@ -147,7 +147,7 @@ pub record IsDivisible (p : Problem) : Type 0 where
   pub each_part : (k : ℕ) → k < length p.parts → Contains (part_numbers (components_of p)) k
 
 -- The problem declares at most 1,000 symbols. Its numbers are in the range. Its names are constants and bound variables. Its
--- predicates and functions are declared, with so many arguments. Its sums have members, and its products are linear. Its
+-- predicates and functions are declared, with this many arguments. Its sums have members, and its products are linear. Its
 -- constants and bound variables have types with bounds in the range. Its parts have names. Where it has cuts, they divide
 -- the parts of which its formula is put together.
 pub record IsWellFormed (p : Problem) : Type 0 where

@@ -10,7 +10,7 @@ use pri_reader::{Added, Expr, Form, Name};
 use sqlite_items::Items;
 use std::alloc::Global;
 
-/// A part that begins at this offset, put behind others.
+/// A part that begins at this offset, put after others.
 fn push_part(alloc: Global, out: &mut Items<Name>, at: u64, name: &Name) -> Result<(), Memory>
     ensures { OnOk result (out.new ≡ out.old ++ record { at = at; text = name.now.text } ∷ []) }
 {
@@ -19,7 +19,7 @@ fn push_part(alloc: Global, out: &mut Items<Name>, at: u64, name: &Name) -> Resu
     Ok(())
 }
 
-/// Puts the parts of an expression behind others.
+/// Puts the parts of an expression after others.
 #[cycle(collect)]
 #[tactic(auto, using(crate::proofs::Collecting::collecting))]
 pub fn collect(alloc: Global, out: &mut Items<Name>, expr: &Expr) -> Result<(), Memory>
@@ -57,7 +57,7 @@ pub fn collect(alloc: Global, out: &mut Items<Name>, expr: &Expr) -> Result<(), 
     }
 }
 
-/// Puts the parts of one expression and of the next behind others.
+/// Puts the parts of one expression and of the next after others.
 #[cycle(collect)]
 #[tactic(auto, using(crate::proofs::Collecting::collecting))]
 fn collect_two(

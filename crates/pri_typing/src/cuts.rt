@@ -35,7 +35,7 @@ fn cut(alloc: Global, parts: &Texts, sets: &[NameSet]) -> Result<Cut, Memory>
     Ok(Cut { sets: out })
 }
 
-/// Puts the cut that a block asks for behind others.
+/// Puts the cut that a block asks for after others.
 fn push_cut(alloc: Global, out: &mut Items<Cut>, parts: &Texts, block: &Block) -> Result<(), Memory>
     requires { length parts.now < 2 ^ 32 }
     ensures { OnOk result (out.new ≡ out.old ++ cuts_in parts.now block.now) }

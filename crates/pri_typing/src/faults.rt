@@ -24,7 +24,7 @@ fn kind_fault(want: Category, is: Category, at: u64) -> Option<TypeRefusal>
     }
 }
 
-/// The fault of a use of a name with so many arguments, whose first token is at this offset.
+/// The fault of a use of a name with this many arguments, whose first token is at this offset.
 fn use_fault(
     site: &Site,
     want: Category,

@@ -118,7 +118,7 @@ fn name_fault(known: bool, given: bool, at: u64) -> Option<TypeRefusal>
     }
 }
 
-/// The least fault of the names of a set, behind those that are given, to which they are added.
+/// The least fault of the names of a set, after those that are given, to which they are added.
 #[tactic(auto, using(crate::proofs::Cutting::naming))]
 fn names_fault(
     alloc: Global,

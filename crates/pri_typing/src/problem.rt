@@ -6,7 +6,7 @@ use form_typed::{Sort, Typed};
 use linear_term::Memory;
 use sqlite_items::Items;
 
-/// A problem. In `formula` the name of a constant is its place among the existential constants and, behind them, the
+/// A problem. In `formula` the name of a constant is its place among the existential constants and, after them, the
 /// universal ones; a bound variable is the name after those of the formula around it.
 #[derive(Drop)]
 pub struct Problem {

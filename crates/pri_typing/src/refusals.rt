@@ -5,7 +5,7 @@ ghost use Rattle.pri_typing.specs.Faults.{earlier, is_before, number_of, place_o
 
 use crate::problem::TypeRefusal;
 
-/// The offset of a refusal; 0 for want of memory, which has none.
+/// The offset of a refusal; 0 for lack of memory, which has none.
 pub fn place(refusal: TypeRefusal) -> u64
     ensures { result ≡ place_of refusal }
 {

@@ -21,7 +21,7 @@ pub fn sort_of(name: TypeName) -> Sort
     }
 }
 
-/// Puts the types of names behind others.
+/// Puts the types of names after others.
 #[tactic(auto, using(crate::proofs::Sorting::sorting))]
 fn push_names(out: &mut Items<Sort>, names: &[Declared]) -> Result<(), Memory>
     ensures { OnOk result (out.new ≡ out.old ++ sorts_of names.now) }
@@ -32,7 +32,7 @@ fn push_names(out: &mut Items<Sort>, names: &[Declared]) -> Result<(), Memory>
     Ok(())
 }
 
-/// Puts the type of a function behind others, where it is a constant.
+/// Puts the type of a function after others, where it is a constant.
 fn push_function(out: &mut Items<Sort>, item: &Item) -> Result<(), Memory>
     ensures { OnOk result (out.new ≡ out.old ++ filter_map function_sort (item.now ∷ [])) }
 {
@@ -42,7 +42,7 @@ fn push_function(out: &mut Items<Sort>, item: &Item) -> Result<(), Memory>
     Ok(())
 }
 
-/// Puts the types of the functions that are constants behind others.
+/// Puts the types of the functions that are constants after others.
 #[tactic(auto, using(crate::proofs::Sorting::sorting))]
 fn push_functions(out: &mut Items<Sort>, items: &[Item]) -> Result<(), Memory>
     ensures { OnOk result (out.new ≡ out.old ++ filter_map function_sort items.now) }
@@ -53,7 +53,7 @@ fn push_functions(out: &mut Items<Sort>, items: &[Item]) -> Result<(), Memory>
     Ok(())
 }
 
-/// Puts the types of the existential constants of a block behind others.
+/// Puts the types of the existential constants of a block after others.
 #[tactic(auto, using(crate::proofs::Sorting::sorting))]
 fn push_existentials(out: &mut Items<Sort>, block: &Block) -> Result<(), Memory>
     ensures { OnOk result (out.new ≡ out.old ++ existential_sorts block.now) }
@@ -68,7 +68,7 @@ fn push_existentials(out: &mut Items<Sort>, block: &Block) -> Result<(), Memory>
     }
 }
 
-/// Puts the types of the universal constants of a block behind others.
+/// Puts the types of the universal constants of a block after others.
 #[tactic(auto, using(crate::proofs::Sorting::sorting))]
 fn push_universals(out: &mut Items<Sort>, block: &Block) -> Result<(), Memory>
     ensures { OnOk result (out.new ≡ out.old ++ universal_sorts block.now) }

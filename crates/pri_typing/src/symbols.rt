@@ -96,7 +96,7 @@ fn note(
     Ok(false)
 }
 
-/// The fault of a declaration behind so many others, of a name that is known or not.
+/// The fault of a declaration after this many others, of a name that is known or not.
 fn fault_of(known: bool, before: usize, at: u64) -> Option<TypeRefusal>
     ensures { result ≡ least (own_faults known before at) }
 {
@@ -316,7 +316,7 @@ impl Symbols {
     }
 }
 
-/// The same texts, or want of memory.
+/// The same texts, or running out of memory.
 pub fn copy_texts(alloc: Global, texts: &[Items<u8>]) -> Result<Items<Items<u8>>, Memory>
     ensures { IfOk result (λ ts. ts ≡ texts.now) }
 {
@@ -327,7 +327,7 @@ pub fn copy_texts(alloc: Global, texts: &[Items<u8>]) -> Result<Items<Items<u8>>
     Ok(out)
 }
 
-/// The same symbols, or want of memory.
+/// The same symbols, or running out of memory.
 pub fn copy_symbols(alloc: Global, symbols: &[Symbol]) -> Result<Items<Symbol>, Memory>
     ensures { IfOk result (λ ss. ss ≡ symbols.now) }
 {

@@ -6,7 +6,7 @@ use Rattle.std.specs.Fmt.{decimal}
 abbrev pub conjunct_text : ℕ → List ℕ
 conjunct_text i = codes "(p(" ++ (decimal i ++ (codes ") & \\forall int x; (p(x) -> p(x + 2)) -> p(" ++ (decimal (i + 4) ++ codes "))")))
 
--- the first n of these, each but the first behind `&` and a line feed
+-- the first n of these, each but the first after `&` and a line feed
 abbrev pub conjuncts_text : ℕ → List ℕ
 conjuncts_text zero = []
 conjuncts_text (suc i) = conjuncts_text i ++ (cond (nat_eq i 0) [] (codes " &\n") ++ conjunct_text i)

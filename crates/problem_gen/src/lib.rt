@@ -28,7 +28,7 @@ pub fn drill(alloc: Global, n: u32) -> Result<Vec<u8>, Memory>
     Ok(text)
 }
 
-/// One conjunct, behind a text.
+/// One conjunct, after a text.
 fn put_conjunct(alloc: Global, i: u32, text: &mut Vec<u8>) -> Result<(), Memory>
     requires { i ≤ most_count }
     ensures { OnOk result (text.new.items ≡ text.old.items ++ conjunct_text i) }
@@ -44,7 +44,7 @@ fn put_conjunct(alloc: Global, i: u32, text: &mut Vec<u8>) -> Result<(), Memory>
     Ok(())
 }
 
-/// A label and a number, behind a text.
+/// A label and a number, after a text.
 fn put_number(alloc: Global, label: &[u8], n: u32, text: &mut Vec<u8>) -> Result<(), Memory>
     ensures { OnOk result (text.new.items ≡ text.old.items ++ (label.now ++ decimal n)) }
 {

@@ -61,7 +61,7 @@ unfolding with_value next just
 one_sorted j v d = tidied-sorted _
 
 -- ---- all values
--- the values behind `pre`, put into d: their raw numbers were computed before, and a disjunction without names is left that
+-- the values after `pre`, put into d: their raw numbers were computed before, and a disjunction without names is left that
 -- is true where d is at all values
 record ArePut (n k j : ℕ) (d : List (List Literal)) (pre : List ℤ) : Type 0 where
   values : List ℤ

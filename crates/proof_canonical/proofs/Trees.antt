@@ -15,7 +15,7 @@ use Rattle.search.proofs.Retracing.{value-built}
 use Rattle.proof_canonical.proofs.Sharp.{AreNormal, constraint_normal}
 
 abbrev mutual
-  -- at most so many levels, and constraints of normal forms
+  -- at most this many levels, and constraints of normal forms
   pub IsCanonical : ℕ → Proof → Type 0
   IsCanonical zero (node p ns es d) = ⊥
   IsCanonical (suc left) (node p ns es d) = AreNormal d × AreCanonical left ns

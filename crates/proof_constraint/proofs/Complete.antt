@@ -144,7 +144,7 @@ record EndsSum (w : Behind) (g : Draft) (k : ℤ) : Type 0 where
   goes_on : (x : Token) → IsFollower x → word w x ≡ follows g k x
   ends : line_end w ≡ ends_literal ended g.divisor g k
 
--- a draft up to the least name, which nobody asks for behind a sum
+-- a draft up to the least name, which nobody asks for after a sum
 abbrev summed : List (List Literal) → List Literal → Option Divisor → List (ℕ × ℤ) → Draft
 summed d c v ps = record { clauses = d; literals = c; divisor = v; sum = record { pairs = ps; constant = pos 0 }; least = above 0 ps }
 
@@ -217,7 +217,7 @@ unfolding moves
 related true w h = h.goes_on t.AtLeast (λ g minus n. (refl, refl))
 related false w h = h.goes_on t.Equal (λ g minus n. (refl, refl))
 
--- what can come behind a literal
+-- what can come after a literal
 data Follows : List Token → Type 0 where
   line_ends : (ys : List Token) → Follows (t.LineFeed ∷ ys)
   and_comes : (ys : List Token) → Follows (t.Blank ∷ t.And ∷ ys)

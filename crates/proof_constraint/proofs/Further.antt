@@ -1,4 +1,4 @@
--- Names behind a name, each with its sign, lead on.
+-- Names after a name, each with its sign, lead on.
 use Rattle.std.proofs.Common.{ℕ, ◌≡◌, ◌≤◌, ◌<◌, ◌^◌, ℤ, Bool, true, false, cond, List, [], ◌∷◌, ◌++◌, length, refl, sym, ap, subst, arith}
 use Rattle.std.specs.Prelude.{nat_le}
 use Rattle.proof_tokens.specs.declared.tokens.Token.{Token}

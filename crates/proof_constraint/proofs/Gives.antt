@@ -74,7 +74,7 @@ ends z d x bytes rest more move p q r c h =
     let l = subst (Leads (said z ++ x ∷ [])) (sym p ∙ q) (leads z x r h.fine) in
     (l.0, subst (λ w. Cuts w bytes more) (sym l.1) (cut_append (said z) (x ∷ []) bytes rest more h.cut c))
 
--- the line ends behind a clause
+-- the line ends after a clause
 pub ends_clause : (place : Place) (g : Draft) (d : List (List Literal)) (bytes rest more : List ℕ) → place ≡ p.Behind w.Clause → d ≡ g.clauses ++ g.literals ∷ [] → Cuts (t.LineFeed ∷ []) rest more → Stands (state_of place g) bytes rest
     → AreClauses d × Cuts (gives_text d) bytes more
 unfolding moves

@@ -85,7 +85,7 @@ starred_leads now g minus n fine small e = by_test now (nat_lt 1 n && nat_lt g.l
     let q = both_true (nat_lt 1 n) (nat_lt g.least (2 ^ 32)) h in
     ((fine, small, ltb-true 1 n q.0, ltb-true g.least (2 ^ 32) q.1), e)) (λ h. tt)
 
--- behind the literals of a clause
+-- after the literals of a clause
 and_leads : (now : List Token) (d : List (List Literal)) (c : List Literal) → AreClauses d → AreSaidLiterals c → clause_said d c ++ t.Blank ∷ t.And ∷ [] ≡ now → Leads now (and_then d c)
 and_leads now d [] p q e = tt
 and_leads now d (x ∷ xs) p q e = (
@@ -102,7 +102,7 @@ or_leads now d c p q e = (
 ended_leads : (now : List Token) (d : List (List Literal)) (c : List Literal) → AreClauses d → AreSaidLiterals c → clause_said d c ++ t.LineFeed ∷ [] ≡ now → Leads now (ended d c)
 ended_leads now d c p q e = (all_more AreSaidLiterals d c p q, ap (λ w. t.Gives ∷ w ++ t.LineFeed ∷ []) (dnf_more d c) ∙ e)
 
--- behind a whole sum
+-- after a whole sum
 fits_by : (n : ℤ) (negated : Bool) (sum : Linear) → IsSaidDivisor n → IsNormal sum → IsSaid (divided (record { size = n; negated = negated }) sum)
 fits_by n true sum p q = (p, q)
 fits_by n false sum p q = (p, q)

@@ -18,6 +18,6 @@ as_step (m.Done d) = done d
 abbrev pub line_moves : GivenState → Token → Step GivenState (List (List Literal))
 line_moves z x = as_step (moves z x)
 
--- behind the word `gives`
+-- after the word `gives`
 abbrev pub gives_read : GivenState
 gives_read = s.Behind (b.Start (opened [] [] None))

@@ -8,7 +8,7 @@ pub data Step (S V : Type 0) : Type 0 where
   on : S → Step S V
   done : V → Step S V
 
--- what comes of tokens: the first refused one with those behind it, or the value with what is behind it
+-- what comes of tokens: the first refused one with those after it, or the value with what is after it
 pub data Outcome (V : Type 0) : Type 0 where
   refused : List Token → Outcome V
   read : V → List Token → Outcome V

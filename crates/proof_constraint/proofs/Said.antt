@@ -44,7 +44,7 @@ said (s.Blank w) = said_behind w ++ t.Blank ∷ []
 said (s.Minus g) = said_draft g ++ t.Blank ∷ t.Minus ∷ []
 said (s.Times g minus n) = said_draft g ++ sign_text (is_first g.sum.pairs) minus ++ t.Number n ∷ t.Times ∷ []
 
--- the least name behind these pairs
+-- the least name after these pairs
 abbrev pub above : ℕ → List (ℕ × ℤ) → ℕ
 above n [] = n
 above n (p ∷ ps) = above (p.0 + 1) ps

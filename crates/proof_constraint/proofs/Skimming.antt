@@ -24,7 +24,7 @@ use Rattle.proof_constraint.specs.Places.{behind_of, constant_of}
 use Rattle.proof_constraint.specs.Steps.{LeadOn, ReachesState}
 use Rattle.proof_constraint.proofs.Further.{is_above, lead_append, named_on}
 
--- tokens behind tokens
+-- tokens after tokens
 pub reaches_more : (z y v : GivenState) (text mid rest : List ℕ) → ReachesState z y text mid → ReachesState y v mid rest → ReachesState z v text rest
 reaches_more z y v text mid rest p q = record {
   tokens = p.tokens ++ q.tokens;
@@ -89,7 +89,7 @@ constant_reaches g false n text rest some small cut = record {
   cut = cut;
 }
 
--- `|` behind a clause
+-- `|` after a clause
 pub or_reaches : (d : List (List Literal)) (c : List Literal) (h : Draft) (text rest : List ℕ) → h ≡ opened (d ++ c ∷ []) [] None → Cuts (t.Blank ∷ t.Or ∷ t.Blank ∷ []) text rest
     → ReachesState (s.Behind (b.Clause d c)) (s.Blank (b.Start h)) text rest
 unfolding moves
@@ -100,7 +100,7 @@ or_reaches d c h text rest e cut = record {
   cut = cut;
 }
 
--- `&` behind a literal
+-- `&` after a literal
 pub and_reaches : (d : List (List Literal)) (c : List Literal) (h : Draft) (text rest : List ℕ) → c ≢ [] → h ≡ opened d c None → Cuts (t.Blank ∷ t.And ∷ t.Blank ∷ []) text rest
     → ReachesState (s.Behind (b.Clause d c)) (s.Blank (b.Start h)) text rest
 unfolding moves

@@ -42,11 +42,11 @@ named g minus n x = cond (nat_le g.least x) (m.On (s.Behind (b.Sum (with_pair g 
 abbrev pub counted : Draft → Bool → ℕ → GivenMove
 counted g minus n = cond (nat_lt 0 n) (m.On (s.Behind (b.Number g minus n))) m.Bad
 
--- a `*` comes behind a number: some name has to be left
+-- a `*` comes after a number: some name has to be left
 abbrev pub starred : Draft → Bool → ℕ → GivenMove
 starred g minus n = cond (nat_lt 1 n && nat_lt g.least (2 ^ 32)) (m.On (s.Times g minus n)) m.Bad
 
--- `&`, `|` or the end of the line comes behind the literals of a clause
+-- `&`, `|` or the end of the line comes after the literals of a clause
 abbrev pub and_then : List (List Literal) → List Literal → GivenMove
 and_then d [] = m.Bad
 and_then d (x ∷ xs) = m.On (s.Behind (b.Start (opened d (x ∷ xs) None)))
@@ -74,7 +74,7 @@ follows g k t.And = ends_literal and_then g.divisor g k
 follows g k t.Or = ends_literal or_then g.divisor g k
 follows g k _ = m.Bad
 
--- `divides` comes behind a number that begins a literal
+-- `divides` comes after a number that begins a literal
 abbrev pub divides_then : Bool → Option Divisor → List (ℕ × ℤ) → Bool → Draft → ℕ → GivenMove
 divides_then negated None [] false g n = cond (nat_lt 1 n) (m.On (s.Behind (b.Start (opened g.clauses g.literals (Some (record { size = pos n; negated = negated })))))) m.Bad
 divides_then negated _ _ _ g n = m.Bad
@@ -88,7 +88,7 @@ abbrev pub true_then : List (List Literal) → List Literal → Option Divisor �
 true_then d [] None = m.On (s.Behind (b.Clause d []))
 true_then _ _ _ = m.Bad
 
--- what a word that comes behind a whole word and a blank does
+-- what a word that comes after a whole word and a blank does
 abbrev pub word : Behind → Token → GivenMove
 word (b.Start g) t.False = false_then g.clauses g.literals g.divisor
 word (b.Start g) t.True = true_then g.clauses g.literals g.divisor
@@ -108,7 +108,7 @@ word (b.Clause d c) t.And = and_then d c
 word (b.Clause d c) t.Or = or_then d c
 word _ _ = m.Bad
 
--- what the end of the line does behind a whole word
+-- what the end of the line does after a whole word
 abbrev pub line_end : Behind → GivenMove
 line_end (b.Sum g) = ends_literal ended g.divisor g (pos 0)
 line_end (b.Number g minus n) = ends_literal ended g.divisor g (signed minus n)

@@ -36,7 +36,7 @@ move_of q.Bad g = m.Bad
 move_of (q.On place) g = m.On (state_of place g)
 move_of q.Done g = m.Done g.clauses
 
--- the constant of a term that ends by this word: that of a number, and 0 behind a name
+-- the constant of a term that ends by this word: that of a number, and 0 after a name
 abbrev pub constant_of : Last → Option ℤ
 constant_of w.Sum = Some (pos 0)
 constant_of (w.Number minus n) = Some (signed minus n)

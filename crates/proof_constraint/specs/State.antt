@@ -3,7 +3,7 @@ use Rattle.std.specs.Prelude.{ℕ, Bool}
 use Rattle.proof_constraint.specs.declared.draft.Draft.{Draft}
 use Rattle.proof_constraint.specs.Behind as b
 
--- behind a word; behind a word and a blank; behind the `-` that begins a term; behind a coefficient and its `*`
+-- after a word; after a word and a blank; after the `-` that begins a term; after a coefficient and its `*`
 pub data GivenState : Type 0 where
   Behind : b.Behind → GivenState
   Blank : b.Behind → GivenState

@@ -1,4 +1,4 @@
--- The line `gives` of a proof, as tokens: a disjunction of conjunctions of literals. Each word stands behind a blank, so a text
+-- The line `gives` of a proof, as tokens: a disjunction of conjunctions of literals. Each word stands after a blank, so a text
 -- of parts is the texts of the parts.
 use Rattle.std.specs.Prelude.{ℕ, ℤ, pos, ◌<ℤ◌, Bool, true, false, cond, nat_eq, int_lt, unsigned_abs, List, [], ◌∷◌, ◌++◌, Option, Some, None}
 use Rattle.std.specs.Ordering.{int_eq}
@@ -11,7 +11,7 @@ use Rattle.proof_tokens.specs.declared.tokens.Token.{Token}
 use Rattle.proof_tokens.specs.declared.tokens.Token.TheVariants as t
 use Rattle.proof_constraint.specs.declared.draft.Divisor.{Divisor}
 
--- the texts of a list, each behind the separator
+-- the texts of a list, each after the separator
 abbrev pub behind : {A : Type 0} → (A → List Token) → Token → List A → List Token
 behind text sign [] = []
 behind text sign (x ∷ xs) = t.Blank ∷ sign ∷ text x ++ behind text sign xs

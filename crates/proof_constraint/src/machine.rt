@@ -1,4 +1,4 @@
-// The line `gives` as a machine: what each token does, behind each other.
+// The line `gives` as a machine: what each token does, after each other.
 
 ghost use Rattle.proof_constraint.specs.Behind as b;
 ghost use Rattle.proof_constraint.specs.Machine as spec;
@@ -41,7 +41,7 @@ fn counted(draft: &Draft, minus: bool, n: u128) -> Progress
     }
 }
 
-/// A `*` comes behind a number.
+/// A `*` comes after a number.
 fn starred(draft: &Draft, minus: bool, n: u128) -> Progress
     ensures { move_of result draft.now ≡ spec.starred draft.now minus n }
 {
@@ -52,7 +52,7 @@ fn starred(draft: &Draft, minus: bool, n: u128) -> Progress
     }
 }
 
-/// `&` comes behind the literals of a clause.
+/// `&` comes after the literals of a clause.
 fn and_then(alloc: Global, draft: &mut Draft) -> Progress
     ensures { move_of result draft.new ≡ spec.and_then draft.old.clauses draft.old.literals }
 {
@@ -63,7 +63,7 @@ fn and_then(alloc: Global, draft: &mut Draft) -> Progress
     Progress::On(Place::Behind(Last::Start))
 }
 
-/// `|` comes behind a clause.
+/// `|` comes after a clause.
 fn or_then(alloc: Global, draft: &mut Draft) -> Result<Progress, Memory>
     ensures { IfOk result (λ p. move_of p draft.new ≡ spec.or_then draft.old.clauses draft.old.literals) }
 {
@@ -72,7 +72,7 @@ fn or_then(alloc: Global, draft: &mut Draft) -> Result<Progress, Memory>
     Ok(Progress::On(Place::Behind(Last::Start)))
 }
 
-/// The line ends behind a clause.
+/// The line ends after a clause.
 fn ended(alloc: Global, draft: &mut Draft) -> Result<Progress, Memory>
     ensures { IfOk result (λ p. move_of p draft.new ≡ spec.ended draft.old.clauses draft.old.literals) }
 {
@@ -80,7 +80,7 @@ fn ended(alloc: Global, draft: &mut Draft) -> Result<Progress, Memory>
     Ok(Progress::Done)
 }
 
-/// A relation comes behind a whole sum.
+/// A relation comes after a whole sum.
 fn related(draft: &mut Draft, constant: i128, bound: bool) -> Progress
     requires { InRange constant }
     ensures { move_of result draft.new ≡ spec.relation bound draft.old.divisor draft.old constant }
@@ -92,7 +92,7 @@ fn related(draft: &mut Draft, constant: i128, bound: bool) -> Progress
     Progress::On(Place::Behind(Last::Relation(bound)))
 }
 
-/// `&` comes behind a sum.
+/// `&` comes after a sum.
 fn and_behind(alloc: Global, draft: &mut Draft, constant: i128) -> Result<Progress, Memory>
     requires { InRange constant }
     ensures { IfOk result (λ p. move_of p draft.new ≡ spec.ends_literal spec.and_then draft.old.divisor draft.old constant) }
@@ -104,7 +104,7 @@ fn and_behind(alloc: Global, draft: &mut Draft, constant: i128) -> Result<Progre
     Ok(and_then(alloc, draft))
 }
 
-/// `|` comes behind a sum.
+/// `|` comes after a sum.
 fn or_behind(alloc: Global, draft: &mut Draft, constant: i128) -> Result<Progress, Memory>
     requires { InRange constant }
     ensures { IfOk result (λ p. move_of p draft.new ≡ spec.ends_literal spec.or_then draft.old.divisor draft.old constant) }
@@ -116,7 +116,7 @@ fn or_behind(alloc: Global, draft: &mut Draft, constant: i128) -> Result<Progres
     or_then(alloc, draft)
 }
 
-/// The line ends behind a sum.
+/// The line ends after a sum.
 fn ended_behind(alloc: Global, draft: &mut Draft, constant: i128) -> Result<Progress, Memory>
     requires { InRange constant }
     ensures { IfOk result (λ p. move_of p draft.new ≡ spec.ends_literal spec.ended draft.old.divisor draft.old constant) }
@@ -147,7 +147,7 @@ fn follows(
     }
 }
 
-/// `divides` or `notdivides` comes behind a number.
+/// `divides` or `notdivides` comes after a number.
 fn divides(alloc: Global, draft: &mut Draft, minus: bool, size: u128, negated: bool) -> Progress
     requires { size < 2 ^ 127 }
     ensures { move_of result draft.new ≡ spec.divides_then negated draft.old.divisor draft.old.sum.pairs minus draft.old size }
@@ -183,7 +183,7 @@ fn whole_true(draft: &Draft) -> Progress
     Progress::Bad
 }
 
-/// What the number behind a relation does.
+/// What the number after a relation does.
 fn compared(alloc: Global, draft: &mut Draft, bound: bool, n: u128) -> Result<Progress, Memory>
     ensures { IfOk result (λ p. move_of p draft.new ≡ spec.word (b.Relation draft.old.clauses draft.old.literals draft.old.sum bound) (t.Number n)) }
 {
@@ -210,7 +210,7 @@ fn first_word(draft: &mut Draft, token: Token) -> Result<Progress, Memory>
     }
 }
 
-/// What a word does behind a name and a blank.
+/// What a word does after a name and a blank.
 fn behind_name(alloc: Global, draft: &mut Draft, token: Token) -> Result<Progress, Memory>
     ensures { IfOk result (λ p. move_of p draft.new ≡ spec.word (b.Sum draft.old) token) }
 {
@@ -221,7 +221,7 @@ fn behind_name(alloc: Global, draft: &mut Draft, token: Token) -> Result<Progres
     }
 }
 
-/// What a word does behind a sign and a blank.
+/// What a word does after a sign and a blank.
 fn behind_sign(draft: &mut Draft, minus: bool, token: Token) -> Result<Progress, Memory>
     requires token_in_range { IsRangedToken token }
     requires open { IsRising draft.old }
@@ -234,7 +234,7 @@ fn behind_sign(draft: &mut Draft, minus: bool, token: Token) -> Result<Progress,
     }
 }
 
-/// What a word does behind a number and a blank.
+/// What a word does after a number and a blank.
 fn behind_number(
     alloc: Global,
     draft: &mut Draft,
@@ -252,7 +252,7 @@ fn behind_number(
     }
 }
 
-/// What a word does behind a clause and a blank.
+/// What a word does after a clause and a blank.
 fn behind_clause(alloc: Global, draft: &mut Draft, token: Token) -> Result<Progress, Memory>
     ensures { IfOk result (λ p. move_of p draft.new ≡ spec.word (b.Clause draft.old.clauses draft.old.literals) token) }
 {
@@ -263,7 +263,7 @@ fn behind_clause(alloc: Global, draft: &mut Draft, token: Token) -> Result<Progr
     }
 }
 
-/// What a word does behind a word and a blank.
+/// What a word does after a word and a blank.
 fn word(alloc: Global, draft: &mut Draft, last: Last, token: Token) -> Result<Progress, Memory>
     requires token_in_range { IsRangedToken token }
     requires in_range { IsInRange (behind_of last draft.old) }
@@ -283,7 +283,7 @@ fn word(alloc: Global, draft: &mut Draft, last: Last, token: Token) -> Result<Pr
     }
 }
 
-/// What the end of the line does behind a word.
+/// What the end of the line does after a word.
 fn line_end(alloc: Global, draft: &mut Draft, last: Last) -> Result<Progress, Memory>
     requires in_range { IsInRange (behind_of last draft.old) }
     ensures { IfOk result (λ p. move_of p draft.new ≡ spec.line_end (behind_of last draft.old)) }
@@ -300,7 +300,7 @@ fn line_end(alloc: Global, draft: &mut Draft, last: Last) -> Result<Progress, Me
     }
 }
 
-/// A blank comes behind a word.
+/// A blank comes after a word.
 fn blank(draft: &Draft, last: Last) -> Progress
     ensures { move_of result draft.now ≡ spec.blank (behind_of last draft.now) }
 {
@@ -310,7 +310,7 @@ fn blank(draft: &Draft, last: Last) -> Progress
     }
 }
 
-/// A `*` comes behind a word.
+/// A `*` comes after a word.
 fn times(draft: &Draft, last: Last) -> Progress
     ensures { move_of result draft.now ≡ spec.times (behind_of last draft.now) }
 {
@@ -320,7 +320,7 @@ fn times(draft: &Draft, last: Last) -> Progress
     }
 }
 
-/// What a token does behind a word.
+/// What a token does after a word.
 fn behind_word(
     alloc: Global,
     draft: &mut Draft,

@@ -13,7 +13,7 @@ use crate::signs::sign_ahead;
 use linear_term::Memory;
 use proof_tokens::name_ahead;
 
-/// Takes the names that come behind a name, each with a sign between two blanks before it: the text behind them.
+/// Takes the names that come after a name, each with a sign between two blanks before it: the text after them.
 pub fn take_names<'a>(draft: &mut Draft, text: &'a [u8]) -> Result<&'a [u8], Memory>
     requires open { IsRising draft.old }
     ensures exact { IfOk result (λ rest. ReachesState (s.Behind (b.Sum draft.old)) (s.Behind (b.Sum draft.new)) text.now rest.now) }
@@ -31,7 +31,7 @@ pub fn take_names<'a>(draft: &mut Draft, text: &'a [u8]) -> Result<&'a [u8], Mem
     Ok(rest)
 }
 
-/// The name behind a sign between two blanks that the text begins with, whether the sign is `-`, and the text behind it.
+/// The name after a sign between two blanks that the text begins with, whether the sign is `-`, and the text after it.
 fn signed_name(text: &[u8]) -> Option<(bool, u32, &[u8])>
     ensures exact { IfSome result (λ x. Cuts (t.Blank ∷ cond x.0 t.Minus t.Plus ∷ t.Blank ∷ t.Name x.1 ∷ []) text.now x.2.now) }
     ensures shorter { IfSome result (λ x. length x.2.now < length text.now) }

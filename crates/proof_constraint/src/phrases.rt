@@ -20,7 +20,7 @@ use linear_term::Memory;
 use proof_tokens::{blank, line_feed, true_ahead};
 use std::alloc::Global;
 
-/// Where the machine stands behind the tokens that are seen at once, and the text behind them; where none are, as before.
+/// Where the machine stands after the tokens that are seen at once, and the text after them; where none are, as before.
 pub fn skim<'a>(
     alloc: Global,
     draft: &mut Draft,
@@ -43,7 +43,7 @@ pub fn skim<'a>(
     }
 }
 
-/// Behind a name: further names, and a constant or a relation with its 0.
+/// After a name: further names, and a constant or a relation with its 0.
 fn behind_sum<'a>(
     alloc: Global,
     draft: &mut Draft,
@@ -76,7 +76,7 @@ fn constant_of(last: Last, draft: &Draft) -> Option<i128>
     }
 }
 
-/// Behind the last word of a term that is not divided: a relation with its 0.
+/// After the last word of a term that is not divided: a relation with its 0.
 fn related<'a>(
     alloc: Global,
     draft: &mut Draft,
@@ -101,7 +101,7 @@ fn related<'a>(
     Ok((Place::Behind(Last::Clause), rest))
 }
 
-/// Behind a literal: `&` or `|` with its blanks.
+/// After a literal: `&` or `|` with its blanks.
 fn joined<'a>(alloc: Global, draft: &mut Draft, text: &'a [u8]) -> Result<(Place, &'a [u8]), Memory>
     ensures exact { IfOk result (λ x. ReachesState (s.Behind (b.Clause draft.old.clauses draft.old.literals)) (state_of x.0 draft.new) text.now x.1.now) }
     ensures within { IfOk result (λ x. length x.1.now ≤ length text.now) }
@@ -163,7 +163,7 @@ fn true_clause<'a>(draft: &Draft, text: &'a [u8]) -> (Place, &'a [u8])
     }
 }
 
-/// The text behind the end of the line, where that comes behind a clause; none elsewhere.
+/// The text after the end of the line, where that comes after a clause; none elsewhere.
 pub fn end_ahead(place: Place, text: &[u8]) -> Option<&[u8]>
     ensures { MatchOption result ((rest : List ℕ) → place ≡ p.Behind w.Clause → Cuts (t.LineFeed ∷ []) text.now rest → ⊥) (λ rest. (place ≡ p.Behind w.Clause) × Cuts (t.LineFeed ∷ []) text.now rest.now) }
 {

@@ -22,13 +22,13 @@ pub enum Last {
 /// Where the reader stands.
 #[derive(Clone, Copy)]
 pub enum Place {
-    /// Behind a word.
+    /// After a word.
     Behind(Last),
-    /// Behind a word and a blank.
+    /// After a word and a blank.
     Blank(Last),
-    /// Behind the `-` that begins a term.
+    /// After the `-` that begins a term.
     Minus,
-    /// Behind a coefficient and its `*`.
+    /// After a coefficient and its `*`.
     Times(bool, u128),
 }
 

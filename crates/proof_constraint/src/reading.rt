@@ -23,7 +23,7 @@ fn one_true(alloc: Global) -> Result<Items<Items<Literal>>, Memory>
     Ok(clauses)
 }
 
-/// The text behind the line `gives true`; none where another line comes.
+/// The text after the line `gives true`; none where another line comes.
 pub fn given_true(text: &[u8]) -> Option<&[u8]>
     ensures bytes { MatchOption result ((rest : List ℕ) → text.now ≡ codes "gives true\n" ++ rest → ⊥) (λ rest. text.now ≡ codes "gives true\n" ++ rest.now) }
     ensures tokens { IfSome result (λ rest. Cuts (gives_text ([] ∷ [])) text.now rest.now) }
@@ -32,7 +32,7 @@ pub fn given_true(text: &[u8]) -> Option<&[u8]>
     Some(rest)
 }
 
-/// The line `gives`: its clauses, and the text behind it.
+/// The line `gives`: its clauses, and the text after it.
 pub fn given(alloc: Global, text: &[u8]) -> Result<(Items<Items<Literal>>, &[u8]), Refusal>
     ensures found { IfOk result (λ x. AreClauses x.0 × Cuts (gives_text x.0) text.now x.1.now) }
     ensures first { IfErr result (RefusesProof AreClauses gives_text text.now) }
@@ -44,7 +44,7 @@ pub fn given(alloc: Global, text: &[u8]) -> Result<(Items<Items<Literal>>, &[u8]
     any_given(alloc, text)
 }
 
-/// The line `gives`, whatever it says: its clauses, and the text behind it.
+/// The line `gives`, whatever it says: its clauses, and the text after it.
 fn any_given(alloc: Global, text: &[u8]) -> Result<(Items<Items<Literal>>, &[u8]), Refusal>
     ensures found { IfOk result (λ x. AreClauses x.0 × Cuts (gives_text x.0) text.now x.1.now) }
     ensures first { IfErr result (RefusesProof AreClauses gives_text text.now) }

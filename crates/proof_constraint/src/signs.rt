@@ -6,7 +6,7 @@ ghost use Rattle.std.specs.Prelude.{◌≡◌, ◌<◌, ◌∷◌, [], cond, len
 
 use proof_tokens::{name_ahead, number_ahead};
 
-/// The byte between two blanks that the text begins with, and the text behind them.
+/// The byte between two blanks that the text begins with, and the text after them.
 fn between_blanks(text: &[u8]) -> Option<(u8, &[u8])>
     ensures exact { IfSome result (λ x. text.now ≡ 32 ∷ x.0 ∷ 32 ∷ x.1.now) }
 {
@@ -20,7 +20,7 @@ fn between_blanks(text: &[u8]) -> Option<(u8, &[u8])>
     }
 }
 
-/// Whether the sign between two blanks that the text begins with is `-`, not `+`, and the text behind.
+/// Whether the sign between two blanks that the text begins with is `-`, not `+`, and the text after.
 pub(crate) fn sign_ahead(text: &[u8]) -> Option<(bool, &[u8])>
     ensures exact { IfSome result (λ x. Cuts (t.Blank ∷ cond x.0 t.Minus t.Plus ∷ t.Blank ∷ []) text.now x.1.now) }
     ensures shorter { IfSome result (λ x. length x.1.now < length text.now) }
@@ -33,7 +33,7 @@ pub(crate) fn sign_ahead(text: &[u8]) -> Option<(bool, &[u8])>
     }
 }
 
-/// Whether the sign between two blanks that the text begins with is `|`, not `&`, and the text behind.
+/// Whether the sign between two blanks that the text begins with is `|`, not `&`, and the text after.
 pub(crate) fn joint_ahead(text: &[u8]) -> Option<(bool, &[u8])>
     ensures exact { IfSome result (λ x. Cuts (t.Blank ∷ cond x.0 t.Or t.And ∷ t.Blank ∷ []) text.now x.1.now) }
     ensures shorter { IfSome result (λ x. length x.1.now < length text.now) }
@@ -46,7 +46,7 @@ pub(crate) fn joint_ahead(text: &[u8]) -> Option<(bool, &[u8])>
     }
 }
 
-/// Whether the relation between two blanks that the text begins with is `>=`, not `=`, and the text behind the 0 that follows.
+/// Whether the relation between two blanks that the text begins with is `>=`, not `=`, and the text after the 0 that follows.
 pub(crate) fn relation_ahead(text: &[u8]) -> Option<(bool, &[u8])>
     ensures exact { IfSome result (λ x. Cuts (t.Blank ∷ cond x.0 t.AtLeast t.Equal ∷ t.Blank ∷ t.Number 0 ∷ []) text.now x.1.now) }
     ensures shorter { IfSome result (λ x. length x.1.now < length text.now) }
@@ -56,7 +56,7 @@ pub(crate) fn relation_ahead(text: &[u8]) -> Option<(bool, &[u8])>
     if n == 0 { Some((bound, rest)) } else { None }
 }
 
-/// Whether the relation between two blanks that the text begins with is `>=`, not `=`, and the text behind.
+/// Whether the relation between two blanks that the text begins with is `>=`, not `=`, and the text after.
 fn related(text: &[u8]) -> Option<(bool, &[u8])>
     ensures exact { IfSome result (λ x. Cuts (t.Blank ∷ cond x.0 t.AtLeast t.Equal ∷ t.Blank ∷ []) text.now x.1.now) }
     ensures shorter { IfSome result (λ x. length x.1.now < length text.now) }
@@ -67,7 +67,7 @@ fn related(text: &[u8]) -> Option<(bool, &[u8])>
     }
 }
 
-/// The text behind the sign `>=` between two blanks.
+/// The text after the sign `>=` between two blanks.
 fn at_least(text: &[u8]) -> Option<&[u8]>
     ensures exact { IfSome result (λ rest. text.now ≡ 32 ∷ 62 ∷ 61 ∷ 32 ∷ rest.now) }
 {
@@ -82,7 +82,7 @@ fn at_least(text: &[u8]) -> Option<&[u8]>
     }
 }
 
-/// The name that begins a term, with a `-` directly before it or none, whether there is one, and the text behind it.
+/// The name that begins a term, with a `-` directly before it or none, whether there is one, and the text after it.
 pub(crate) fn first_ahead(text: &[u8]) -> Option<(bool, u32, &[u8])>
     ensures exact { IfSome result (λ x. Cuts (cond x.0 (t.Minus ∷ t.Name x.1 ∷ []) (t.Name x.1 ∷ [])) text.now x.2.now) }
     ensures shorter { IfSome result (λ x. length x.2.now < length text.now) }
@@ -95,7 +95,7 @@ pub(crate) fn first_ahead(text: &[u8]) -> Option<(bool, u32, &[u8])>
     Some((false, name, rest))
 }
 
-/// The constant that ends a term, from 1 to 2^32 − 1, behind a sign between two blanks, whether the sign is `-`, and the text behind.
+/// The constant that ends a term, from 1 to 2^32 − 1, after a sign between two blanks, whether the sign is `-`, and the text after.
 pub(crate) fn constant_ahead(text: &[u8]) -> Option<(bool, u32, &[u8])>
     ensures exact { IfSome result (λ x. Cuts (t.Blank ∷ cond x.0 t.Minus t.Plus ∷ t.Blank ∷ t.Number x.1 ∷ []) text.now x.2.now) }
     ensures some { IfSome result (λ x. 0 < x.1) }

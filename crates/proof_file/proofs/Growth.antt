@@ -16,7 +16,7 @@ use Rattle.proof_file.specs.Trees.{TreeComes, IsReadTree, TreesCome, AreTrees, C
 
 -- Trees of one level.
 
--- these proofs, and those behind them
+-- these proofs, and those after them
 abbrev joined : List Proof → Proofs → Proofs
 joined [] ms = ms
 joined (x ∷ xs) ms = and_proof x (joined xs ms)
@@ -29,7 +29,7 @@ joined_none : (xs : List Proof) → proofs xs ≡ joined xs no_proof
 joined_none [] = refl
 joined_none (x ∷ xs) = ap (and_proof x) (joined_none xs)
 
--- the trees that are still to come behind the first i
+-- the trees that are still to come after the first i
 pub record Rest (now : List TextLine → Type 0) (k j i : ℕ) (ns : List Node) (xs : Proofs) (ls : List TextLine) : Type 0 where
   pub others : Proofs
   pub parts : xs ≡ joined (map proof_of ns) others
@@ -101,7 +101,7 @@ trees_by before now j k p (node q ns es d) ls s h r =
     let a = r q (width ns) ((lines_all ns ++ last_lines q es d) ++ ls) h in
     (ns, last_lines q es d ++ ls, sym a.1, s.4, subst now (append_assoc (lines_all ns) (last_lines q es d) ls) a.2)
 
--- behind its rule come the trees of its premises
+-- after its rule come the trees of its premises
 pub trees_come : (before now : List TextLine → Type 0) (j k : ℕ) (p : Pick) → TreeComes before j → IsRow before now p k → TreesCome now k (j + 1)
 trees_come before now j k p t r = trees_by before now j k p t.0 t.1 t.2 t.3 r
 
@@ -111,7 +111,7 @@ closing_by before now after j k p cs (node q ns es d) ls s h r t =
     let b = t ns (last_lines q es d ++ ls) (sym a.1) s.4 (subst now (append_assoc (lines_all ns) (last_lines q es d) ls) a.2) in
     (es, d, ls, subst (λ z. after (last_lines z es d ++ ls)) (sym a.0) b.1)
 
--- behind these come the last lines of the node
+-- after these come the last lines of the node
 pub closing_comes : (before now after : List TextLine → Type 0) (j k : ℕ) (p : Pick) (cs : List Node) → TreeComes before j → IsRow before now p k → AreTrees now after k (j + 1) cs → ClosingComes after p
 closing_comes before now after j k p cs t r a = closing_by before now after j k p cs t.0 t.1 t.2 t.3 r a
 

@@ -12,7 +12,7 @@ use Rattle.proof_file.specs.Refused.{RefusesProofFile}
 use Rattle.proof_file.specs.declared.refusal.ProofRefusal.{ProofRefusal}
 use Rattle.proof_file.specs.declared.refusal.ProofRefusal.TheVariants as r
 
--- so many bytes are left behind the place of a refusal
+-- this many bytes are left after the place of a refusal
 abbrev left_of : List ℕ → ℕ
 left_of back = length back
 
@@ -30,7 +30,7 @@ same_left m n e = cc
 same_deep : (m n : ℕ) → f.Deep m ≡ f.Deep n → m ≡ n
 same_deep m n e = cc
 
--- with so many bytes left, it stands so far from the start
+-- with this many bytes left, it stands so far from the start
 same_place : (m n left more whole : ℕ) → m + left ≡ whole → n + more ≡ whole → left ≡ more → m ≡ n
 same_place m n left more whole p q e = omega arith
 

@@ -46,7 +46,7 @@ line_first bytes i e =
 abbrev body_by : List ℕ → Option (List (List ℕ)) → List ℕ
 body_by bytes found = unwrap_or (option_map (join_with_byte 10) found) bytes
 
--- behind a line that is `proof:` stands the body
+-- after a line that is `proof:` stands the body
 pub marked : (bytes rest line more : List ℕ) → behind_marker (lines_of bytes) ≡ behind_marker (lines_of rest) → lines_of rest ≡ line ∷ lines_of more → is_marker line ≡ true → more ≡ body bytes
 marked bytes rest line more e q h =
     sym (ap (body_by bytes) (e ∙ ap behind_marker q ∙ ap (λ b. cond b (Some (lines_of more)) (behind_marker (lines_of more))) h) ∙ join_with_byte-slice_split 10 more)

@@ -44,7 +44,7 @@ no_bytes : (u : List Token) (rest : List ℕ) → Cuts u [] rest → (u ≡ []) 
 no_bytes [] rest c = (refl, sym c)
 no_bytes (x ∷ u) rest c = let e = c.1 in absurd (cc)
 
--- the text of whole lines goes on behind their opening
+-- the text of whole lines goes on after their opening
 goes_on : (before ls : List TextLine) (text rest : List ℕ) → Meets (tokens_of ls) (tokens_of before) [] rest → (u : List Token) × (tokens_of ls ≡ tokens_of before ++ u) × Cuts u rest []
 goes_on before ls text rest (inl q) = q
 goes_on before ls text rest (inr q) =
@@ -69,7 +69,7 @@ coming_by n m x c ps text rest walk owed many h s =
       },
     )
 
--- behind the opening of a proof's text come the lines of its tree
+-- after the opening of a proof's text come the lines of its tree
 pub coming_all : (n : ℕ) (ps : List ElimLog) (text rest : List ℕ) (walk : Walk) → owed_of walk ≡ tree_owed (length ps) → walk.parts ≡ length ps → HoldsSome text n → IsOpened ps n text rest → HoldsAll text n ps walk rest
 coming_all n ps text rest walk owed many h s = coming_by n n h.0 h.1 ps text rest walk owed many h.2 s
 
@@ -87,7 +87,7 @@ inner_meaning ps (w.Gives d) ls i = refl
 inner_meaning ps (w.End c) ls i = refl
 inner_meaning ps (w.EndOf n) ls i = refl
 
--- the line that comes as it is written, and what comes behind it
+-- the line that comes as it is written, and what comes after it
 pub record Came (ps : List ElimLog) (x : Owed) (os : List Owed) (bytes : List ℕ) (l : TextLine) (ls : List TextLine) : Type 0 where
   pub line : TextLine
   pub pays : Pays Shallow x line
@@ -161,7 +161,7 @@ use_within ps walk (o.Node j k) os i e many p = absurd p
 use_within ps walk o.Gives os i e many p = absurd p
 use_within ps walk (o.End k) os i e many p = absurd p
 
--- a line that is read behind the opening is full
+-- a line that is read after the opening is full
 full_is : (ps : List ElimLog) (walk : Walk) (x : Owed) (os : List Owed) (m : TextLine) → owed_of walk ≡ x ∷ os → walk.parts ≡ length ps → Pays Shallow x m → IsInner m → IsFull ps (ended ps m)
 full_is ps walk x os (w.Head n) e many p i = absurd i
 full_is ps walk x os (w.Parts n) e many p i = absurd i
@@ -204,7 +204,7 @@ deep_none x bytes left r l rest p c = deep_no x l bytes p r.0
 pub none_comes : (ps : List ElimLog) (walk : Walk) (x : Owed) (os : List Owed) (bytes : List ℕ) (l : TextLine) (ls : List TextLine) → owed_of walk ≡ x ∷ os → HasNone x bytes → Coming ps walk bytes (l ∷ ls) → ⊥
 none_comes ps walk x os bytes l ls e n h = let k = came ps walk x os bytes l ls e h in n k.line k.rest k.pays k.cut
 
--- the line that is told is the one that comes, and the others come behind it
+-- the line that is told is the one that comes, and the others come after it
 pub told_next : (ps : List ElimLog) (walk after : Walk) (x : Owed) (os : List Owed) (bytes rest : List ℕ) (l m full : TextLine) (ls : List TextLine) (told : Option Line) (log : ElimLog) (end : Conclusion) → owed_of walk ≡ x ∷ os → Pays Shallow x m
     → Cuts (line_text m) bytes rest → full ≡ ended ps m → ((us : List Owed) → owed_of walk ≡ x ∷ us → owed_of after ≡ owes x full ++ us) → after.parts ≡ walk.parts → (IsFull ps full → TellsLine told log end (meant ps full)) → Coming ps walk bytes (l ∷ ls)
     → TellsLine told log end l × Coming ps after rest ls

@@ -43,7 +43,7 @@ abbrev pub ended : List ElimLog → TextLine → TextLine
 ended parts (w.EndOf i) = w.End (Nothing (part_at parts i))
 ended parts l = l
 
--- a line behind the opening whose conclusion, if it is one, has its entries, and whose part, if it uses one, is there
+-- a line after the opening whose conclusion, if it is one, has its entries, and whose part, if it uses one, is there
 abbrev pub IsFull : List ElimLog → TextLine → Type 0
 IsFull parts (w.Row p k) = Unit {0}
 IsFull parts (w.Log log) = Unit {0}
@@ -57,7 +57,7 @@ abbrev pub meant : List ElimLog → TextLine → TextLine
 meant parts (w.LogOf i) = w.Log (part_at parts i)
 meant parts l = l
 
--- something is told of the line: it is one behind the opening, and a conclusion has its entries
+-- something is told of the line: it is one after the opening, and a conclusion has its entries
 abbrev pub is_told : TextLine → Bool
 is_told (w.Row p k) = true
 is_told (w.Log log) = true

@@ -10,7 +10,7 @@ fn line_end(bytes: &[u8]) -> Option<usize>
     bytes.iter().position(|b| *b == b'\n')
 }
 
-/// The first line, and the bytes behind its line feed; none where no line feed stands, so that the bytes are one line.
+/// The first line, and the bytes after its line feed; none where no line feed stands, so that the bytes are one line.
 fn first_line(bytes: &[u8]) -> Option<(&[u8], &[u8])>
     ensures first { MatchOption result (lines_of bytes.now ≡ bytes.now ∷ []) (λ x. lines_of bytes.now ≡ x.0.now ∷ lines_of x.1.now) }
     ensures shorter { IfSome result (λ x. length x.1.now < length bytes.now) }
@@ -21,14 +21,14 @@ fn first_line(bytes: &[u8]) -> Option<(&[u8], &[u8])>
     }
 }
 
-/// Whether a line is the one behind which a proof stands.
+/// Whether a line is the one after which a proof stands.
 fn is_marker(line: &[u8]) -> bool
     ensures { result ≡ is_marker line.now }
 {
     line == b"proof:".as_slice()
 }
 
-/// The bytes behind the first line that is `proof:`, or all where no line is so.
+/// The bytes after the first line that is `proof:`, or all where no line is so.
 pub fn body(bytes: &[u8]) -> &[u8]
     ensures exact { result.now ≡ body bytes.now }
     ensures within { length result.now ≤ length bytes.now }

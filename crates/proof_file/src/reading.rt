@@ -44,7 +44,7 @@ fn node<L: ProofLines>(alloc: Global, lines: &mut L, level: u32) -> Result<Node,
     Ok(node_of(rule, children, log, gives))
 }
 
-/// The trees on this level whose lines come next, so many.
+/// The trees on this level whose lines come next, this many.
 #[cycle(reading)]
 fn nodes<L: ProofLines>(
     alloc: Global,

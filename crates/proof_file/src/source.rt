@@ -38,7 +38,7 @@ pub trait ProofLines {
     // The conclusion, once it has come.
     ghost end_of: { Self → Conclusion };
 
-    /// The line that comes next; none behind the end, where nothing changes. Nor does anything at want of memory.
+    /// The line that comes next; none after the end, where nothing changes. Nor does anything at running out of memory.
     fn next(&mut self, alloc: Global) -> Result<Option<Line>, Memory>
         ensures line { (l : TextLine) (ls : List TextLine) → coming self.old (l ∷ ls) → IfOk result (λ x. TellsLine x (log_of self.new) (end_of self.new) l × coming self.new ls) }
         ensures log { IfOk result (λ x. KeepsLog x (log_of self.old) (log_of self.new)) }

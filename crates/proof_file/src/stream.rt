@@ -34,7 +34,7 @@ pub struct Lines<'a> {
     conclusion: Conclusion,
 }
 
-/// The line that is owed, and the text behind it; none where the text has none there.
+/// The line that is owed, and the text after it; none where the text has none there.
 fn owed_line(alloc: Global, owed: Owed, text: &[u8]) -> Result<Option<(TextLine, &[u8])>, Memory>
     ensures { IfOk result (λ r. MatchOption r (HasNone owed text.now) (λ x. Pays Shallow owed x.0 × Cuts (line_text x.0) text.now x.1.now)) }
 {

@@ -1,4 +1,4 @@
--- The expansion of lines, one behind another, and that of whole texts.
+-- The expansion of lines, one after another, and that of whole texts.
 use Rattle.std.proofs.Common.{ℕ, zero, suc, ◌≡◌, ◌+◌, ◌==◌, Bool, true, false, cond, List, [], ◌∷◌, ◌++◌, map, refl, sym, ap, subst, ◌∙◌, append_assoc, append-nil, arith}
 use Rattle.base_budget.specs.declared.log.ElimLog.{ElimLog}
 use Rattle.sequent.specs.declared.member.Pick.{Pick}
@@ -40,7 +40,7 @@ expanded_append ps (w.Gives d ∷ ls) ms = ap (λ z. w.Gives d ∷ z) (expanded_
 expanded_append ps (w.End c ∷ ls) ms = ap (λ z. w.End c ∷ z) (expanded_append ps ls ms)
 expanded_append ps (w.EndOf i ∷ ls) ms = ap (λ z. w.End (Nothing (part_at ps i)) ∷ z) (expanded_append ps ls ms)
 
--- a line behind the opening adds no part
+-- a line after the opening adds no part
 pub inner_parts : (ps : List ElimLog) (l : TextLine) → IsInner l → parts_behind ps (l ∷ []) ≡ ps
 inner_parts ps (w.Head n) i = absurd i
 inner_parts ps (w.Parts n) i = absurd i
@@ -151,7 +151,7 @@ one_paid m ps o.Parts l i h = absurd i
 one_paid m ps o.Part l i h = absurd i
 one_paid m ps (o.Charges n) l i h = absurd i
 
--- the expansion of lines that pay for all that is owed behind an opening pays for it in the first format
+-- the expansion of lines that pay for all that is owed after an opening pays for it in the first format
 inner_whole : (m : ℕ) (ps : List ElimLog) (os : List Owed) (ls : List TextLine) → AreOf m os → OwesNothing Shallow os ls → OwesNothing Shallow (map plain os) (expanded ps ls)
 inner_whole m ps os [] a p = ap (map plain) p
 inner_whole m ps [] (l ∷ ls) a p = absurd p

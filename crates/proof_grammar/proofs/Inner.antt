@@ -1,4 +1,4 @@
--- Behind the opening of a text no line of the opening is owed.
+-- After the opening of a text no line of the opening is owed.
 use Rattle.std.proofs.Common.{ℕ, zero, suc, ◌≡◌, List, [], ◌∷◌, ◌++◌, refl, sym, ap, subst, ◌∙◌, ◌⊎◌, inl, inr}
 use Rattle.base_budget.specs.declared.log.ElimLog.{ElimLog}
 use Rattle.proof_grammar.specs.declared.lines.TextLine.{TextLine}

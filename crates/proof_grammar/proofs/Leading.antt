@@ -57,7 +57,7 @@ leads_any os ws [] p = p
 leads_any [] ws (l ∷ ls) p = absurd p
 leads_any (x ∷ os) ws (l ∷ ls) p = (pays_any x l p.0, leads_any (owes x l ++ os) ws ls p.1)
 
--- the lines behind some others of a text
+-- the lines after some others of a text
 pub record Behind (os ws : List Owed) (ls ms : List TextLine) (tail : List Token) : Type 0 where
   pub rest : List TextLine
   pub is : ms ≡ ls ++ rest
@@ -183,7 +183,7 @@ nothing_behind : (rest : List TextLine) (y : Token) (tail : List Token) → Owes
 nothing_behind [] y tail p e = cc
 nothing_behind (l ∷ ls) y tail p e = absurd p
 
--- behind a whole text any token is refused
+-- after a whole text any token is refused
 pub token_behind : (start : List Owed) (ls : List TextLine) (bytes back : List ℕ) → OwesNothing Any start ls → Cuts (tokens_of ls) bytes back → IsFirstProofRefusal (OwesNothing Any start) tokens_of bytes back
 token_behind start ls bytes back p c = record {
   front = tokens_of ls;

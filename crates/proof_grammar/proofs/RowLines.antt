@@ -74,7 +74,7 @@ one_back r.Alpha p n tail h q = alpha_back p n tail h q
 one_back r.Delta p n tail h q = delta_back p n tail h q
 one_back r.Gamma p n tail h q = gamma_back p n tail h q
 
--- no position stands behind the word
+-- no position stands after the word
 pub one_refused : (k : OneWord) (bytes inner : List ℕ) (fault : Refusal) → Cuts (one_token k ∷ []) bytes inner → RefusesProof IsPosition numbered_text inner fault → RefusesProof IsRow row_line bytes fault
 one_refused k bytes inner fault cut q = refused_case IsPosition numbered_text IsRow row_line (one_token k) bytes inner fault cut
     (λ i j. (placed k i, placed_row k i j, placed_text k i))
@@ -97,7 +97,7 @@ beta_back (pick.Beta i) n tail h q = record { pair = (i, n); fits = h; is = cc }
 beta_back (pick.Gamma i) n tail h q = absurd (cc)
 beta_back pick.Close n tail h q = absurd (cc)
 
--- no position or no number of premises stands behind `beta`
+-- no position or no number of premises stands after `beta`
 pub beta_refused : (bytes inner : List ℕ) (fault : Refusal) → Cuts (t.Beta ∷ []) bytes inner → RefusesProof IsCounted counted_text inner fault → RefusesProof IsRow row_line bytes fault
 beta_refused bytes inner fault cut q = refused_case IsCounted counted_text IsRow row_line t.Beta bytes inner fault cut
     (λ p j. ((pick.Beta p.0, p.1), j, refl))
@@ -120,7 +120,7 @@ close_more (pick.Beta i) n q = cc
 close_more (pick.Gamma i) n q = cc
 close_more pick.Close n q = cc
 
--- the line does not end behind `close`
+-- the line does not end after `close`
 pub close_refused : (bytes inner : List ℕ) (fault : Refusal) → Cuts (t.Close ∷ []) bytes inner → RefusesNext (λ y. y ≡ t.LineFeed) inner fault → RefusesProof IsRow row_line bytes fault
 close_refused bytes inner fault cut lacks = lacked IsRow row_line (t.Close ∷ []) bytes inner (λ y. y ≡ t.LineFeed) fault cut lacks
     (record { value = (pick.Close, 0); is_value = refl; more = t.LineFeed ∷ []; parts = refl })

@@ -1,4 +1,4 @@
--- What stands behind a line is shorter.
+-- What stands after a line is shorter.
 use Rattle.std.proofs.Common.{ℕ, ◌≡◌, ◌≤◌, ◌<◌, ◌+◌, ◌==◌, ◌&&◌, true, List, [], ◌∷◌, length, take, drop, Some, refl, ap, subst, arith, length-drop}
 use Rattle.std.specs.Prelude.{cond, slice_index}
 use Rattle.std.specs.List.{prefix_len}
@@ -46,7 +46,7 @@ cut_shorter x xs bytes rest c = let h = cut_within xs (drop c.0 bytes) rest c.2 
 shorter_by : (ts : List Token) (x : Token) (xs : List Token) (bytes rest : List ℕ) → ts ≡ x ∷ xs → Cuts ts bytes rest → length rest < length bytes
 shorter_by ts x xs bytes rest e c = cut_shorter x xs bytes rest (subst (λ z. Cuts z bytes rest) e c)
 
--- the first token of a list of tokens, and those behind it
+-- the first token of a list of tokens, and those after it
 abbrev head_of : List Token → Token
 head_of [] = t.Bad
 head_of (x ∷ xs) = x

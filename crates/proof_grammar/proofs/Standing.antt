@@ -48,7 +48,7 @@ line_fails ps e x os ws bytes inner fault q r s = refused_here s.before x ws byt
 
 -- The opening.
 
--- behind the first line
+-- after the first line
 abbrev pub headed : ℕ → List ℕ → List ℕ → Type 0
 headed n bytes inner = StandsBefore [] (w.Head 1 ∷ []) (opening_owed n) bytes inner
 
@@ -72,7 +72,7 @@ headed_two n bytes inner i e s = subst (λ k. StandsBefore [] (w.Head 1 ∷ []) 
 pub no_parts : (bytes inner : List ℕ) (refusal : Refusal) → StandsBefore [] (w.Head 1 ∷ []) (o.Parts ∷ []) bytes inner → RefusesProof IsPosition parts_text inner refusal → RefusesText bytes (fault_of refusal)
 no_parts bytes inner refusal s r = line_fails [] (w.Head 1 ∷ []) o.Parts (o.Parts ∷ []) [] bytes inner (fault_of refusal) refl (line_refused o.Parts inner refusal tt (parts_refused inner refusal r)) s
 
--- the parts that have come are these, of so many
+-- the parts that have come are these, of this many
 pub record Parting (ps : List ElimLog) (m i : ℕ) (bytes rest : List ℕ) : Type 0 where
   pub left : ℕ
   pub many : left + i ≡ m
@@ -123,9 +123,9 @@ pub opened : (ps : List ElimLog) (n : ℕ) (bytes inner rest : List ℕ) → IsC
 opened ps n bytes inner rest i c s =
     stands_more ps ps (w.Head 1 ∷ []) (w.Head 1 ∷ w.Charges n ∷ []) (o.Charges (length ps)) (o.Charges (length ps) ∷ []) [] (Rattle.proof_grammar.specs.Owed.tree_owed (length ps)) (w.Charges n) bytes inner rest refl refl refl refl i c s
 
--- Behind the opening.
+-- After the opening.
 
--- where the reader stands behind the opening
+-- where the reader stands after the opening
 pub record Inside (ps : List ElimLog) (n : ℕ) (os : List Owed) (bytes rest : List ℕ) : Type 0 where
   pub more : List TextLine
   pub stands : StandsBefore ps (w.Head 1 ∷ w.Charges n ∷ more) os bytes rest

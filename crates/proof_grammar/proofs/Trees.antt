@@ -37,7 +37,7 @@ mutual
       leads_append Level (o.Node j 0 ∷ nodes_owed 0 (width ns) j ++ os) (nodes_owed 0 (width ns) j ++ os) os (lines n) (lines_all ns)
       (tree_pays Level n j (nodes_owed 0 (width ns) j ++ os) s.0) (trees_pay Level ns j os s.1)
 
--- the tree that some lines begin with, and what is paid behind it
+-- the tree that some lines begin with, and what is paid after it
 pub record Grown (Level : ℕ → Type 0) (j : ℕ) (os : List Owed) (ls : List TextLine) : Type 0 where
   pub tree : Proof
   pub rest : List TextLine
@@ -113,7 +113,7 @@ grown Level (suc fuel) j os (w.Row q k ∷ ls) h p =
     }
 grown Level fuel j os (_ ∷ ls) h p = absurd p.0
 
--- lines that pay for a node and what is owed behind it begin with a tree's
+-- lines that pay for a node and what is owed after it begin with a tree's
 pub paid_tree : (Level : ℕ → Type 0) (j : ℕ) (os : List Owed) (ls : List TextLine) → OwesNothing Level (o.Node j 0 ∷ os) ls → Grown Level j os ls
 paid_tree Level j os ls p = grown Level (length ls) j os ls (omega arith) p
 

@@ -1,4 +1,4 @@
--- What a walk owes behind each line.
+-- What a walk owes after each line.
 use Rattle.std.proofs.Common.{ℕ, zero, suc, ◌≡◌, ◌<◌, ◌-◌, Bool, true, false, cond, List, [], ◌∷◌, ◌++◌, refl, sym, ap, ◌∙◌, append_assoc, append-nil, arith}
 use Rattle.sequent.specs.declared.member.Pick.{Pick}
 use Rattle.proof_tree.specs.Walk.{eliminates}
@@ -15,7 +15,7 @@ pub opens_more : (parts : ℕ) (fs : List Open) (f : Open) → opens_owed parts 
 opens_more parts [] f = sym (append-nil (open_owed parts f))
 opens_more parts (g ∷ fs) f = ap (λ z. z ++ open_owed parts g) (opens_more parts fs f) ∙ append_assoc (open_owed parts f) (opens_owed parts fs) (open_owed parts g)
 
--- what a rule owes behind its premises, in both cases
+-- what a rule owes after its premises, in both cases
 pub data Closing (parts : ℕ) (p : Pick) (logged : Bool) : Type 0 where
   with_log : closing_owed parts p logged ≡ o.Log parts ∷ o.Gives ∷ [] → logged ≡ false → Closing parts p logged
   without : closing_owed parts p logged ≡ o.Gives ∷ [] → Closing parts p logged

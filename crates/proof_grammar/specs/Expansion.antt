@@ -9,7 +9,7 @@ use Rattle.proof_grammar.specs.declared.lines.TextLine.TheVariants as w
 abbrev pub part_at : List ElimLog → ℕ → ElimLog
 part_at ps i = get_or ps i (record { entries = [] })
 
--- the lines of the first format that lines mean behind these parts: the parts that come are added to them
+-- the lines of the first format that lines mean after these parts: the parts that come are added to them
 abbrev pub expanded : List ElimLog → List TextLine → List TextLine
 expanded ps [] = []
 expanded ps (w.Head n ∷ ls) = w.Head 1 ∷ expanded ps ls
@@ -23,7 +23,7 @@ expanded ps (l ∷ ls) = l ∷ expanded ps ls
 abbrev pub expansion : List TextLine → List TextLine
 expansion = expanded []
 
--- the parts behind lines
+-- the parts after lines
 abbrev pub parts_behind : List ElimLog → List TextLine → List ElimLog
 parts_behind ps [] = ps
 parts_behind ps (w.Part log ∷ ls) = parts_behind (ps ++ log ∷ []) ls

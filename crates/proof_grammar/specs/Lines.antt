@@ -40,12 +40,12 @@ line_text (w.Gives d) = gives_text d
 line_text (w.End c) = conclusion_text c
 line_text (w.EndOf i) = t.Nothing ∷ use_text i
 
--- the tokens of lines, one behind another
+-- the tokens of lines, one after another
 abbrev pub tokens_of : List TextLine → List Token
 tokens_of [] = []
 tokens_of (l ∷ ls) = line_text l ++ tokens_of ls
 
--- the lines behind the premises of a node
+-- the lines after the premises of a node
 abbrev pub last_lines : Pick → List Entry → List (List Literal) → List TextLine
 last_lines p es d = cond (eliminates p) (w.Log (record { entries = es }) ∷ w.Gives d ∷ []) (w.Gives d ∷ [])
 

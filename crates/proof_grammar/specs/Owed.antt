@@ -41,29 +41,29 @@ Pays Level (o.End m) (w.End c) = IsConclusion c
 Pays Level (o.End m) (w.EndOf i) = i < m
 Pays Level _ _ = ⊥
 
--- so many parts
+-- this many parts
 abbrev pub parts_owed : ℕ → List Owed
 parts_owed zero = []
 parts_owed (suc n) = o.Part ∷ parts_owed n
 
--- so many nodes on this level, in a text of m parts
+-- this many nodes on this level, in a text of m parts
 abbrev pub nodes_owed : ℕ → ℕ → ℕ → List Owed
 nodes_owed m zero j = []
 nodes_owed m (suc k) j = o.Node j m ∷ nodes_owed m k j
 
--- what a rule owes behind its premises
+-- what a rule owes after its premises
 abbrev pub last_owed : ℕ → Pick → List Owed
 last_owed m p = cond (eliminates p) (o.Log m ∷ o.Gives ∷ []) (o.Gives ∷ [])
 
--- what is owed behind the first line: in the second format how many parts there are
+-- what is owed after the first line: in the second format how many parts there are
 abbrev pub opening_owed : ℕ → List Owed
 opening_owed n = cond (n == 1) (o.Charges 0 ∷ []) (o.Parts ∷ [])
 
--- what is owed behind the opening of a text of m parts
+-- what is owed after the opening of a text of m parts
 abbrev pub tree_owed : ℕ → List Owed
 tree_owed m = o.Node 1 m ∷ o.End m ∷ []
 
--- what is owed besides, behind a line
+-- what is owed besides, after a line
 abbrev pub owes : Owed → TextLine → List Owed
 owes o.Head (w.Head n) = opening_owed n
 owes o.Parts (w.Parts m) = parts_owed m ++ o.Charges m ∷ []
@@ -77,7 +77,7 @@ LeadsOwed Level os [] ws = os ≡ ws
 LeadsOwed Level [] (l ∷ ls) ws = ⊥
 LeadsOwed Level (o ∷ os) (l ∷ ls) ws = Pays Level o l × LeadsOwed Level (owes o l ++ os) ls ws
 
--- nothing is owed behind the lines
+-- nothing is owed after the lines
 abbrev pub OwesNothing : (ℕ → Type 0) → List Owed → List TextLine → Type 0
 OwesNothing Level os ls = LeadsOwed Level os ls []
 

@@ -33,7 +33,7 @@ pub record IsRefusedText (bytes back : List ℕ) : Type 0 where
   pub ends : back ≡ [] → (ls : List TextLine) → OwesNothing Any start ls → tokens_of ls ≡ first.front → ⊥
   pub shallow : (deep : List ℕ) → IsDeepAt bytes deep → ⊥
 
--- what a refusal of a text says: how many bytes stand behind the place of the first one
+-- what a refusal of a text says: how many bytes stand after the place of the first one
 abbrev pub RefusesText : List ℕ → Fault → Type 0
 RefusesText bytes (f.Syntax left) = (back : List ℕ) × (length back ≡ left) × IsRefusedText bytes back
 RefusesText bytes (f.Deep left) = (back : List ℕ) × (length back ≡ left) × IsDeepAt bytes back

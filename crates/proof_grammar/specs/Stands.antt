@@ -18,6 +18,6 @@ pub record StandsBefore (parts : List ElimLog) (said : List TextLine) (owed : Li
   pub has : parts_behind [] before ≡ parts
   pub is : expansion before ≡ said
 
--- the reader stands behind the opening of a text with these parts, for so many charges
+-- the reader stands after the opening of a text with these parts, for this many charges
 abbrev pub IsOpened : List ElimLog → ℕ → List ℕ → List ℕ → Type 0
 IsOpened parts n = StandsBefore parts (w.Head 1 ∷ w.Charges n ∷ []) (tree_owed (length parts))

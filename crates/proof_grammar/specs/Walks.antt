@@ -13,7 +13,7 @@ use Rattle.proof_tokens.specs.Reading.{Cuts}
 use Rattle.proof_grammar.specs.Lines.{line_text}
 use Rattle.proof_grammar.specs.Owed.{nodes_owed, last_owed, owes, Pays, Shallow}
 
--- what a rule owes behind its premises, in a text of m parts
+-- what a rule owes after its premises, in a text of m parts
 abbrev pub closing_owed : ℕ → Pick → Bool → List Owed
 closing_owed m p logged = cond logged (o.Gives ∷ []) (last_owed m p)
 
@@ -36,7 +36,7 @@ owed_at m at.Done fs = []
 abbrev pub owed_of : Walk → List Owed
 owed_of walk = owed_at walk.parts walk.place walk.outer
 
--- a line behind the opening of a text
+-- a line after the opening of a text
 abbrev pub IsInner : TextLine → Type 0
 IsInner (w.Head n) = ⊥
 IsInner (w.Parts n) = ⊥
@@ -44,7 +44,7 @@ IsInner (w.Part log) = ⊥
 IsInner (w.Charges n) = ⊥
 IsInner _ = Unit {0}
 
--- a line that pays for what is owed is read, and the walk goes on behind it
+-- a line that pays for what is owed is read, and the walk goes on after it
 pub record Advanced (before after : Walk) (owed : Owed) (bytes behind : List ℕ) : Type 0 where
   pub line : TextLine
   pub pays : Pays Shallow owed line

@@ -25,7 +25,7 @@ pub(crate) fn discard(line: TextLine) {
     let _ = &line;
 }
 
-/// Pays with the line `gives true`, where that is owed first and comes, and gives the text behind it. Elsewhere nothing changes.
+/// Pays with the line `gives true`, where that is owed first and comes, and gives the text after it. Elsewhere nothing changes.
 fn pass_true<'a>(walk: &mut Walk, owed: Owed, text: &'a [u8]) -> Option<&'a [u8]>
     ensures some { IfSome result (λ behind. Advanced walk.old walk.new owed text.now behind.now) }
     ensures none { IfNone result (walk.new ≡ walk.old) }
@@ -38,7 +38,7 @@ fn pass_true<'a>(walk: &mut Walk, owed: Owed, text: &'a [u8]) -> Option<&'a [u8]
     Some(behind)
 }
 
-/// The text behind the line `log` with no entry; none where another line comes.
+/// The text after the line `log` with no entry; none where another line comes.
 fn bare_log(text: &[u8]) -> Option<&[u8]>
     ensures { IfSome result (λ rest. Cuts (log_text []) text.now rest.now) }
 {
@@ -46,7 +46,7 @@ fn bare_log(text: &[u8]) -> Option<&[u8]>
     Some(rest)
 }
 
-/// Pays with the line `log` with no entry, where a log is owed first and that line comes, and gives the text behind it. Elsewhere
+/// Pays with the line `log` with no entry, where a log is owed first and that line comes, and gives the text after it. Elsewhere
 /// nothing changes.
 fn pass_log<'a>(walk: &mut Walk, owed: Owed, text: &'a [u8]) -> Option<&'a [u8]>
     ensures some { IfSome result (λ behind. Advanced walk.old walk.new owed text.now behind.now) }
@@ -61,7 +61,7 @@ fn pass_log<'a>(walk: &mut Walk, owed: Owed, text: &'a [u8]) -> Option<&'a [u8]>
 }
 
 /// Pays with the line of a rule, where a node is owed first on a level that there may be and that line comes, and gives the text
-/// behind it. Elsewhere nothing changes, nor at want of memory.
+/// after it. Elsewhere nothing changes, nor at running out of memory.
 fn pass_row<'a>(walk: &mut Walk, owed: Owed, text: &'a [u8]) -> Result<Option<&'a [u8]>, Memory>
     ensures some { IfOk result (λ r. IfSome r (λ behind. Advanced walk.old walk.new owed text.now behind.now)) }
     ensures none { IfOk result (λ r. IfNone r (walk.new ≡ walk.old)) }
@@ -121,7 +121,7 @@ fn advance_by_line<'a>(
     Ok(behind)
 }
 
-/// Refuses any byte behind a text.
+/// Refuses any byte after a text.
 fn ended(rest: &[u8]) -> Result<(), Fault>
     ensures ok { OnOk result (rest.now ≡ []) }
     ensures err { IfErr result (λ fault. (fault ≡ f.Syntax (length rest.now)) × (rest.now ≡ [] → ⊥)) }
@@ -132,7 +132,7 @@ fn ended(rest: &[u8]) -> Result<(), Fault>
     Err(Fault::Syntax(rest.len()))
 }
 
-/// Reads the lines behind the opening, to the end of the text.
+/// Reads the lines after the opening, to the end of the text.
 fn check_lines(alloc: Global, text: &[u8], inner: &[u8], opening: &Opening) -> Result<(), Fault>
     requires { IsOpened opening.now.parts opening.now.charges text.now inner.now }
     ensures found { OnOk result (HoldsSome text.now opening.now.charges) }
@@ -150,7 +150,7 @@ fn check_lines(alloc: Global, text: &[u8], inner: &[u8], opening: &Opening) -> R
     }
 }
 
-/// Reads the text of a proof: its opening, and the text behind it.
+/// Reads the text of a proof: its opening, and the text after it.
 pub fn check_text(alloc: Global, text: &[u8]) -> Result<(Opening, &[u8]), Fault>
     ensures found { IfOk result (λ x. HoldsSome text.now x.0.charges) }
     ensures opened { IfOk result (λ x. IsOpened x.0.parts x.0.charges text.now x.1.now) }

@@ -1,4 +1,4 @@
-// The text of a proof: its lines, what it still owes behind each of them, and where it is refused.
+// The text of a proof: its lines, what it still owes after each of them, and where it is refused.
 #![tactic(auto)]
 
 mod checking;

@@ -29,20 +29,20 @@ pub enum TextLine {
     EndOf(u32),
 }
 
-/// What a text still owes: a line that has to come. Where a line behind it may use a part, it says how many parts there are.
+/// What a text still owes: a line that has to come. Where a line after it may use a part, it says how many parts there are.
 #[derive(Clone, Copy)]
 pub enum Owed {
     Head,
     /// How many parts there are.
     Parts,
     Part,
-    /// The charges, in a text of so many parts.
+    /// The charges, in a text of this many parts.
     Charges(usize),
-    /// The lines of a node on this level, in a text of so many parts; the root is on level 1.
+    /// The lines of a node on this level, in a text of this many parts; the root is on level 1.
     Node(u32, usize),
-    /// The log of a node, in a text of so many parts.
+    /// The log of a node, in a text of this many parts.
     Log(usize),
     Gives,
-    /// The conclusion, in a text of so many parts.
+    /// The conclusion, in a text of this many parts.
     End(usize),
 }

@@ -23,7 +23,7 @@ pub struct Opening {
     pub charges: u64,
 }
 
-/// The parts of a text of the second format: the line that says how many they are, and a line for each; and the text behind them.
+/// The parts of a text of the second format: the line that says how many they are, and a line for each; and the text after them.
 fn listed_parts<'a>(
     alloc: Global,
     text: &[u8],
@@ -45,7 +45,7 @@ fn listed_parts<'a>(
     Ok((found, rest))
 }
 
-/// The parts of a text of this format, and the text behind them.
+/// The parts of a text of this format, and the text after them.
 fn parts_of<'a>(
     alloc: Global,
     text: &[u8],
@@ -63,7 +63,7 @@ fn parts_of<'a>(
     listed_parts(alloc, text, inner)
 }
 
-/// The opening of a text, and the text behind it.
+/// The opening of a text, and the text after it.
 pub fn read_opening(alloc: Global, text: &[u8]) -> Result<(Opening, &[u8]), Fault>
     ensures amount { IfOk result (λ x. IsCharges x.0.charges) }
     ensures found { IfOk result (λ x. IsOpened x.0.parts x.0.charges text.now x.1.now) }

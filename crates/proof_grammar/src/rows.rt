@@ -24,7 +24,7 @@ pub enum RowWord {
     Close,
 }
 
-/// The word of a rule that comes next, and the text behind it.
+/// The word of a rule that comes next, and the text after it.
 pub fn row_word(text: &[u8]) -> Result<(RowWord, &[u8]), Refusal>
     ensures found { IfOk result (λ x. Cuts (word_token x.0 ∷ []) text.now x.1.now) }
     ensures lacks { IfErr result (RefusesNext IsRowWord text.now) }
@@ -55,7 +55,7 @@ fn placed(word: OneWord, place: u32) -> (Pick, u32)
     }
 }
 
-/// The line that begins a node: its rule and the number of its premises, and the text behind it.
+/// The line that begins a node: its rule and the number of its premises, and the text after it.
 pub fn row(text: &[u8]) -> Result<((Pick, u32), &[u8]), Refusal>
     ensures found { IfOk result (λ x. IsRow x.0 × Cuts (row_line x.0) text.now x.1.now) }
     ensures first { IfErr result (RefusesProof IsRow row_line text.now) }

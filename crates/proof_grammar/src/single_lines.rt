@@ -16,7 +16,7 @@ use proof_tokens::{
 use proof_tree::Conclusion;
 use std::alloc::Global;
 
-/// Whether the word `solution` comes, and not `none`, and the text behind it.
+/// Whether the word `solution` comes, and not `none`, and the text after it.
 fn end_word(text: &[u8]) -> Result<(bool, &[u8]), Refusal>
     ensures found { IfOk result (λ x. Cuts (cond x.0 t.Solution t.Nothing ∷ []) text.now x.1.now) }
     ensures lacks { IfErr result (RefusesNext IsEndWord text.now) }
@@ -67,7 +67,7 @@ pub fn charges_line(text: &[u8]) -> Result<(TextLine, &[u8]), Refusal>
     Ok((TextLine::Charges(amount), rest))
 }
 
-/// The log of a node, in a text of so many parts.
+/// The log of a node, in a text of this many parts.
 pub fn log_line(alloc: Global, text: &[u8], parts: usize) -> Result<(TextLine, &[u8]), Refusal>
     ensures found { IfOk result (λ x. Pays Shallow (o.Log parts) x.0 × Cuts (line_text x.0) text.now x.1.now) }
     ensures first { IfErr result (RefusesProof (Pays Any (o.Log parts)) line_text text.now) }
@@ -89,7 +89,7 @@ pub fn gives_line(alloc: Global, text: &[u8]) -> Result<(TextLine, &[u8]), Refus
     Ok((TextLine::Gives(clauses), rest))
 }
 
-/// The last line of a text of so many parts.
+/// The last line of a text of this many parts.
 pub fn end_line(alloc: Global, text: &[u8], parts: usize) -> Result<(TextLine, &[u8]), Refusal>
     ensures found { IfOk result (λ x. Pays Shallow (o.End parts) x.0 × Cuts (line_text x.0) text.now x.1.now) }
     ensures first { IfErr result (RefusesProof (Pays Any (o.End parts)) line_text text.now) }

@@ -20,9 +20,9 @@ use std::alloc::{AllocError, Global};
 /// Why a text of lines is not read.
 #[derive(Clone, Copy)]
 pub enum Fault {
-    /// The token that so many bytes from the end begin cannot stand there; with 0, a token may be missing.
+    /// The token that this many bytes from the end begin cannot stand there; with 0, a token may be missing.
     Syntax(usize),
-    /// The token that so many bytes from the end begin would open level 2,001.
+    /// The token that this many bytes from the end begin would open level 2,001.
     Deep(usize),
     Memory,
 }
@@ -76,7 +76,7 @@ fn node_line(text: &[u8], level: u32) -> Result<(TextLine, &[u8]), Fault>
     Ok((TextLine::Row(rule, count), rest))
 }
 
-/// The line that pays for what is owed, and the text behind it.
+/// The line that pays for what is owed, and the text after it.
 pub fn line_for(alloc: Global, owed: Owed, text: &[u8]) -> Result<(TextLine, &[u8]), Fault>
     ensures found { IfOk result (λ x. Pays Shallow owed x.0 × Cuts (line_text x.0) text.now x.1.now) }
     ensures first { IfErr result (RefusesLine owed text.now) }

@@ -24,7 +24,7 @@ pub struct Open {
     pub logged: bool,
 }
 
-/// Where a text stands behind its opening: before the tree, in it behind a rule, before the conclusion, or at its end.
+/// Where a text stands after its opening: before the tree, in it after a rule, before the conclusion, or at its end.
 #[derive(Clone, Copy)]
 pub enum Place {
     Root,
@@ -65,7 +65,7 @@ fn eliminates(rule: Pick) -> bool
     }
 }
 
-/// The line that an open rule owes first, in a text of so many parts.
+/// The line that an open rule owes first, in a text of this many parts.
 fn next_of(node: Open, parts: usize) -> Owed
     ensures { (os : List Owed) × (open_owed parts node ≡ result ∷ os) }
 {
@@ -82,7 +82,7 @@ fn next_of(node: Open, parts: usize) -> Owed
 }
 
 impl Walk {
-    /// Behind the opening of a text of so many parts.
+    /// After the opening of a text of this many parts.
     pub fn new(alloc: Global, parts: usize) -> Walk
         ensures owed { owed_of result ≡ tree_owed parts }
         ensures parts { result.parts ≡ parts }
@@ -163,7 +163,7 @@ impl Walk {
         self.place = Place::Done;
     }
 
-    /// The line that is owed first has come. At want of memory nothing changes.
+    /// The line that is owed first has come. At running out of memory nothing changes.
     pub fn pay(&mut self, owed: Owed, line: &TextLine) -> Result<(), Memory>
         requires { Pays Shallow owed line.now }
         ensures ok { OnOk result ((os : List Owed) → owed_of self.old ≡ owed ∷ os → owed_of self.new ≡ owes owed line.now ++ os) }

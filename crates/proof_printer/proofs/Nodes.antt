@@ -84,7 +84,7 @@ pub on_ok : {A E : Type 0} (r : Result A E) (P Q : Type 0) → (P → Q) → OnO
 on_ok (Ok a) P Q f p = f p
 on_ok (Err e) P Q f p = tt
 
--- the lines behind the premises where the rule eliminates
+-- the lines after the premises where the rule eliminates
 pub logged_ends : (ps : List (List ℕ)) (p : Pick) (es : List Entry) (d : List (List Literal)) (old mid out : List ℕ) → eliminates p ≡ true → mid ≡ old ++ spelled (line_text (short_line ps (w.Log (record { entries = es })))) → out ≡ mid ++ spelled (gives_text d)
     → out ≡ old ++ short_bytes ps (last_lines p es d)
 logged_ends ps p es d old mid out h e q =

@@ -10,7 +10,7 @@ use Rattle.proof_printer.proofs.Shortening.{text_same}
 abbrev Before : List ℕ → List ℕ → List (List ℕ) → Type 0
 Before j k ks = place j ks < place k ks
 
--- places behind one text more, by whether it is the one or the other
+-- places after one text more, by whether it is the one or the other
 abbrev Later : Bool → Bool → ℕ → ℕ → Type 0
 Later a b m n = cond (not a) (1 + m) 0 < cond (not b) (1 + n) 0
 
@@ -40,7 +40,7 @@ put_later j k t (i ∷ ks) js c h = later_map (is_text j i) (is_text k i) (place
     by n (inl e) = inl e
     by n (inr e) = one n (first_or (is_text t i) (is_among t ks) e)
 
--- so does one put behind it, where it is not there
+-- so does one put after it, where it is not there
 put_with : (b : Bool) (j k t : List ℕ) (ks js : List (List ℕ)) → is_among t ks ≡ b → Before j k ((if b then ks else ks ++ t ∷ []) ++ js) → Before j k (ks ++ t ∷ js)
 put_with true j k t ks js e h = put_later j k t ks js (inr e) h
 put_with false j k t ks js e h = subst (Before j k) (append_assoc ks (t ∷ []) js) h
@@ -53,7 +53,7 @@ before_more : (j k : List ℕ) (ks js : List (List ℕ)) → Before j k ks → B
 before_more j k [] js h = absurd (omega (arith, h))
 before_more j k (i ∷ ks) js h = later_map (is_text j i) (is_text k i) (place j ks) (place k ks) (place j (ks ++ js)) (place k (ks ++ js)) (λ n. before_more j k ks js) h
 
--- where there are so many, no more are picked
+-- where there are this many, no more are picked
 picked_full : (others : List (List ℕ)) (most : ℕ) (found ts : List (List ℕ)) → nat_lt (length found) most ≡ false → picked others most found ts ≡ found
 picked_full others most found [] e = refl
 picked_full others most found (t ∷ ts) e = ap (λ b. picked others most (cond (b && is_among t others) (with_text t found) found) ts) e ∙ picked_full others most found ts e

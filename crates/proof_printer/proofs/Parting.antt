@@ -10,7 +10,7 @@ use Rattle.proof_printer.proofs.Tallying.{picked_most}
 abbrev pub Among : List ℕ → List (List ℕ) → Type 0
 Among k ks = is_among k ks ≡ true
 
--- a text among others: the first, or one behind it
+-- a text among others: the first, or one after it
 pub first_or : (b c : Bool) → (b || c) ≡ true → (b ≡ true) ⊎ (c ≡ true)
 first_or true c h = inl refl
 first_or false c h = inr h
@@ -212,7 +212,7 @@ pick_now true true t found e h = with_there t found
 pick_now true false t found e h = absurd (cc)
 pick_now false c t found e h = absurd (cc)
 
--- a text that is among both is picked, unless there are so many
+-- a text that is among both is picked, unless there are this many
 picked_or_full : (k : List ℕ) (others : List (List ℕ)) (most : ℕ) (found ts : List (List ℕ)) → Among k others → Among k ts → Among k (picked others most found ts) ⊎ (most ≤ length (picked others most found ts))
 picked_or_full k others most found [] h i = absurd (cc)
 picked_or_full k others most found (t ∷ ts) h i =

@@ -15,11 +15,11 @@ use Rattle.proof_constraint.specs.Text.{behind, sign_text, factor_text, pair_tex
 use Rattle.proof_constraint.proofs.Said.{ArePairs}
 use Rattle.proof_constraint.proofs.Normals.{normal_pairs}
 
--- tokens that are spaced before whatever may stand behind a word
+-- tokens that are spaced before whatever may stand after a word
 abbrev IsSpacedBefore : List Token → Type 0
 IsSpacedBefore xs = (rest : List Token) → NextIsSign rest → AreSpaced rest → AreSpaced (xs ++ rest)
 
--- and that may stand behind a word
+-- and that may stand after a word
 record IsPart (xs : List Token) : Type 0 where
   begins : (rest : List Token) → NextIsSign rest → NextIsSign (xs ++ rest)
   spaced : IsSpacedBefore xs
@@ -27,7 +27,7 @@ record IsPart (xs : List Token) : Type 0 where
 none_part : IsPart []
 none_part = record { begins = λ rest s. s; spaced = λ rest s a. a }
 
--- parts one behind another
+-- parts one after another
 joined_parts : (xs ys : List Token) → IsPart xs → IsPart ys → IsPart (xs ++ ys)
 joined_parts xs ys p q = record {
   begins = λ rest s. subst NextIsSign (sym (append_assoc xs ys rest)) (p.begins (ys ++ rest) (q.begins rest s));

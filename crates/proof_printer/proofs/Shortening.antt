@@ -161,7 +161,7 @@ parts_expanded : (logs : List (List Entry)) (ks : List (List ℕ)) (ps : List El
 parts_expanded logs [] ps ls = ap (λ z. expanded z ls) (sym (append-nil ps))
 parts_expanded logs (k ∷ ks) ps ls = parts_expanded logs ks (ps ++ log_of logs k ∷ []) ls ∙ ap (λ z. expanded z ls) (append_assoc ps (log_of logs k ∷ []) (map (log_of logs) ks))
 
--- Behind the opening.
+-- After the opening.
 
 abbrev with_parts : ℕ → Owed → Owed
 with_parts m (o.Charges k) = o.Charges m

@@ -55,7 +55,7 @@ pub record Tallied (seen again : List (List ℕ)) (ls : List TextLine) (seen2 ag
 pub tallied_none : (seen again : List (List ℕ)) → Tallied seen again [] seen again
 tallied_none seen again = record { seen_is = refl; again_is = refl }
 
--- lines behind lines
+-- lines after lines
 pub tallied_append : (seen again : List (List ℕ)) (ls : List TextLine) (seen2 again2 : List (List ℕ)) (ms : List TextLine) (seen3 again3 : List (List ℕ)) → Tallied seen again ls seen2 again2 → Tallied seen2 again2 ms seen3 again3 → Tallied seen again (ls ++ ms) seen3 again3
 tallied_append seen again ls seen2 again2 ms seen3 again3 p q = record {
   seen_is = q.seen_is ∙ ap (λ z. seen_in z (keys ms)) p.seen_is ∙ sym (seen_append seen (keys ls) (keys ms)) ∙ ap (seen_in seen) (sym (keys_append ls ms));
@@ -66,7 +66,7 @@ tallied_append seen again ls seen2 again2 ms seen3 again3 p q = record {
 pub tallied_as : (seen again : List (List ℕ)) (ls ms : List TextLine) (seen2 again2 : List (List ℕ)) → ls ≡ ms → Tallied seen again ls seen2 again2 → Tallied seen again ms seen2 again2
 tallied_as seen again ls ms seen2 again2 e p = subst (λ z. Tallied seen again z seen2 again2) e p
 
--- The lines behind the premises.
+-- The lines after the premises.
 
 pub last_logged : (p : Pick) (es : List Entry) (d : List (List Literal)) → eliminates p ≡ true → keys (last_lines p es d) ≡ map key (long_log es)
 last_logged p es d h = ap (λ b. keys (cond b (w.Log (record { entries = es }) ∷ w.Gives d ∷ []) (w.Gives d ∷ []))) h ∙ ap (map key) (append-nil (long_log es))
@@ -122,7 +122,7 @@ picked_step true true t found most e h = length_with (is_among t found) t found 
 picked_step true false t found most e h = h
 picked_step false c t found most e h = h
 
--- there are so many at most
+-- there are this many at most
 pub picked_most : (others : List (List ℕ)) (most : ℕ) (found ts : List (List ℕ)) → length found ≤ most → length (picked others most found ts) ≤ most
 picked_most others most found [] h = h
 picked_most others most found (t ∷ ts) h = picked_most others most (cond (nat_lt (length found) most && is_among t others) (with_text t found) found) ts (picked_step (nat_lt (length found) most) (is_among t others) t found most refl h)

@@ -39,7 +39,7 @@ zero_by (p ∷ ps) k h e = ap (λ z. constant_text (p ∷ ps) z) e
 pub sum_alone : (s : Linear) (old mid out : List ℕ) → length s.pairs ≡ 0 → mid ≡ old ++ spelled (pairs_text true s.pairs) → out ≡ mid ++ spelled (number_text true s.constant) → out ≡ old ++ spelled (sum_text s)
 sum_alone s old mid out h e q = sum_by s.pairs s.constant (number_text true s.constant) old out (alone_by s.pairs s.constant h) (q ∙ ap (λ z. z ++ spelled (number_text true s.constant)) e)
 
--- a constant behind monomials
+-- a constant after monomials
 pub sum_more : (s : Linear) (old mid out : List ℕ) → length s.pairs ≢ 0 → int_eq s.constant (pos 0) ≡ false → mid ≡ old ++ spelled (pairs_text true s.pairs) → out ≡ mid ++ spelled (number_text false s.constant) → out ≡ old ++ spelled (sum_text s)
 sum_more s old mid out h k e q = sum_by s.pairs s.constant (number_text false s.constant) old out (more_by s.pairs s.constant h k) (q ∙ ap (λ z. z ++ spelled (number_text false s.constant)) e)
 

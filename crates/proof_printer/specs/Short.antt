@@ -12,7 +12,7 @@ use Rattle.proof_grammar.specs.declared.lines.TextLine.TheVariants as w
 use Rattle.proof_grammar.specs.Lines.{lines, tokens_of}
 use Rattle.base_texts.specs.Texts.{is_among, is_text, picked, with_text}
 
--- a log as its line has it behind the word: its entries, and the end of the line
+-- a log as its line has it after the word: its entries, and the end of the line
 abbrev pub key : List Entry → List ℕ
 key es = spelled (entries_text es)
 
@@ -85,7 +85,7 @@ short_line parts l = l
 abbrev pub short_lines_of : List (List ℕ) → List TextLine → List TextLine
 short_lines_of parts ls = map (short_line parts) ls
 
--- the lines behind the charges in the first format
+-- the lines after the charges in the first format
 abbrev pub plain_lines : Proof → Conclusion → List TextLine
 plain_lines x c = lines x ++ w.End c ∷ []
 

@@ -12,7 +12,7 @@ use proof_tokens::put_number;
 use sqlite_items::Items;
 use std::alloc::Global;
 
-/// Puts the sign before a part of a sum behind a text.
+/// Puts the sign before a part of a sum after a text.
 fn put_sign(first: bool, minus: bool, out: &mut Vec<u8>) -> Result<(), Memory>
     ensures { OnOk result (out.new.items ≡ out.old.items ++ spelled (sign_text first minus)) }
 {
@@ -26,7 +26,7 @@ fn put_sign(first: bool, minus: bool, out: &mut Vec<u8>) -> Result<(), Memory>
     Ok(())
 }
 
-/// Puts a name with its coefficient behind a text.
+/// Puts a name with its coefficient after a text.
 fn put_pair(alloc: Global, first: bool, pair: (u32, i128), out: &mut Vec<u8>) -> Result<(), Memory>
     ensures { OnOk result (out.new.items ≡ out.old.items ++ spelled (pair_text first pair)) }
 {
@@ -39,7 +39,7 @@ fn put_pair(alloc: Global, first: bool, pair: (u32, i128), out: &mut Vec<u8>) ->
     put_number(alloc, b"c", u128::from(pair.0), out)
 }
 
-/// Puts a constant behind a text.
+/// Puts a constant after a text.
 fn put_constant(alloc: Global, first: bool, k: i128, out: &mut Vec<u8>) -> Result<(), Memory>
     ensures { OnOk result (out.new.items ≡ out.old.items ++ spelled (number_text first k)) }
 {
@@ -47,7 +47,7 @@ fn put_constant(alloc: Global, first: bool, k: i128, out: &mut Vec<u8>) -> Resul
     put_number(alloc, b"", k.unsigned_abs(), out)
 }
 
-/// Puts names with their coefficients behind a text.
+/// Puts names with their coefficients after a text.
 fn put_pairs(alloc: Global, pairs: &[(u32, i128)], out: &mut Vec<u8>) -> Result<(), Memory>
     ensures { OnOk result (out.new.items ≡ out.old.items ++ spelled (pairs_text true pairs.now)) }
 {
@@ -59,7 +59,7 @@ fn put_pairs(alloc: Global, pairs: &[(u32, i128)], out: &mut Vec<u8>) -> Result<
     Ok(())
 }
 
-/// Puts a linear term behind a text.
+/// Puts a linear term after a text.
 #[tactic(auto, using(crate::proofs::Written::sum_alone, crate::proofs::Written::sum_more, crate::proofs::Written::sum_zero))]
 fn put_sum(alloc: Global, sum: &Term, out: &mut Vec<u8>) -> Result<(), Memory>
     ensures { OnOk result (out.new.items ≡ out.old.items ++ spelled (sum_text sum.now)) }
@@ -74,7 +74,7 @@ fn put_sum(alloc: Global, sum: &Term, out: &mut Vec<u8>) -> Result<(), Memory>
     Ok(())
 }
 
-/// Puts an equation behind a text.
+/// Puts an equation after a text.
 #[tactic(auto, using(crate::proofs::Written::equation_written))]
 fn put_equation(alloc: Global, sum: &Term, out: &mut Vec<u8>) -> Result<(), Memory>
     ensures { OnOk result (out.new.items ≡ out.old.items ++ spelled (literal_text (l.Eq sum.now))) }
@@ -84,7 +84,7 @@ fn put_equation(alloc: Global, sum: &Term, out: &mut Vec<u8>) -> Result<(), Memo
     Ok(())
 }
 
-/// Puts a bound behind a text.
+/// Puts a bound after a text.
 #[tactic(auto, using(crate::proofs::Written::bound_written))]
 fn put_bound(alloc: Global, sum: &Term, out: &mut Vec<u8>) -> Result<(), Memory>
     ensures { OnOk result (out.new.items ≡ out.old.items ++ spelled (literal_text (l.Geq sum.now))) }
@@ -94,7 +94,7 @@ fn put_bound(alloc: Global, sum: &Term, out: &mut Vec<u8>) -> Result<(), Memory>
     Ok(())
 }
 
-/// The word behind a divisor.
+/// The word after a divisor.
 fn divisor_word(negated: bool) -> &'static [u8]
     ensures { result.now ≡ cond negated (codes " notdivides") (codes " divides") }
 {
@@ -105,7 +105,7 @@ fn divisor_word(negated: bool) -> &'static [u8]
     }
 }
 
-/// Puts a divisor and its word behind a text.
+/// Puts a divisor and its word after a text.
 #[tactic(auto, using(crate::proofs::Written::divisor_written))]
 fn put_divisor(alloc: Global, size: i128, negated: bool, out: &mut Vec<u8>) -> Result<(), Memory>
     ensures { OnOk result (out.new.items ≡ out.old.items ++ spelled (divisor_text (Some (record { size = size; negated = negated })))) }
@@ -115,7 +115,7 @@ fn put_divisor(alloc: Global, size: i128, negated: bool, out: &mut Vec<u8>) -> R
     Ok(())
 }
 
-/// Puts a divisibility behind a text.
+/// Puts a divisibility after a text.
 #[tactic(auto, using(crate::proofs::Written::div_written))]
 fn put_div(alloc: Global, size: i128, sum: &Term, out: &mut Vec<u8>) -> Result<(), Memory>
     ensures { OnOk result (out.new.items ≡ out.old.items ++ spelled (literal_text (l.Div size sum.now))) }
@@ -124,7 +124,7 @@ fn put_div(alloc: Global, size: i128, sum: &Term, out: &mut Vec<u8>) -> Result<(
     put_sum(alloc, sum, out)
 }
 
-/// Puts the negation of a divisibility behind a text.
+/// Puts the negation of a divisibility after a text.
 #[tactic(auto, using(crate::proofs::Written::ndiv_written))]
 fn put_ndiv(alloc: Global, size: i128, sum: &Term, out: &mut Vec<u8>) -> Result<(), Memory>
     ensures { OnOk result (out.new.items ≡ out.old.items ++ spelled (literal_text (l.NDiv size sum.now))) }
@@ -133,7 +133,7 @@ fn put_ndiv(alloc: Global, size: i128, sum: &Term, out: &mut Vec<u8>) -> Result<
     put_sum(alloc, sum, out)
 }
 
-/// Puts a literal behind a text.
+/// Puts a literal after a text.
 fn put_literal(alloc: Global, literal: &Literal, out: &mut Vec<u8>) -> Result<(), Memory>
     ensures { OnOk result (out.new.items ≡ out.old.items ++ spelled (literal_text literal.now)) }
 {
@@ -145,7 +145,7 @@ fn put_literal(alloc: Global, literal: &Literal, out: &mut Vec<u8>) -> Result<()
     }
 }
 
-/// Puts literals, each behind ` &`, behind a text.
+/// Puts literals, each after ` &`, after a text.
 fn put_later_literals(alloc: Global, literals: &[Literal], out: &mut Vec<u8>) -> Result<(), Memory>
     ensures { OnOk result (out.new.items ≡ out.old.items ++ spelled (behind literal_text t.And literals.now)) }
 {
@@ -156,7 +156,7 @@ fn put_later_literals(alloc: Global, literals: &[Literal], out: &mut Vec<u8>) ->
     Ok(())
 }
 
-/// Puts a conjunction behind a text.
+/// Puts a conjunction after a text.
 #[tactic(auto, using(crate::proofs::Written::clause_whole))]
 fn put_clause(alloc: Global, literals: &[Literal], out: &mut Vec<u8>) -> Result<(), Memory>
     ensures { OnOk result (out.new.items ≡ out.old.items ++ spelled (clause_text literals.now)) }
@@ -169,7 +169,7 @@ fn put_clause(alloc: Global, literals: &[Literal], out: &mut Vec<u8>) -> Result<
     put_later_literals(alloc, more, out)
 }
 
-/// Puts conjunctions, each behind ` |`, behind a text.
+/// Puts conjunctions, each after ` |`, after a text.
 fn put_later_clauses(
     alloc: Global,
     clauses: &[Items<Literal>],
@@ -184,7 +184,7 @@ fn put_later_clauses(
     Ok(())
 }
 
-/// Puts a disjunction of conjunctions behind a text.
+/// Puts a disjunction of conjunctions after a text.
 #[tactic(auto, using(crate::proofs::Written::dnf_whole))]
 fn put_clauses(alloc: Global, clauses: &[Items<Literal>], out: &mut Vec<u8>) -> Result<(), Memory>
     ensures { OnOk result (out.new.items ≡ out.old.items ++ spelled (dnf_text clauses.now)) }

@@ -11,7 +11,7 @@ ghost use Rattle.proof_grammar.specs.declared.lines.TextLine.{TextLine};
 ghost use Rattle.proof_grammar.specs.Lines.{proof_text};
 ghost use Rattle.proof_grammar.specs.Shaped.{IsTextOfProof, IsWritable};
 
-/// The tokens of a proof that a text can hold, written one behind another, are read as that proof.
+/// The tokens of a proof that a text can hold, written one after another, are read as that proof.
 pub fn text_law()
     ensures { (n : ℕ) (x : Proof) (c : Conclusion) → IsWritable n x c → IsTypedProof x → IsTypedConclusion c → IsTextOfProof (spelled (proof_text n x c)) n x c }
 {}

@@ -55,7 +55,7 @@ pub(crate) fn write_row(
     }
 }
 
-/// Puts an integer behind a text.
+/// Puts an integer after a text.
 fn put_value(alloc: Global, value: i128, out: &mut Vec<u8>) -> Result<(), Memory>
     ensures { OnOk result (out.new.items ≡ out.old.items ++ spelled (value_text value)) }
 {
@@ -67,7 +67,7 @@ fn put_value(alloc: Global, value: i128, out: &mut Vec<u8>) -> Result<(), Memory
     put_number(alloc, sign, value.unsigned_abs(), out)
 }
 
-/// Puts integers, each behind a blank, and the end of the line behind a text.
+/// Puts integers, each after a blank, and the end of the line after a text.
 #[tactic(auto, using(crate::proofs::Parts::value_behind))]
 fn put_values(alloc: Global, values: &[i128], out: &mut Vec<u8>) -> Result<(), Memory>
     ensures { OnOk result (out.new.items ≡ out.old.items ++ spelled (values_text values.now)) }

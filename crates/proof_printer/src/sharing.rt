@@ -26,7 +26,7 @@ pub struct Tally {
     pub again: Texts,
 }
 
-/// A log as its line has it behind the word.
+/// A log as its line has it after the word.
 fn written(alloc: Global, entries: &[Entry]) -> Result<Vec<u8>, Memory>
     ensures { IfOk result (λ text. text.items ≡ key entries.now) }
 {
@@ -112,7 +112,7 @@ impl Tally {
         self.note_last(alloc, node.rule, &node.log)
     }
 
-    /// Notes the logs of trees, one behind another.
+    /// Notes the logs of trees, one after another.
     #[cycle(noting)]
     fn note_nodes(&mut self, alloc: Global, nodes: &[Node]) -> Result<(), Memory>
         ensures seen { OnOk result (self.new.seen ≡ seen_in self.old.seen (keys (lines_all (proofs (map proof_of nodes.now))))) }

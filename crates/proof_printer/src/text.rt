@@ -42,7 +42,7 @@ fn write_said_log(
     }
 }
 
-/// Writes the lines of a node behind those of its premises: its log, where the rule eliminates, and its constraint.
+/// Writes the lines of a node after those of its premises: its log, where the rule eliminates, and its constraint.
 #[tactic(auto, using(crate::proofs::Nodes::logged_ends, crate::proofs::Nodes::plain_ends))]
 fn write_ends(
     alloc: Global,
@@ -83,7 +83,7 @@ fn write_node(alloc: Global, parts: &Texts, node: &Node, out: &mut Vec<u8>) -> R
     )
 }
 
-/// Writes the lines of nodes, one behind another.
+/// Writes the lines of nodes, one after another.
 #[cycle(writing)]
 #[tactic(auto, using(crate::proofs::Nodes::node_more))]
 fn write_nodes(
@@ -121,7 +121,7 @@ fn write_end(
     }
 }
 
-/// Writes the text of a proof in the first format behind a text.
+/// Writes the text of a proof in the first format after a text.
 pub fn write_tree(alloc: Global, tree: &Tree, out: &mut Vec<u8>) -> Result<(), Memory>
     requires { IsWritable tree.now.charges (proof_of tree.now.root) tree.now.conclusion }
     ensures text { OnOk result (out.new.items ≡ out.old.items ++ spelled (proof_text tree.now.charges (proof_of tree.now.root) tree.now.conclusion)) }
@@ -135,7 +135,7 @@ pub fn write_tree(alloc: Global, tree: &Tree, out: &mut Vec<u8>) -> Result<(), M
     write_conclusion(alloc, &tree.conclusion, out)
 }
 
-/// Writes the text of a proof in the second format behind a text: each log of two entries and more that stands on two lines at
+/// Writes the text of a proof in the second format after a text: each log of two entries and more that stands on two lines at
 /// least is written once.
 pub fn write_short(alloc: Global, tree: &Tree, out: &mut Vec<u8>) -> Result<(), Memory>
     requires { IsWritable tree.now.charges (proof_of tree.now.root) tree.now.conclusion }

@@ -23,11 +23,11 @@ front_by : {V : Type 0} (IsValue : V → Type 0) (text : V → List Token) → I
 front_by IsValue text apart u v x y i j (inl q) = let a = apart u v q.0 i j q.1 in (a.0, sym (q.2 ∙ ap (λ w. w ++ x) a.1))
 front_by IsValue text apart u v x y i j (inr q) = let a = apart v u q.0 j i q.1 in (sym a.0, q.2 ∙ ap (λ w. w ++ y) a.1)
 
--- the texts of two values, and anything behind them: the values and what is behind are the same
+-- the texts of two values, and anything after them: the values and what is after are the same
 pub front_same : {V : Type 0} (IsValue : V → Type 0) (text : V → List Token) → IsApart IsValue text → (u v : V) (x y : List Token) → IsValue u → IsValue v → text u ++ x ≡ text v ++ y → (u ≡ v) × (x ≡ y)
 front_same IsValue text apart u v x y i j h = front_by IsValue text apart u v x y i j (split (text u) (text v) x y h)
 
--- what a refused text is not: the text of a value, with anything behind it
+-- what a refused text is not: the text of a value, with anything after it
 pub not_whole : {V : Type 0} (IsValue : V → Type 0) (text : V → List Token) → IsApart IsValue text → (bytes : List ℕ) (left : ℕ) (f : IsRefusedAt IsValue text bytes left)
     → (v : V) (u : List Token) → IsValue v → f.first.front ≡ text v ++ u → ⊥
 not_whole IsValue text apart bytes left f v u i h =
@@ -48,7 +48,7 @@ text_by : {V : Type 0} (IsValue : V → Type 0) (text : V → List Token) → Is
 text_by IsValue text apart bytes left f x rest v tail more c i (inl q) = goes_on IsValue text bytes left f x rest v tail more q.0 c i q.1 q.2
 text_by IsValue text apart bytes left f x rest v tail more c i (inr q) = not_whole IsValue text apart bytes left f v q.0 i q.1
 
--- the token where a text is refused stands in no text there, whatever is behind that
+-- the token where a text is refused stands in no text there, whatever is after that
 pub no_text : {V : Type 0} (IsValue : V → Type 0) (text : V → List Token) → IsApart IsValue text → (bytes : List ℕ) (left : ℕ) (f : IsRefusedAt IsValue text bytes left) (x : Token) (rest : List ℕ) (v : V) (tail more : List Token)
     → Cuts (x ∷ []) f.back rest → IsValue v → text v ++ tail ≡ f.first.front ++ x ∷ more → ⊥
 no_text IsValue text apart bytes left f x rest v tail more c i h = text_by IsValue text apart bytes left f x rest v tail more c i (split (text v) f.first.front tail (x ∷ more) h)
@@ -62,7 +62,7 @@ end_by IsValue text apart bytes left f v tail i (inr q) = not_whole IsValue text
 pub no_end : {V : Type 0} (IsValue : V → Type 0) (text : V → List Token) → IsApart IsValue text → (bytes : List ℕ) (left : ℕ) (f : IsRefusedAt IsValue text bytes left) (v : V) (tail : List Token) → IsValue v → text v ++ tail ≡ f.first.front → ⊥
 no_end IsValue text apart bytes left f v tail i h = end_by IsValue text apart bytes left f v tail i (split (text v) f.first.front tail [] (h ∙ sym (append-nil f.first.front)))
 
--- what is refused behind a token is refused as a text that begins with it, where those that do are these
+-- what is refused after a token is refused as a text that begins with it, where those that do are these
 pub refused_case : {V W : Type 0} (IsValue : V → Type 0) (text : V → List Token) (IsOther : W → Type 0) (other : W → List Token) (x : Token) (bytes rest : List ℕ) (fault : Refusal)
     → Cuts (x ∷ []) bytes rest → ((v : V) → IsValue v → (w : W) × IsOther w × (other w ≡ x ∷ text v)) → ((w : W) (tail : List Token) → IsOther w → other w ≡ x ∷ tail → (v : V) × IsValue v × (text v ≡ tail))
     → RefusesProof IsValue text rest fault → RefusesProof IsOther other bytes fault

@@ -53,7 +53,7 @@ spelled_front (x ∷ xs) bytes rest a c =
     ∙ ap (λ z. spelling x ++ z) (spelled_front xs (drop c.0 bytes) rest a.1 c.2)
     ∙ sym (append_assoc (spelling x) (spelled xs) rest)
 
--- tokens behind tokens
+-- tokens after tokens
 pub cut_append : (xs ys : List Token) (bytes back rest : List ℕ) → Cuts xs bytes back → Cuts ys back rest → Cuts (xs ++ ys) bytes rest
 cut_append [] ys bytes back rest p q = subst (λ z. Cuts ys z rest) (sym p) q
 cut_append (x ∷ xs) ys bytes back rest p q = (p.0, p.1, cut_append xs ys (drop p.0 bytes) back rest p.2 q)

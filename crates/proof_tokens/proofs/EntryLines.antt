@@ -10,7 +10,7 @@ use Rattle.proof_tokens.specs.Reading.{Cuts, RefusesProof, RefusesNext}
 use Rattle.proof_tokens.proofs.Cutting.{cut_append}
 use Rattle.proof_tokens.proofs.Refusals.{lacked}
 
--- entries, each behind a blank
+-- entries, each after a blank
 abbrev pub before : List Entry → List Token
 before [] = []
 before (s ∷ es) = t.Blank ∷ t.Step s ∷ before es
@@ -23,7 +23,7 @@ before_more : (es : List Entry) (s : Entry) → before (es ++ s ∷ []) ≡ (bef
 before_more [] s = refl
 before_more (a ∷ es) s = ap (λ z. t.Blank ∷ t.Step a ∷ z) (before_more es s)
 
--- behind some entries of a line stand entries
+-- after some entries of a line stand entries
 behind_is : (us es : List Entry) (tail : List Token) → entries_text us ≡ before es ++ tail → (ws : List Entry) × (entries_text ws ≡ tail)
 behind_is us [] tail q = (us, q)
 behind_is [] (s ∷ es) tail q = absurd (cc)
@@ -45,14 +45,14 @@ not_blank : (ws : List Entry) → entries_text ws ≡ t.Blank ∷ [] → ⊥
 not_blank [] q = cc
 not_blank (s ∷ ws) q = cc
 
--- behind an entry neither a blank nor the end of the line comes
+-- after an entry neither a blank nor the end of the line comes
 pub no_separator : (es : List Entry) (bytes back : List ℕ) (fault : Refusal) → Cuts (before es) bytes back → RefusesNext IsSeparator back fault → RefusesProof AnyEntries entries_text bytes fault
 no_separator es bytes back fault cut lacks = lacked AnyEntries entries_text (before es) bytes back IsSeparator fault cut lacks
     (record { value = es; is_value = tt; more = t.LineFeed ∷ []; parts = before_end es })
     (λ us x more i q. let w = behind_is us es (x ∷ more) q in separates w.0 x more w.1)
     (λ us i q. let w = behind_is us es [] (q ∙ sym (append-nil (before es))) in not_nothing w.0 w.1)
 
--- behind a blank no entry comes
+-- after a blank no entry comes
 pub no_step : (es : List Entry) (bytes blank back : List ℕ) (fault : Refusal) → Cuts (before es) bytes blank → Cuts (t.Blank ∷ []) blank back → RefusesNext IsStep back fault → RefusesProof AnyEntries entries_text bytes fault
 no_step es bytes blank back fault cut is_blank lacks = lacked AnyEntries entries_text (before es ++ t.Blank ∷ []) bytes back IsStep fault
     (cut_append (before es) (t.Blank ∷ []) bytes blank back cut is_blank) lacks

@@ -88,7 +88,7 @@ numeral_by first behind h z = ap is_numeral (digits_more first behind h) ∙ thr
     three : (a b c : Bool) → a ≡ true → b ≡ true → c ≡ true → (a && b && c) ≡ true
     three a b c p q r = rw (p, q, r) refl
 
--- the digits at the front, and what is behind them, are the text
+-- the digits at the front, and what is after them, are the text
 parted : (text : List ℕ) → text ≡ digits_of text ++ behind_digits text
 parted text = sym (take-append-drop (prefix_len is_ascii_digit text) text)
 
@@ -158,7 +158,7 @@ pub merge_front : (i j : ℕ) (text behind rest : List ℕ) → i < 2 ^ 32 → j
 merge_front i j text behind rest small less is d h =
     word_front (t.Step (e.Merge i j)) text rest (small, less) (is ∙ ap (λ z. 109 ∷ z) (d ∙ sym (append_assoc (decimal i) (44 ∷ decimal j) rest))) h
 
--- what is behind a numeral is shorter than the text
+-- what is after a numeral is shorter than the text
 behind_less : (bs : List ℕ) → length (behind_digits bs) ≤ length bs
 behind_less bs = let p = ap length (parted bs) ∙ length-append (digits_of bs) (behind_digits bs) in omega (arith, p)
 

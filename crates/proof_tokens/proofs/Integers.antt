@@ -87,7 +87,7 @@ only_sign false n h = cc
 below_size : (v : ℤ) → int_lt v (pos 0) ≡ true → 1 ≤ unsigned_abs v
 below_size v h = grind (arith, ints)
 
--- no number, or 0, stands behind the `-`
+-- no number, or 0, stands after the `-`
 pub no_digits : (bytes behind : List ℕ) (fault : Refusal) → Cuts (t.Minus ∷ []) bytes behind → RefusesNext (IsNumberIn 1 170141183460469231731687303715884105727) behind fault → RefusesProof InRange value_text bytes fault
 no_digits bytes behind fault cut lacks = lacked InRange value_text (t.Minus ∷ []) bytes behind (IsNumberIn 1 170141183460469231731687303715884105727) fault cut lacks
     (record { value = neg_ℤ (pos 1); is_value = let z : 1 < 2 ^ 127 = omega arith in z; more = t.Number 1 ∷ []; parts = refl })

@@ -1,4 +1,4 @@
--- Lines of items, each behind a blank: what stands before the next token, and where they are refused.
+-- Lines of items, each after a blank: what stands before the next token, and where they are refused.
 use Rattle.std.proofs.Common.{ℕ, ◌≡◌, List, [], ◌∷◌, ◌++◌, refl, sym, ap, subst, ◌∙◌, append_assoc, append-nil}
 use Rattle.std.specs.List.{AllByRecursion}
 use Rattle.proof_tokens.specs.declared.tokens.Token.{Token}
@@ -11,7 +11,7 @@ use Rattle.proof_tokens.proofs.Cutting.{cut_append}
 use Rattle.proof_tokens.proofs.Refusals.{lacked}
 use Rattle.proof_tokens.proofs.Behind.{front_same, no_text, no_end}
 
--- items, each behind a blank
+-- items, each after a blank
 abbrev pub before : {A : Type 0} → (A → List Token) → List A → List Token
 before text [] = []
 before text (a ∷ us) = t.Blank ∷ (text a ++ before text us)
@@ -28,7 +28,7 @@ pub items_more : {A : Type 0} (P : A → Type 0) (xs : List A) (y : A) → AllBy
 items_more P [] y a p = (p, tt)
 items_more P (x ∷ xs) y a p = (a.0, items_more P xs y a.1 p)
 
--- what stands behind some items of a line
+-- what stands after some items of a line
 record Rest {A : Type 0} (IsItem : A → Type 0) (text : A → List Token) (tail : List Token) : Type 0 where
   items : List A
   all : AllByRecursion IsItem items
@@ -43,7 +43,7 @@ behind_is IsItem text apart (u ∷ us) (v ∷ vs) tail p q h =
     let same = front_same IsItem text apart u v (list_text text us) (before text vs ++ tail) p.0 q.0 (inner ∙ append_assoc (text v) (before text vs) tail) in
     behind_is IsItem text apart us vs tail p.1 q.1 same.1
 
--- behind a blank stands an item
+-- after a blank stands an item
 record Item {A : Type 0} (IsItem : A → Type 0) (text : A → List Token) (tail : List Token) : Type 0 where
   item : A
   fits : IsItem item
@@ -54,7 +54,7 @@ item_behind : {A : Type 0} (IsItem : A → Type 0) (text : A → List Token) (us
 item_behind IsItem text [] tail p h = absurd (cc)
 item_behind IsItem text (u ∷ us) tail p h = record { item = u; fits = p.0; more = list_text text us; is = cc }
 
--- behind some items and a blank stands an item
+-- after some items and a blank stands an item
 next_item : {A : Type 0} (IsItem : A → Type 0) (text : A → List Token) → IsApart IsItem text → (us vs : List A) (tail : List Token) → AllByRecursion IsItem us → AllByRecursion IsItem vs
     → list_text text us ≡ (before text vs ++ t.Blank ∷ []) ++ tail → Item IsItem text tail
 next_item IsItem text apart us vs tail p q h =
@@ -69,7 +69,7 @@ not_nothing : {A : Type 0} (text : A → List Token) (us : List A) → list_text
 not_nothing text [] q = cc
 not_nothing text (u ∷ us) q = cc
 
--- behind an item neither a blank nor the end of the line comes
+-- after an item neither a blank nor the end of the line comes
 pub no_separator : {A : Type 0} (IsItem : A → Type 0) (text : A → List Token) → IsApart IsItem text → (us : List A) (bytes back : List ℕ) (fault : Refusal) → AllByRecursion IsItem us
     → Cuts (before text us) bytes back → RefusesNext IsSeparator back fault → RefusesProof (AllByRecursion IsItem) (list_text text) bytes fault
 no_separator IsItem text apart us bytes back fault all cut lacks = lacked (AllByRecursion IsItem) (list_text text) (before text us) bytes back IsSeparator fault cut lacks

@@ -66,7 +66,7 @@ no_entry es bytes rest none cut = lacked IsPart entries_text [] bytes bytes (λ 
 abbrev of_entries : List Entry → SaidLog
 of_entries es = said.Entries (record { entries = es })
 
--- behind the use of a part the line does not end
+-- after the use of a part the line does not end
 pub no_end_of_use : (parts i : ℕ) (bytes rest : List ℕ) (fault : Refusal) → i < parts → Cuts (t.Blank ∷ t.Use i ∷ []) bytes rest → RefusesNext (λ y. y ≡ t.LineFeed) rest fault → RefusesProof (IsSaidLog parts) said_text bytes fault
 no_end_of_use parts i bytes rest fault low cut lacks = lacked (IsSaidLog parts) said_text (t.Blank ∷ t.Use i ∷ []) bytes rest (λ y. y ≡ t.LineFeed) fault cut lacks
     (record { value = said.Part i; is_value = low; more = t.LineFeed ∷ []; parts = refl })

@@ -8,7 +8,7 @@ use Rattle.proof_tokens.specs.declared.reading.Refusal.TheVariants as e
 use Rattle.proof_tokens.specs.Reading.{Cuts, Begins, RefusesProof, RefusesNext}
 use Rattle.proof_tokens.proofs.Cutting.{cut_append}
 
--- none of the tokens that can stand behind some others comes there
+-- none of the tokens that can stand after some others comes there
 pub lacked : {V : Type 0} (IsValue : V → Type 0) (text : V → List Token) (front : List Token) (bytes back : List ℕ) (P : Token → Type 0) (fault : Refusal)
     → Cuts front bytes back → RefusesNext P back fault → Begins IsValue text front
     → ((v : V) (x : Token) (more : List Token) → IsValue v → text v ≡ front ++ x ∷ more → P x)
@@ -26,7 +26,7 @@ lacked IsValue text front bytes back P (e.Syntax left) cut lacks begins next ins
   place = lacks.0;
 }
 
--- what is refused behind a token is refused behind it
+-- what is refused after a token is refused after it
 pub refused_behind : {V : Type 0} (IsValue : V → Type 0) (text : V → List Token) (x : Token) (bytes rest : List ℕ) (fault : Refusal)
     → Cuts (x ∷ []) bytes rest → RefusesProof IsValue text rest fault → RefusesProof IsValue (λ v. x ∷ text v) bytes fault
 refused_behind IsValue text x bytes rest e.Memory cut r = tt

@@ -1,4 +1,4 @@
--- Spellings of tokens one behind another are cut into these tokens.
+-- Spellings of tokens one after another are cut into these tokens.
 use Rattle.std.proofs.Common.{ℕ, ◌≡◌, ◌<◌, ◌+◌, ◌^◌, ◌==◌, ◌&&◌, ◌||◌, not, Bool, true, false, List, [], ◌∷◌, ◌++◌, length, take, drop, Some, if◌then◌else◌, refl, sym, ap, subst, ◌∙◌, append_assoc, arith}
 use Rattle.std.specs.Prelude.{slice_index, codes, cond}
 use Rattle.std.specs.List.{prefix_len, list_all, list_any}
@@ -37,7 +37,7 @@ pub drop_all : (bs rest : List ℕ) → drop (length bs) (bs ++ rest) ≡ rest
 drop_all [] rest = refl
 drop_all (b ∷ bs) rest = drop_all bs rest
 
--- what may stand directly behind a word
+-- what may stand directly after a word
 abbrev pub EndsWord : List ℕ → Type 0
 EndsWord [] = Unit {0}
 EndsWord (b ∷ bs) = (is_word_byte b ≡ false) × ((b == 44) ≡ false)
@@ -83,7 +83,7 @@ piece_by : (b : ℕ) (text : List ℕ) (n : ℕ) → is_word_byte b ≡ true →
 piece_by b text n h e = ap (λ v. Some (if v then piece (word_len (b ∷ text)) (b ∷ text) else (if b == 62 && slice_index text 0 == 61 then record { token = t.AtLeast; len = 2 } else record { token = Rattle.proof_tokens.specs.Words.sign_of b; len = 1 }))) h
     ∙ ap (λ k. Some (piece k (b ∷ text))) e
 
--- the bytes are those of the token, before any bytes that may stand behind it
+-- the bytes are those of the token, before any bytes that may stand after it
 abbrev Back : List ℕ → Token → List ℕ → Type 0
 Back w x rest = first_piece_of (w ++ rest) ≡ Some (record { token = x; len = length w })
 
@@ -197,7 +197,7 @@ entry_back e.OneSided rest f h = word_back (codes "o") rest (t.Step e.OneSided) 
 entry_back e.Exact rest f h = word_back (codes "x") rest (t.Step e.Exact) (omega arith) refl refl refl h
 entry_back e.Dark rest f h = word_back (codes "d") rest (t.Step e.Dark) (omega arith) refl refl refl h
 
--- what has to stand behind a token
+-- what has to stand after a token
 abbrev pub Follows : Token → List ℕ → Type 0
 Follows x rest = is_sign x ≡ false → EndsWord rest
 

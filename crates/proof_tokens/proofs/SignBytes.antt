@@ -32,7 +32,7 @@ neither_sign b bytes behind p n m = (refl, none)
     none t.LineFeed rest cut is = other_first b 10 bytes behind rest p m refl (feed_first bytes rest cut)
     none _ rest cut is = absurd is
 
--- no use of a part comes behind one byte
+-- no use of a part comes after one byte
 pub no_use : (parts : ℕ) (bytes : List ℕ) → (slice_index bytes 1 == 117) ≡ false → HasNoUse parts bytes
 no_use parts bytes n i rest small cut =
     let h = spelled_front (t.Blank ∷ t.Use i ∷ []) bytes rest ((λ h. absurd (cc)), ((λ h. absurd (cc)), tt)) cut in

@@ -19,7 +19,7 @@ next_behind : (xs ys : List Token) → NextIsSign xs → NextIsSign (xs ++ ys)
 next_behind [] ys h = absurd h
 next_behind (x ∷ xs) ys h = h
 
--- spaced tokens behind others
+-- spaced tokens after others
 pub spaced_append : (xs ys : List Token) → AreSpaced xs → AreSpaced ys → AreSpaced (xs ++ ys)
 spaced_append [] ys a b = b
 spaced_append (x ∷ xs) ys a b = (a.0, λ h. next_behind xs ys (a.1 h), spaced_append xs ys a.2 b)

@@ -1,4 +1,4 @@
--- Where no number, name or word is seen at the front of a text, none stands there with the end of a word behind it.
+-- Where no number, name or word is seen at the front of a text, none stands there with the end of a word after it.
 use Rattle.std.proofs.Common.{ℕ, ◌≡◌, ◌≤◌, ◌<◌, ◌^◌, ◌==◌, ◌&&◌, ◌||◌, not, Bool, true, false, List, [], ◌∷◌, ◌++◌, length, take, drop, refl, sym, ap, subst, ◌∙◌, append-nil, arith}
 use Rattle.std.specs.Prelude.{codes, slice_index}
 use Rattle.std.specs.List.{list_all}
@@ -74,12 +74,12 @@ digits_end (b ∷ bs) h = other (is_ascii_alphabetic b) (is_ascii_digit b) (b ==
 pub ended_none : (text : List ℕ) → HasNoNumber ends_digits text → HasNoNumber ends_word text
 ended_none text none n rest small h e = none n rest small (digits_end rest h) e
 
--- no word ends behind the digits
+-- no word ends after the digits
 pub goes_on_there : (text rest : List ℕ) → rest ≡ behind_digits text → ends_word rest ≡ false → HasNoNumber ends_word text
 goes_on_there text rest is inside n other small h e =
     let same : rest ≡ other = is ∙ (digits_are n text other small (digits_end other h) e).1 in let f : ends_word other ≡ false = subst (λ z. ends_word z ≡ false) same inside in absurd (cc)
 
--- a text is a front and what is behind it exactly where `rest` is `left` and that
+-- a text is a front and what is after it exactly where `rest` is `left` and that
 pub record IsLeft (text front rest left : List ℕ) : Type 0 where
   pub into : (more : List ℕ) → text ≡ front ++ more → rest ≡ left ++ more
   pub back : (more : List ℕ) → rest ≡ left ++ more → text ≡ front ++ more

@@ -1,4 +1,4 @@
--- Texts with a line behind them.
+-- Texts with a line after them.
 use Rattle.std.proofs.Common.{ℕ, ◌≡◌, List, [], ◌∷◌, ◌++◌, ap, ◌∙◌, append_assoc}
 
 pub numbered : (old label digits text : List ℕ) → text ≡ (old ++ (label ++ digits)) ++ 10 ∷ [] → text ≡ old ++ (label ++ (digits ++ 10 ∷ []))

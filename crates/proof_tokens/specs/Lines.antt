@@ -34,11 +34,11 @@ LiesBetween least most n = (least ≤ n) × (n ≤ most)
 abbrev pub IsFormat : ℕ → Type 0
 IsFormat = LiesBetween 1 2
 
--- a proof is for at most so many charges
+-- a proof is for at most this many charges
 abbrev pub IsCharges : ℕ → Type 0
 IsCharges = LiesBetween 0 most_budget
 
--- entries of a log, each behind a blank, to the end of the line
+-- entries of a log, each after a blank, to the end of the line
 abbrev pub entries_text : List Entry → List Token
 entries_text [] = t.LineFeed ∷ []
 entries_text (s ∷ es) = t.Blank ∷ t.Step s ∷ entries_text es
@@ -64,17 +64,17 @@ IsPart (s ∷ es) = Unit {0}
 abbrev pub use_text : ℕ → List Token
 use_text i = t.Blank ∷ t.Use i ∷ t.LineFeed ∷ []
 
--- what stands behind the word of a line with a log
+-- what stands after the word of a line with a log
 abbrev pub said_text : SaidLog → List Token
 said_text (said.Entries log) = entries_text log.entries
 said_text (said.Part i) = use_text i
 
--- a text of so many parts can say it
+-- a text of this many parts can say it
 abbrev pub IsSaidLog : ℕ → SaidLog → Type 0
 IsSaidLog parts (said.Entries log) = Unit {0}
 IsSaidLog parts (said.Part i) = i < parts
 
--- no part of so many is used there
+-- no part of this many is used there
 abbrev pub HasNoUse : ℕ → List ℕ → Type 0
 HasNoUse parts bytes = (i : ℕ) (rest : List ℕ) → i < parts → Cuts (t.Blank ∷ t.Use i ∷ []) bytes rest → ⊥
 
@@ -102,7 +102,7 @@ abbrev pub IsStep : Token → Type 0
 IsStep (t.Step s) = Unit {0}
 IsStep _ = ⊥
 
--- the token stands behind an item of a line: a blank before the next one, or the line's end
+-- the token stands after an item of a line: a blank before the next one, or the line's end
 abbrev pub IsSeparator : Token → Type 0
 IsSeparator t.Blank = Unit {0}
 IsSeparator t.LineFeed = Unit {0}
@@ -127,7 +127,7 @@ start_size (Some n) = n
 abbrev pub value_text : ℤ → List Token
 value_text v = cond (int_lt v (pos 0)) (t.Minus ∷ t.Number (unsigned_abs v) ∷ []) (t.Number (unsigned_abs v) ∷ [])
 
--- the texts of a list, each behind a blank, to the end of the line
+-- the texts of a list, each after a blank, to the end of the line
 abbrev pub list_text : {A : Type 0} → (A → List Token) → List A → List Token
 list_text text [] = t.LineFeed ∷ []
 list_text text (a ∷ more) = t.Blank ∷ (text a ++ list_text text more)

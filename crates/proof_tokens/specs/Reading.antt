@@ -5,7 +5,7 @@ use Rattle.proof_tokens.specs.declared.reading.Refusal.{Refusal}
 use Rattle.proof_tokens.specs.declared.reading.Refusal.TheVariants as e
 use Rattle.proof_tokens.specs.Scanning.{ends_word, first_piece_of}
 
--- the bytes begin with these tokens, and the rest stands behind them
+-- the bytes begin with these tokens, and the rest stands after them
 abbrev pub Cuts : List Token → List ℕ → List ℕ → Type 0
 Cuts [] bytes rest = bytes ≡ rest
 Cuts (x ∷ xs) bytes rest = (n : ℕ) × (first_piece_of bytes ≡ Some (record { token = x; len = n })) × Cuts xs (drop n bytes) rest
@@ -25,7 +25,7 @@ pub record IsFirstProofRefusal {V : Type 0} (IsValue : V → Type 0) (text : V �
   pub begins : Begins IsValue text front
   pub none : (x : Token) (rest : List ℕ) → Cuts (x ∷ []) back rest → Begins IsValue text (front ++ x ∷ []) → ⊥
 
--- the bytes are refused with so many left, inside a text
+-- the bytes are refused with this many left, inside a text
 pub record IsRefusedAt {V : Type 0} (IsValue : V → Type 0) (text : V → List Token) (bytes : List ℕ) (left : ℕ) : Type 0 where
   pub back : List ℕ
   pub first : IsFirstProofRefusal IsValue text bytes back
@@ -46,6 +46,6 @@ RefusesNext P bytes e.Memory = ⊥
 abbrev pub IsApart : {V : Type 0} → (V → Type 0) → (V → List Token) → Type 0
 IsApart {V} IsValue text = (u v : V) (more : List Token) → IsValue u → IsValue v → text u ≡ text v ++ more → (u ≡ v) × (more ≡ [])
 
--- none of these tokens comes with the end of a word behind it
+-- none of these tokens comes with the end of a word after it
 abbrev pub HasNoneEnded : (Token → Type 0) → List ℕ → Type 0
 HasNoneEnded P bytes = (x : Token) (rest : List ℕ) → Cuts (x ∷ []) bytes rest → ends_word rest ≡ true → P x → ⊥

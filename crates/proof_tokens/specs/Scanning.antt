@@ -17,13 +17,13 @@ abbrev pub is_merge : List ℕ → Bool
 is_merge [] = false
 is_merge (b ∷ bs) = b == 109 && (not (is_empty bs) && list_all is_ascii_digit bs)
 
--- what is behind a word belongs to its token: a `-` behind `princess`, a `,` before a digit behind `m` and digits
+-- what is after a word belongs to its token: a `-` after `princess`, a `,` before a digit after `m` and digits
 abbrev pub joins : List ℕ → List ℕ → Bool
 joins word rest =
     if slice_index rest 0 == 45 then bytes_eq word (codes "princess") else
     slice_index rest 0 == 44 && (is_ascii_digit (slice_index rest 1) && is_merge word)
 
--- a word goes as far as its letters and digits do, and goes on once where it joins what is behind it
+-- a word goes as far as its letters and digits do, and goes on once where it joins what is after it
 abbrev pub word_len : List ℕ → ℕ
 word_len text =
     (let n = prefix_len is_word_byte text in
@@ -49,7 +49,7 @@ abbrev pub ends_word : List ℕ → Bool
 ends_word [] = true
 ends_word (b ∷ bs) = not (is_word_byte b) && not (b == 44)
 
--- no number below 2^32 comes with a text behind it that passes the test
+-- no number below 2^32 comes with a text after it that passes the test
 abbrev pub HasNoNumber : (List ℕ → Bool) → List ℕ → Type 0
 HasNoNumber test text = (n : ℕ) (rest : List ℕ) → n < 2 ^ 32 → test rest ≡ true → text ≡ decimal n ++ rest → ⊥
 

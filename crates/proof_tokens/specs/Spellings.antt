@@ -63,7 +63,7 @@ token_of w.Charges = t.Charges
 token_of w.Log = t.Log
 token_of w.Gives = t.Gives
 
--- the bytes of tokens, one behind another
+-- the bytes of tokens, one after another
 abbrev pub spelled : List Token → List ℕ
 spelled = flat_map spelling
 
@@ -96,7 +96,7 @@ IsRangedToken (t.Use i) = i < 2 ^ 32
 IsRangedToken (t.Step e) = IsEntry e
 IsRangedToken _ = Unit {0}
 
--- a sign, a blank or the end of a line: anything may stand directly before and behind it
+-- a sign, a blank or the end of a line: anything may stand directly before and after it
 abbrev pub is_sign : Token → Bool
 is_sign t.Equal = true
 is_sign t.AtLeast = true
@@ -114,7 +114,7 @@ abbrev pub NextIsSign : List Token → Type 0
 NextIsSign [] = ⊥
 NextIsSign (x ∷ xs) = is_sign x ≡ true
 
--- tokens as a text has them: behind each word stands a sign
+-- tokens as a text has them: after each word stands a sign
 abbrev pub AreSpaced : List Token → Type 0
 AreSpaced [] = Unit {0}
 AreSpaced (x ∷ xs) = IsProofToken x × (is_sign x ≡ false → NextIsSign xs) × AreSpaced xs

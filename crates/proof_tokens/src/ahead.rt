@@ -17,7 +17,7 @@ use crate::tokens::Token;
 use crate::words::{byte_at, with_digit};
 use base_budget::Entry;
 
-/// The name, or the number below 2^32, that the text begins with, and the text behind it. None where it begins with another
+/// The name, or the number below 2^32, that the text begins with, and the text after it. None where it begins with another
 /// token, or where that takes a closer look.
 pub(crate) fn figure_ahead(text: &[u8]) -> Option<(Token, &[u8])>
     ensures exact { IfSome result (λ x. Cuts (x.0 ∷ []) text.now x.1.now × (length x.1.now < length text.now)) }
@@ -30,7 +30,7 @@ pub(crate) fn figure_ahead(text: &[u8]) -> Option<(Token, &[u8])>
     Some((Token::Number(u128::from(n)), rest))
 }
 
-/// The name that the text begins with, where a word may end behind it, and the text behind it. None exactly where there is no such
+/// The name that the text begins with, where a word may end after it, and the text after it. None exactly where there is no such
 /// name.
 pub fn name_ahead(text: &[u8]) -> Option<(u32, &[u8])>
     ensures exact { MatchOption result (HasNoneEnded IsName text.now) (λ x. Cuts (t.Name x.0 ∷ []) text.now x.1.now) }
@@ -45,7 +45,7 @@ pub fn name_ahead(text: &[u8]) -> Option<(u32, &[u8])>
     Some((x, rest))
 }
 
-/// The number below 2^32 that the text begins with, where a word may end behind it, and the text behind it. None exactly where there
+/// The number below 2^32 that the text begins with, where a word may end after it, and the text after it. None exactly where there
 /// is no such number.
 pub fn number_ahead(text: &[u8]) -> Option<(u32, &[u8])>
     ensures exact { MatchOption result (HasNoneEnded IsSmallNumber text.now) (λ x. Cuts (t.Number x.0 ∷ []) text.now x.1.now) }
@@ -56,7 +56,7 @@ pub fn number_ahead(text: &[u8]) -> Option<(u32, &[u8])>
     Some((n, rest))
 }
 
-/// The entry of a log that the text begins with, and the text behind it. None where it begins with another token, or where
+/// The entry of a log that the text begins with, and the text after it. None where it begins with another token, or where
 /// that takes a closer look.
 pub(crate) fn entry_ahead(text: &[u8]) -> Option<(Entry, &[u8])>
     ensures exact { IfSome result (λ x. Cuts (t.Step x.0 ∷ []) text.now x.1.now) }
@@ -86,8 +86,8 @@ pub(crate) fn entry_ahead(text: &[u8]) -> Option<(Entry, &[u8])>
     None
 }
 
-/// The two numbers below 2^32 with a `,` between them that the text begins with, where a word may end behind them, and the
-/// text behind them.
+/// The two numbers below 2^32 with a `,` between them that the text begins with, where a word may end after them, and the
+/// text after them.
 fn pair_ahead(text: &[u8]) -> Option<(u32, u32, &[u8])>
     ensures exact { IfSome result (λ x. (text.now ≡ decimal x.0 ++ 44 ∷ (decimal x.1 ++ x.2.now)) × (ends_word x.2.now ≡ true)) }
     ensures shorter { IfSome result (λ x. length x.2.now < length text.now) }
@@ -101,7 +101,7 @@ fn pair_ahead(text: &[u8]) -> Option<(u32, u32, &[u8])>
     Some((i, j, rest))
 }
 
-/// The number below 2^32 that the text begins with, where a word may end behind it, and the text behind it.
+/// The number below 2^32 that the text begins with, where a word may end after it, and the text after it.
 fn index_ahead(text: &[u8]) -> Option<(u32, &[u8])>
     ensures exact { MatchOption result (HasNoNumber ends_word text.now) (λ x. (text.now ≡ decimal x.0 ++ x.1.now) × (ends_word x.1.now ≡ true)) }
     ensures shorter { IfSome result (λ x. length x.1.now < length text.now) }
@@ -114,7 +114,7 @@ fn index_ahead(text: &[u8]) -> Option<(u32, &[u8])>
     }
 }
 
-/// The number below 2^32 that the text begins with, and the text behind its digits.
+/// The number below 2^32 that the text begins with, and the text after its digits.
 fn numeral_ahead(text: &[u8]) -> Option<(u32, &[u8])>
     ensures exact { MatchOption result (HasNoNumber ends_digits text.now) (λ x. text.now ≡ decimal x.0 ++ x.1.now) }
     ensures behind { IfSome result (λ x. x.1.now ≡ drop (prefix_len is_ascii_digit text.now) text.now) }
@@ -128,7 +128,7 @@ fn numeral_ahead(text: &[u8]) -> Option<(u32, &[u8])>
     Some((value, rest))
 }
 
-/// The text behind the word `true` that it begins with, where a word may end behind it. None exactly where it does not begin so.
+/// The text after the word `true` that it begins with, where a word may end after it. None exactly where it does not begin so.
 pub fn true_ahead(text: &[u8]) -> Option<&[u8]>
     ensures exact { MatchOption result (HasNoneEnded (λ x. x ≡ t.True) text.now) (λ rest. Cuts (t.True ∷ []) text.now rest.now) }
     ensures ended { IfSome result (λ rest. ends_word rest.now ≡ true) }
@@ -138,7 +138,7 @@ pub fn true_ahead(text: &[u8]) -> Option<&[u8]>
     Some(rest)
 }
 
-/// The text behind this word, where it comes first and a word may end behind it.
+/// The text after this word, where it comes first and a word may end after it.
 pub(crate) fn word_ahead<'a>(text: &'a [u8], word: &[u8]) -> Option<&'a [u8]>
     ensures exact { MatchOption result ((rest : List ℕ) → ends_word rest ≡ true → text.now ≡ word.now ++ rest → ⊥) (λ rest. (text.now ≡ word.now ++ rest.now) × (ends_word rest.now ≡ true)) }
     ensures within { IfSome result (λ rest. length rest.now ≤ length text.now) }
@@ -147,7 +147,7 @@ pub(crate) fn word_ahead<'a>(text: &'a [u8], word: &[u8]) -> Option<&'a [u8]>
     if ends_word(rest) { Some(rest) } else { None }
 }
 
-/// The text behind these bytes, where they come first.
+/// The text after these bytes, where they come first.
 pub fn behind_bytes<'a>(text: &'a [u8], front: &[u8]) -> Option<&'a [u8]>
     ensures { MatchOption result ((rest : List ℕ) → text.now ≡ front.now ++ rest → ⊥) (λ rest. text.now ≡ front.now ++ rest.now) }
 {
@@ -162,7 +162,7 @@ pub fn behind_bytes<'a>(text: &'a [u8], front: &[u8]) -> Option<&'a [u8]>
     Some(rest)
 }
 
-/// The word of a rule that the text begins with, and the text behind it. None where it begins with another token, or where that
+/// The word of a rule that the text begins with, and the text after it. None where it begins with another token, or where that
 /// takes a closer look.
 pub(crate) fn row_word_ahead(text: &[u8]) -> Option<(Token, &[u8])>
     ensures exact { IfSome result (λ x. Cuts (x.0 ∷ []) text.now x.1.now × (length x.1.now < length text.now)) }
@@ -197,7 +197,7 @@ fn begins_numeral(first: u8, behind: &[u8]) -> bool
     first.is_ascii_digit() && (first != b'0' || !byte_at(behind, 0).is_ascii_digit())
 }
 
-/// The value of the digits at the front, and the text behind them; none where it is above 2^32 − 1.
+/// The value of the digits at the front, and the text after them; none where it is above 2^32 − 1.
 fn digits_ahead(text: &[u8]) -> Option<(u32, &[u8])>
     ensures { MatchOption result (2 ^ 32 ≤ decimal_value (take (prefix_len is_ascii_digit text.now) text.now)) (λ x. (x.0 ≡ decimal_value (take (prefix_len is_ascii_digit text.now) text.now)) × (x.1.now ≡ drop (prefix_len is_ascii_digit text.now) text.now)) }
 {

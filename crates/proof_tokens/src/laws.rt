@@ -10,13 +10,13 @@ ghost use Rattle.base_budget.specs.declared.log.Entry.{Entry};
 ghost use Rattle.std.specs.List.{AllByRecursion};
 ghost use Rattle.std.specs.Prelude.{◌≡◌, ◌<◌, ◌^◌, ◌∷◌, ◌++◌, List, ℕ, ℤ};
 
-/// Bytes that begin with tokens of texts begin with the spellings of these, one behind another. So a token has one
+/// Bytes that begin with tokens of texts begin with the spellings of these, one after another. So a token has one
 /// spelling, and what is read is written in one way.
 pub fn spelling_law()
     ensures { (xs : List Token) (bytes rest : List ℕ) → AllByRecursion IsGood xs → Cuts xs bytes rest → bytes ≡ spelled xs ++ rest }
 {}
 
-/// What bytes begin with behind the word of a line with a log, in a text of so many parts, is the only such log, and it is not
+/// What bytes begin with after the word of a line with a log, in a text of this many parts, is the only such log, and it is not
 /// refused.
 pub fn said_law()
     ensures one { (parts : ℕ) (u v : SaidLog) (bytes r s : List ℕ) → IsSaidLog parts u → IsSaidLog parts v → Cuts (said_text u) bytes r → Cuts (said_text v) bytes s → (u ≡ v) × (r ≡ s) }
@@ -47,7 +47,7 @@ pub fn values_law()
     ensures taken { (vs : List ℤ) (bytes rest : List ℕ) (left : ℕ) → AreValues vs → Cuts (values_text vs) bytes rest → IsRefusedAt AreValues values_text bytes left → ⊥ }
 {}
 
-/// Tokens as texts have them, written one behind another, are read as themselves, whatever stands behind them.
+/// Tokens as texts have them, written one after another, are read as themselves, whatever stands after them.
 pub fn cutting_law()
     ensures { (xs : List Token) (rest : List ℕ) → AreSpaced xs → Cuts xs (spelled xs ++ rest) rest }
 {}

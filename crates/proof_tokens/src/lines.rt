@@ -15,7 +15,7 @@ use std::alloc::Global;
 /// The greatest number of charges.
 const MOST_CHARGES: u128 = MOST_BUDGET as u128;
 
-/// The entries up to and with the end of the line, and the text behind it.
+/// The entries up to and with the end of the line, and the text after it.
 pub(crate) fn entries(alloc: Global, text: &[u8]) -> Result<(Items<Entry>, &[u8]), Refusal>
     ensures found { IfOk result (λ x. Cuts (entries_text x.0) text.now x.1.now) }
     ensures first { IfErr result (RefusesProof AnyEntries entries_text text.now) }
@@ -33,7 +33,7 @@ pub(crate) fn entries(alloc: Global, text: &[u8]) -> Result<(Items<Entry>, &[u8]
     }
 }
 
-/// A blank, a number from `least` to `most` and the end of the line: the number, and the text behind it.
+/// A blank, a number from `least` to `most` and the end of the line: the number, and the text after it.
 pub(crate) fn numbered(text: &[u8], least: u128, most: u128) -> Result<(u128, &[u8]), Refusal>
     requires { least ≤ most }
     ensures found { IfOk result (λ x. LiesBetween least most x.0 × Cuts (numbered_text x.0) text.now x.1.now) }
@@ -45,7 +45,7 @@ pub(crate) fn numbered(text: &[u8], least: u128, most: u128) -> Result<(u128, &[
     Ok((amount, rest))
 }
 
-/// The first line of a proof: its format, and the text behind it.
+/// The first line of a proof: its format, and the text after it.
 pub fn head(text: &[u8]) -> Result<(u128, &[u8]), Refusal>
     ensures found { IfOk result (λ x. IsFormat x.0 × Cuts (head_text x.0) text.now x.1.now) }
     ensures first { IfErr result (RefusesProof IsFormat head_text text.now) }
@@ -55,7 +55,7 @@ pub fn head(text: &[u8]) -> Result<(u128, &[u8]), Refusal>
     Ok((format, rest))
 }
 
-/// The line `charges`: for how many charges the proof is, and the text behind it.
+/// The line `charges`: for how many charges the proof is, and the text after it.
 pub fn charges(text: &[u8]) -> Result<(u128, &[u8]), Refusal>
     ensures found { IfOk result (λ x. IsCharges x.0 × Cuts (charges_text x.0) text.now x.1.now) }
     ensures first { IfErr result (RefusesProof IsCharges charges_text text.now) }

@@ -23,7 +23,7 @@ pub enum SaidLog {
     Part(u32),
 }
 
-/// The line `parts`: how many parts the text has, and the text behind it.
+/// The line `parts`: how many parts the text has, and the text after it.
 pub fn parts(text: &[u8]) -> Result<(u32, &[u8]), Refusal>
     ensures found { IfOk result (λ x. IsPosition x.0 × Cuts (parts_text x.0) text.now x.1.now) }
     ensures first { IfErr result (RefusesProof IsPosition parts_text text.now) }
@@ -33,7 +33,7 @@ pub fn parts(text: &[u8]) -> Result<(u32, &[u8]), Refusal>
     Ok((count, rest))
 }
 
-/// The line `part`, with its entries, of which there is one at least, and the text behind it.
+/// The line `part`, with its entries, of which there is one at least, and the text after it.
 pub fn part(alloc: Global, text: &[u8]) -> Result<(ElimLog, &[u8]), Refusal>
     ensures found { IfOk result (λ x. IsPart x.0.entries × Cuts (part_text x.0.entries) text.now x.1.now) }
     ensures first { IfErr result (RefusesProof IsPart part_text text.now) }
@@ -46,7 +46,7 @@ pub fn part(alloc: Global, text: &[u8]) -> Result<(ElimLog, &[u8]), Refusal>
     Ok((ElimLog { entries }, rest))
 }
 
-/// The part, of so many, whose use comes behind a blank, and the text behind it; none where no such part is used there.
+/// The part, of this many, whose use comes after a blank, and the text after it; none where no such part is used there.
 fn use_of(text: &[u8], parts: usize) -> Option<(u32, &[u8])>
     ensures { MatchOption result (HasNoUse parts text.now) (λ x. (x.0 < parts) × Cuts (t.Blank ∷ t.Use x.0 ∷ []) text.now x.1.now) }
 {
@@ -67,7 +67,7 @@ fn use_of(text: &[u8], parts: usize) -> Option<(u32, &[u8])>
     Some((part, rest))
 }
 
-/// What stands behind the word of a line with a log, in a text of so many parts, and the text behind it.
+/// What stands after the word of a line with a log, in a text of this many parts, and the text after it.
 pub fn said(alloc: Global, text: &[u8], parts: usize) -> Result<(SaidLog, &[u8]), Refusal>
     ensures found { IfOk result (λ x. IsSaidLog parts x.0 × Cuts (said_text x.0) text.now x.1.now) }
     ensures first { IfErr result (RefusesProof (IsSaidLog parts) said_text text.now) }

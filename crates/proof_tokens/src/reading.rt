@@ -13,7 +13,7 @@ use std::alloc::AllocError;
 /// Why a text is not read.
 #[derive(Clone, Copy)]
 pub enum Refusal {
-    /// The token that so many bytes from the end of the text begin cannot stand there; with 0, a token is missing.
+    /// The token that this many bytes from the end of the text begin cannot stand there; with 0, a token is missing.
     Syntax(usize),
     Memory,
 }
@@ -40,7 +40,7 @@ impl From<Memory> for Refusal {
     }
 }
 
-/// The token that the text begins with, and the text behind it; none where the text has no byte.
+/// The token that the text begins with, and the text after it; none where the text has no byte.
 pub fn next(text: &[u8]) -> Option<(Token, &[u8])>
     ensures exact { MatchOption result (text.now ≡ []) (λ x. Cuts (x.0 ∷ []) text.now x.1.now × (length x.1.now < length text.now)) }
     ensures ranged { IfSome result (λ x. IsRangedToken x.0) }
@@ -52,7 +52,7 @@ pub fn next(text: &[u8]) -> Option<(Token, &[u8])>
     Some((piece.token, text.split_at(piece.len).1))
 }
 
-/// The token that the text begins with, and the text behind it, as `next` says: the words of rules are found first.
+/// The token that the text begins with, and the text after it, as `next` says: the words of rules are found first.
 pub fn next_word(text: &[u8]) -> Option<(Token, &[u8])>
     ensures exact { MatchOption result (text.now ≡ []) (λ x. Cuts (x.0 ∷ []) text.now x.1.now × (length x.1.now < length text.now)) }
     ensures ranged { IfSome result (λ x. IsRangedToken x.0) }

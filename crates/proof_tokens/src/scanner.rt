@@ -51,7 +51,7 @@ fn word_len(text: &[u8]) -> usize
     len + 1 + run_len(more)
 }
 
-/// Whether the byte behind a word belongs to it.
+/// Whether the byte after a word belongs to it.
 fn joins(word: &[u8], rest: &[u8]) -> bool
     ensures { result ≡ joins word.now rest.now }
 {

@@ -1,4 +1,4 @@
-// Single tokens that have to come next, and the text behind them.
+// Single tokens that have to come next, and the text after them.
 
 ghost use Rattle.proof_tokens.specs.Lines.{IsNumberIn, IsSeparator, IsStep, IsValueStart, start_size, start_token};
 ghost use Rattle.proof_tokens.specs.Reading.{Cuts, RefusesNext};
@@ -11,7 +11,7 @@ use crate::reading::{Refusal, next};
 use crate::tokens::{Token, Word};
 use base_budget::Entry;
 
-/// The text behind a blank.
+/// The text after a blank.
 pub fn blank(text: &[u8]) -> Result<&[u8], Refusal>
     ensures found { IfOk result (λ rest. Cuts (t.Blank ∷ []) text.now rest.now) }
     ensures lacks { IfErr result (RefusesNext (λ x. x ≡ t.Blank) text.now) }
@@ -26,7 +26,7 @@ pub fn blank(text: &[u8]) -> Result<&[u8], Refusal>
     }
 }
 
-/// The text behind the end of a line.
+/// The text after the end of a line.
 pub fn line_feed(text: &[u8]) -> Result<&[u8], Refusal>
     ensures found { IfOk result (λ rest. Cuts (t.LineFeed ∷ []) text.now rest.now) }
     ensures lacks { IfErr result (RefusesNext (λ x. x ≡ t.LineFeed) text.now) }
@@ -41,7 +41,7 @@ pub fn line_feed(text: &[u8]) -> Result<&[u8], Refusal>
     }
 }
 
-/// The text behind this word.
+/// The text after this word.
 pub fn word(text: &[u8], word: Word) -> Result<&[u8], Refusal>
     ensures found { IfOk result (λ rest. Cuts (token_of word ∷ []) text.now rest.now) }
     ensures lacks { IfErr result (RefusesNext (λ x. x ≡ token_of word) text.now) }
@@ -52,7 +52,7 @@ pub fn word(text: &[u8], word: Word) -> Result<&[u8], Refusal>
     }
 }
 
-/// The text behind this word, whatever stands there.
+/// The text after this word, whatever stands there.
 fn word_token(text: &[u8], word: Word) -> Result<&[u8], Refusal>
     ensures found { IfOk result (λ rest. Cuts (token_of word ∷ []) text.now rest.now) }
     ensures lacks { IfErr result (RefusesNext (λ x. x ≡ token_of word) text.now) }
@@ -67,7 +67,7 @@ fn word_token(text: &[u8], word: Word) -> Result<&[u8], Refusal>
     }
 }
 
-/// A number from `least` to `most`, and the text behind it.
+/// A number from `least` to `most`, and the text after it.
 pub(crate) fn number_between(text: &[u8], least: u128, most: u128) -> Result<(u128, &[u8]), Refusal>
     ensures found { IfOk result (λ x. (least ≤ x.0) × (x.0 ≤ most) × Cuts (t.Number x.0 ∷ []) text.now x.1.now) }
     ensures shorter { IfOk result (λ x. length x.1.now < length text.now) }
@@ -81,7 +81,7 @@ pub(crate) fn number_between(text: &[u8], least: u128, most: u128) -> Result<(u1
     }
 }
 
-/// A number from `least` to `most`, whatever stands there, and the text behind it.
+/// A number from `least` to `most`, whatever stands there, and the text after it.
 fn number_token(text: &[u8], least: u128, most: u128) -> Result<(u128, &[u8]), Refusal>
     ensures found { IfOk result (λ x. (least ≤ x.0) × (x.0 ≤ most) × Cuts (t.Number x.0 ∷ []) text.now x.1.now) }
     ensures shorter { IfOk result (λ x. length x.1.now < length text.now) }
@@ -102,7 +102,7 @@ fn number_token(text: &[u8], least: u128, most: u128) -> Result<(u128, &[u8]), R
     Ok((n, rest))
 }
 
-/// An entry of a log, and the text behind it.
+/// An entry of a log, and the text after it.
 pub(crate) fn entry(text: &[u8]) -> Result<(Entry, &[u8]), Refusal>
     ensures found { IfOk result (λ x. Cuts (t.Step x.0 ∷ []) text.now x.1.now) }
     ensures shorter { IfOk result (λ x. length x.1.now < length text.now) }
@@ -120,7 +120,7 @@ pub(crate) fn entry(text: &[u8]) -> Result<(Entry, &[u8]), Refusal>
     Ok((step, rest))
 }
 
-/// Whether a blank comes, with the text behind it; else the end of the line comes.
+/// Whether a blank comes, with the text after it; else the end of the line comes.
 pub(crate) fn goes_on(text: &[u8]) -> Result<(bool, &[u8]), Refusal>
     ensures found { IfOk result (λ x. Cuts (cond x.0 t.Blank t.LineFeed ∷ []) text.now x.1.now) }
     ensures shorter { IfOk result (λ x. length x.1.now < length text.now) }
@@ -138,7 +138,7 @@ pub(crate) fn goes_on(text: &[u8]) -> Result<(bool, &[u8]), Refusal>
     Err(Refusal::Syntax(text.len()))
 }
 
-/// The number that comes next, or none where a `-` does, and the text behind it.
+/// The number that comes next, or none where a `-` does, and the text after it.
 pub(crate) fn value_start(text: &[u8]) -> Result<(Option<u128>, &[u8]), Refusal>
     ensures found { IfOk result (λ x. Cuts (start_token x.0 ∷ []) text.now x.1.now) }
     ensures small { IfOk result (λ x. start_size x.0 < 2 ^ 127) }

@@ -121,7 +121,7 @@ fn figure(text: &[u8]) -> Token
     }
 }
 
-/// The entry with this first letter and this text behind it.
+/// The entry with this first letter and this text after it.
 fn entry(first: u8, rest: &[u8]) -> Option<Entry>
     ensures { result ≡ entry_of first rest.now }
 {
@@ -196,7 +196,7 @@ fn small_value(digits: &[u8]) -> Option<u32>
     Some(value)
 }
 
-/// The value with one more digit behind it; none where it is above 2^32 − 1.
+/// The value with one more digit after it; none where it is above 2^32 − 1.
 pub(crate) fn with_digit(value: u32, digit: u8) -> Option<u32>
     ensures exact { MatchOption result (2 ^ 32 ≤ 10 * value + (digit - 48)) (λ more. more ≡ 10 * value + (digit - 48)) }
 {

@@ -10,7 +10,7 @@ use base_budget::Entry;
 use linear_term::Memory;
 use std::alloc::Global;
 
-/// Puts a label and a number behind a text.
+/// Puts a label and a number after a text.
 pub fn put_number(alloc: Global, label: &[u8], n: u128, out: &mut Vec<u8>) -> Result<(), Memory>
     ensures { OnOk result (out.new.items ≡ out.old.items ++ (label.now ++ decimal n)) }
 {
@@ -20,7 +20,7 @@ pub fn put_number(alloc: Global, label: &[u8], n: u128, out: &mut Vec<u8>) -> Re
     Ok(())
 }
 
-/// Puts an entry behind a text.
+/// Puts an entry after a text.
 fn put_entry(alloc: Global, step: Entry, out: &mut Vec<u8>) -> Result<(), Memory>
     ensures { OnOk result (out.new.items ≡ out.old.items ++ entry_spelling step) }
 {
@@ -47,7 +47,7 @@ fn put_entry(alloc: Global, step: Entry, out: &mut Vec<u8>) -> Result<(), Memory
     }
 }
 
-/// Puts entries, each behind a blank, and the end of the line behind a text.
+/// Puts entries, each after a blank, and the end of the line after a text.
 pub fn put_entries(alloc: Global, entries: &[Entry], out: &mut Vec<u8>) -> Result<(), Memory>
     ensures { OnOk result (out.new.items ≡ out.old.items ++ spelled (entries_text entries.now)) }
 {

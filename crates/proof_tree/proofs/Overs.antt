@@ -54,7 +54,7 @@ unfolding just
 cond_over n true w h = h
 cond_over n false w h = tt
 
--- a formula over so many of the n constants
+-- a formula over this many of the n constants
 predicate_over : (n a b p : ℕ) (ss : List Linear) (g : Form) → a ≤ n → b ≤ n → AllByRecursion (IsOver a) ss → IsFormOver b g → AreOverN n (predicate_pair p ss g).value
 unfolding just
 predicate_over n a b p ss (holds q ts) la lb h k = cond_over n (alike p ss q ts) (same_arguments ss ts) (same_over n ss ts (all_more a n ss la h) (all_more b n ts lb (recursion_from_All (IsOver b) ts k)))

@@ -16,7 +16,7 @@ abbrev pub first_given : List (List (List Literal)) → List (List Literal)
 first_given [] = []
 first_given (d ∷ ds) = d
 
--- "and" of the constraints, behind d
+-- "and" of the constraints, after d
 abbrev pub conjoined : List (List (List Literal)) → List (List Literal) → Traced (List (List Literal))
 conjoined [] d = just d
 conjoined (c ∷ cs) d = next (conjunction d c) (λ both. conjoined cs both)

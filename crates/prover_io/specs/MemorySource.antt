@@ -73,7 +73,7 @@ pub record IsFreshSource (s : MemorySource) (files : List (String Global × Vec 
   pub unmoved : moved_of s ≡ 0
   pub whole : is_broken s ≡ false
 
--- the second source is the first one, but gives at most so many bytes in a read
+-- the second source is the first one, but gives at most this many bytes in a read
 pub record Limits (old new : MemorySource) (most : ℕ) : Type 0 where
   pub piece : most_of new ≡ most
   pub bytes : (name : List ℕ) → bytes_of new name ≡ bytes_of old name

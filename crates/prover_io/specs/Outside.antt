@@ -29,7 +29,7 @@ abbrev pub ReadGives : Option (List ℕ) → Option (List ℕ) → ℕ → List 
 ReadGives (Some before) after n buffer = Moves before after n buffer
 ReadGives None after n buffer = after ≡ None
 
--- the first n bytes of the piece are taken behind those taken before, where these are told
+-- the first n bytes of the piece are taken after those taken before, where these are told
 abbrev pub Adds : Option (List ℕ) → Option (List ℕ) → ℕ → List ℕ → Type 0
 Adds (Some before) after n piece = after ≡ Some (before ++ take n piece)
 Adds None after n piece = after ≡ None
@@ -54,7 +54,7 @@ abbrev pub TakesAtMost : Option (List ℕ) → Option (List ℕ) → ℕ → Typ
 TakesAtMost (Some before) after n = (k : ℕ) × (k ≤ n) × (after ≡ Some (drop k before))
 TakesAtMost None after n = after ≡ None
 
--- at most n bytes of a name are read: what was left before is left still, or all bytes of the name but so many
+-- at most n bytes of a name are read: what was left before is left still, or all bytes of the name but this many
 abbrev pub ReadsAtMost : Option (List ℕ) → Option (List ℕ) → Option (List ℕ) → ℕ → Type 0
 ReadsAtMost bytes before after n = (after ≡ before) ⊎ TakesAtMost bytes after n
 
@@ -62,6 +62,6 @@ ReadsAtMost bytes before after n = (after ≡ before) ⊎ TakesAtMost bytes afte
 abbrev pub GrowsAtMost : ℕ → ℕ → ℕ → Type 0
 GrowsAtMost before after n = (before ≤ after) × (after ≤ before + n)
 
--- of these names some from the front are begun behind those before, in their order
+-- of these names some from the front are begun after those before, in their order
 abbrev pub BeginsFront : List (List ℕ) → List (List ℕ) → List (List ℕ) → Type 0
 BeginsFront names before after = (k : ℕ) × (after ≡ before ++ take k names)

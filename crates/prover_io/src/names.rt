@@ -6,7 +6,7 @@ ghost use Rattle.std.specs.Prelude.{◌≡◌, ◌++◌, [], ◌∷◌, map, str
 use sqlite_items::Items;
 use std::alloc::{AllocError, Global};
 
-// Adds a name behind those that were begun.
+// Adds a name after those that were begun.
 #[tactic(auto, using(crate::proofs::Begun::begun))]
 pub(crate) fn add_name(
     alloc: Global,

@@ -38,7 +38,7 @@ pub trait Source {
     // How many bytes the reads moved, at most 2^64 − 1.
     ghost moved: { Self → ℕ };
 
-    /// Begins to read the bytes of a name, from their first on. A begin that fails reads nothing. Where memory is wanting
+    /// Begins to read the bytes of a name, from their first on. A begin that fails reads nothing. Where memory runs out
     /// nothing changes.
     fn begin(&mut self, name: &str) -> Result<(), BeginFault>
         ensures begun { OnOk result (Begun name.now (bytes_of self.old name.now) (left self.new) (at self.new) (broken self.new)) }

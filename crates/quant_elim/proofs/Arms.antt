@@ -79,7 +79,7 @@ pub every_refused : (n : ℕ) (f : Form) (ms : List Mark) {g h : Funds} {e : Ste
     → ChargedAt (eliminating n (tree.universal f)) (at g ms) r (at h ms)
 every_refused n f ms {g} {h} r is refused = subst (λ w. ChargedAt w (at g ms) r (at h ms)) (sym (by_every n f)) (then_err (pay (size f)) (λ _. next (dual f) (after_dual n)) r is (unnoted ms refused))
 
--- behind the charge and the negation that a call made, or could not make
+-- after the charge and the negation that a call made, or could not make
 pub every_ok : (n : ℕ) (f : Form) (ms : List Mark) (g : Core) {a b : Funds} {k : At} {r : Result (List (List Literal)) StepFault} → Charged (pay (size f)) a (Ok tt) b → Made form (dual f) (Ok g)
     → ChargedAt (after_dual n (form g)) (at b ms) r k → ChargedAt (eliminating n (tree.universal f)) (at a ms) r k
 every_ok n f ms g {a} {b} paid made rest = every_paid n f ms paid (then_ok (dual f) (after_dual n) (made.works.each (at b ms)) rest)

@@ -68,7 +68,7 @@ row_some x c ms {f} {g} {b} o e rs r k is h =
     subst (λ w. ChargedAt w (at f ms) r b) (sym (taken_row x c))
     (then_ok (first_row x c) (after_row x c) (unnoted ms k) (subst (λ z. ChargedAt (after_row x c z) (at g ms) r b) (sym is) h))
 
--- want of memory behind a row
+-- running out of memory after a row
 pub row_memory : (x : ℕ) (c : List Literal) (ms ns : List Mark) {f g : Funds} (o : Option (Entry × List (List Literal))) (e : Entry) (rs : List (List Literal)) (r : Result (List (List Literal)) StepFault)
     → Charged (first_row x c) f (Ok o) g → o ≡ Some (e, rs) → ns ≡ ms → IsErrAnd r (λ z. z ≡ Memory) → ChargedAt (taken_out x c) (at f ms) r (at g ns)
 row_memory x c ms ns {f} {g} o e rs r k is same h =

@@ -6,7 +6,7 @@ use Rattle.base_budget.specs.declared.fault.ElimFault.{ElimFault}
 use Rattle.base_budget.specs.declared.fault.ElimFault.TheVariants.{Steps, Overflow, Memory}
 use Rattle.base_budget.specs.declared.log.ElimLog.{ElimLog}
 
--- the outcome and the log; want of memory has none
+-- the outcome and the log; running out of memory has none
 abbrev pub with_log : {A : Type 0} → Result A StepFault → ElimLog → Result (A × ElimLog) ElimFault
 with_log (Ok v) log = Ok (v, log)
 with_log (Err step_fault.Steps) log = Err (Steps log)

@@ -71,7 +71,7 @@ fn divisibility_place(ls: &[Literal], x: u32) -> Option<usize>
     ls.iter().position(|l| is_divisibility(l, x))
 }
 
-/// The literals behind the one at i.
+/// The literals after the one at i.
 fn behind(ls: &[Literal], i: usize) -> &[Literal]
     requires { i < length ls.now }
     ensures { result.now ≡ drop (i + 1) ls.now }

@@ -43,7 +43,7 @@ fn turned_round(alloc: Global, cs: Items<Clause>) -> Result<Items<Clause>, Memor
     Ok(left)
 }
 
-/// x out of c: each rule writes its entry behind those of the log.
+/// x out of c: each rule writes its entry after those of the log.
 #[cycle(taking)]
 #[tactic(auto, using(base_budget::proofs::Charging::logging))]
 fn take_out(
@@ -87,7 +87,7 @@ fn take_out_all(
     Ok(out)
 }
 
-/// x out of d, which is handed over, with the entries of the rules behind those of the log.
+/// x out of d, which is handed over, with the entries of the rules after those of the log.
 #[tactic(auto, using(base_budget::proofs::Charging::logging))]
 pub(crate) fn take_name_out(
     alloc: Global,
@@ -103,7 +103,7 @@ pub(crate) fn take_name_out(
     Dnf::tidy(alloc, cs, purse)
 }
 
-/// x out of d, with the entries of the rules behind those of the log: for callers that take several names out with one log.
+/// x out of d, with the entries of the rules after those of the log: for callers that take several names out with one log.
 ///
 /// Refused with Steps exactly where a charge passes the budget, and else with Overflow exactly where a number that a rule
 /// computes leaves the range, which it names; the log then has the entries of the rules that were performed before.
@@ -121,7 +121,7 @@ pub fn name_out(
     take_name_out(alloc, d.copy(alloc)?, x, purse, log)
 }
 
-/// The outcome with the log of what was done; want of memory has none.
+/// The outcome with the log of what was done; running out of memory has none.
 pub(crate) fn with_log(
     outcome: Result<Dnf, StepFault>,
     log: ElimLog,
@@ -159,7 +159,7 @@ pub fn exists_name(
     with_log(outcome, log)
 }
 
-/// x out of d by "every value", with the entries behind those of the log.
+/// x out of d by "every value", with the entries after those of the log.
 #[tactic(auto, using(base_budget::proofs::Charging::logging))]
 fn all_values(
     alloc: Global,

@@ -18,7 +18,7 @@ use formula::{Core, dual, size};
 use sqlite_items::Items;
 use std::alloc::Global;
 
-/// The disjunction of the formula f over `names`, with the entries behind those of the log.
+/// The disjunction of the formula f over `names`, with the entries after those of the log.
 #[cycle(elimination)]
 #[tactic(auto, using(crate::proofs::Arms::arms))]
 fn eliminate_form(

@@ -27,7 +27,7 @@ use Rattle.search.proofs.Endings.{total-append}
 abbrev IsBare : List (List Literal) → Type 0
 IsBare d = (d ≡ []) ⊎ (d ≡ top)
 
--- a bare disjunction, made with so many steps
+-- a bare disjunction, made with this many steps
 record IsFine (k : ℕ) (w : Traced (List (List Literal))) : Type 0 where
   bare : IsBare w.value
   steps : total w.events ≤ k

@@ -177,7 +177,7 @@ not_pure : {A : Type 0} (a b : Bool) (w u : Traced A) → a ≡ false → cond (
 not_pure false b w u h = refl
 not_pure true b w u h = absurd (cc)
 
--- the walk over a tree of a formula that is not pure stops behind the tree, whatever log is its conclusion
+-- the walk over a tree of a formula that is not pure stops after the tree, whatever log is its conclusion
 pub saturated_charges : (f : Form) (n k : ℕ) (x : Proof) (log : ElimLog) → is_pure f ≡ false → (built k branch_limit 0 (start f n)).value ≡ Some x
     → total (built k branch_limit 0 (start f n)).events ≡ total (proof_walk f n x (Nothing log)).events
 unfolding just

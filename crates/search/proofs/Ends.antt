@@ -72,13 +72,13 @@ memory_stop : (keeps : Bool) (f : Form) (n : ℕ) {old new : Funds} (e : StepFau
 memory_stop keeps f n {old} {new} e m run did m_is =
     subst (λ (z : Result Why Memory). EndsAs f n old (with_run z run) new) (sym m_is) (subst (λ (z : Run). EndsAs f n old (with_run (stopped_by e) z) new) (sym did.2) (stopped_ends f n old new did.0 e (did.1.err e refl)))
 
--- where memory was wanting in the run
+-- where memory runs out in the run
 pub memory_cut : (keeps : Bool) (f : Form) (n : ℕ) {old new : Funds} (e : StepFault) (m : Memory) (run : Run) (r : Result Outcome Memory) → IsErrAnd r (λ x. x ≡ m) → IsRun keeps f n old (Err e) run new → Err m ≡ stopped_by e → EndsAs f n old r new
 memory_cut keeps f n e m run (Ok o) h did m_is = absurd h
 memory_cut keeps f n e m run (Err k) h did m_is = memory_stop keeps f n e m run did m_is
 
 -- ---- runs that are not
--- where memory was wanting for the outcome
+-- where memory runs out for the outcome
 memory_end : (f : Form) (n : ℕ) {old new : Funds} {c d : Course} (a : RunAnswer) (m : Memory) → Followed noted (canonical_run f n old.budget) old c (Ok a) new d → EndsAs f n old (Err m) new
 memory_end f n {old} {new} a m did =
     let es = (canonical_run f n old.budget).events in

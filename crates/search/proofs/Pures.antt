@@ -66,7 +66,7 @@ module _ (n : ℕ) (s : Sequent) (p : Pick) (none : premises_of s p ≡ []) wher
   entered_is : (f : ℕ → Sequent → Traced (Option Proof)) → entered f 0 s p ≡ next (note (enter 0)) (λ _. next (pay (fee s p)) (λ _. left))
   entered_is f = ap (λ w. next (note (enter 0)) (λ _. next (pay (fee s p)) (λ _. w))) (children f)
 
-  -- and behind it, work k on the tree
+  -- and after it, work k on the tree
   left_then : {B : Type 0} (k : Option Proof → Traced B) → next left k ≡ next (note (back 0)) (λ _. next (in_new_log (canonical_constraint s p [])) (λ d. k (Some (leaf s p d))))
   unfolding left
   left_then k =

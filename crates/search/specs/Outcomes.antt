@@ -57,7 +57,7 @@ abbrev pub IsRun : Bool → Form → ℕ → Funds → Result Found StepFault �
 IsRun keeps f n old r run new =
     (c : Course) × Gets (IsAnswer keeps f n) (canonical_run f n old.budget) old no_course r new c × (run ≡ record { round = c.round; nodes = c.nodes; log = c.log; spent = new.spent - old.spent })
 
--- the outcome is the end of the canonical run for f over n names from old on, or memory was wanting before the end
+-- the outcome is the end of the canonical run for f over n names from old on, or out of memory before the end
 abbrev pub EndsAs : Form → ℕ → Funds → Result Outcome Memory → Funds → Type 0
 EndsAs f n old (Ok (Valid d vs t)) new =
     (ms : List Mark) × (x : Proof) × (ending (canonical_run f n old.budget) (at old []) ≡ ends_with (valid vs x) (at new ms)) × (d ≡ given x) × IsTree f n x (Solution vs) t

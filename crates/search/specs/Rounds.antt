@@ -36,7 +36,7 @@ solved_of n d None = solved.None (record { entries = entries_of (names_out n d).
 abbrev pub solving_of : ℕ → List (List Literal) → Traced Solved
 solving_of n d = next (in_new_log (solving n d)) (λ a. just (solved_of n d a))
 
--- what a round finds that built this tree, with so many charges, and so many together with solving its constraint; none where
+-- what a round finds that built this tree, with this many charges, and this many together with solving its constraint; none where
 -- a further round is to come
 abbrev pub found_by : Form → Built → ℕ → ℕ → Solved → Option Found
 found_by f tree charged spent (solved.Values vs) = Some (found.Valid tree charged vs)

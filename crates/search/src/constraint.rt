@@ -120,7 +120,7 @@ fn beta(alloc: Global, ds: Constraints, purse: &mut Purse) -> Result<(Dnf, ElimL
     unlogged(alloc, all)
 }
 
-/// The constraint of delta: that of the premise, for every value of the new constant, which comes after so many.
+/// The constraint of delta: that of the premise, for every value of the new constant, which comes after this many.
 fn delta(
     alloc: Global,
     count: u32,
@@ -144,7 +144,7 @@ fn nothing(d: Dnf, purse: &mut Purse) -> Result<Dnf, StepFault>
     Ok(d)
 }
 
-/// The constraint of gamma: that of the premise, for some value of the new constant, which comes after so many.
+/// The constraint of gamma: that of the premise, for some value of the new constant, which comes after this many.
 fn gamma(
     alloc: Global,
     count: u32,

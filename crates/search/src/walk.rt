@@ -1,5 +1,5 @@
 // The trees of a round, depth first: one branch serves them all. A node takes its principal out of it and adds its new members
-// behind, and what a premise did is undone when it is left; where a leaf is closed, its members are read where they lie.
+// after, and what a premise did is undone when it is left; where a leaf is closed, its members are read where they lie.
 // Where trees are not kept, all that a finished node leaves is its constraint and whether a leaf below it is open.
 
 ghost use Rattle.tree_branch.specs.Passed.{IsPassed};

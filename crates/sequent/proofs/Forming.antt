@@ -65,6 +65,6 @@ premises_formed s i m formed is =
     let one = all_at (IsMember s.count) s.members i m is formed in
     premises_of_formed s i m.over m.used m.formula one.within one.formed (all_remove (IsMember s.count) s.members i formed)
 
--- a formula alone, over so many constants
+-- a formula alone, over this many constants
 pub start_formed : (f : Form) (n : ℕ) → IsFormOver n f → IsFormedSequent (sequent (member f n 0 ∷ []) n)
 start_formed f n h = (record { within = omega arith; formed = h }, tt)

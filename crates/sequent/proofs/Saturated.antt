@@ -1,4 +1,4 @@
--- What is known of the members behind a pick: none fits an earlier rule, and none before it fits its own.
+-- What is known of the members after a pick: none fits an earlier rule, and none before it fits its own.
 use Rattle.std.proofs.Common.{◌≡◌, ℕ, zero, suc, Bool, true, false, cond, not, List, [], ◌∷◌, take, Option, None, Some, refl, sym, ◌∙◌}
 use Rattle.std.specs.List.{AllByRecursion}
 use Rattle.sequent.specs.declared.member.Shape.{Shape}

@@ -28,7 +28,7 @@ impl Added {
     }
 }
 
-/// The new members come behind the others.
+/// The new members come after the others.
 pub(crate) fn append(members: &mut Items<Member>, new: Added) -> Result<(), Memory>
     ensures { OnOk result (members.new ≡ members.old ++ added_members new) }
 {

@@ -19,7 +19,7 @@ use formula::Core;
 use linear_term::Memory;
 use std::alloc::Global;
 
-/// The body, and behind it the principal, used once more.
+/// The body, and after it the principal, used once more.
 pub fn gamma(alloc: Global, m: &Member, body: &Core, count: u32) -> Result<Added, Memory>
     requires over { m.now.over ≤ count }
     requires below { IsBelow (2 ^ 32 - (count - m.now.over)) (form body.now) }

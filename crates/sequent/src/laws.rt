@@ -28,7 +28,7 @@ pub fn tight_law()
         → AreTight (premises_at s i (Some m)) ds → (e : List ℤ) → length e ≡ s.count → RuleFalsity m.formula ds e → (w : Meaning) × AreFalse w e s.members }
 {}
 
-/// A formula over so many constants begins a well-formed sequent, and the premises of a well-formed sequent are well formed.
+/// A formula over this many constants begins a well-formed sequent, and the premises of a well-formed sequent are well formed.
 pub fn formed_law()
     ensures start { (f : Form) (n : ℕ) → IsFormOver n f → IsFormedSequent (sequent (member f n 0 ∷ []) n) }
     ensures premises { (s : Sequent) (i : ℕ) (m : Member) → IsFormedSequent s → slice_get s.members i ≡ Some m → AllByRecursion IsFormedSequent (premises_at s i (Some m)) }

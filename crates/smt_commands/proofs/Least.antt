@@ -1,4 +1,4 @@
--- The least fault of lists one behind another, and what the least fault of a list is.
+-- The least fault of lists one after another, and what the least fault of a list is.
 use Rattle.std.proofs.Common.{ℕ, ◌≡◌, ◌&&◌, ◌||◌, ◌⊎◌, inl, inr, Bool, true, false, List, [], ◌∷◌, ◌++◌, All, Contains, refl, sym, ap, subst, ◌∙◌, Option, Some, None, if◌then◌else◌, nat_eq, nat_lt, arith}
 use Rattle.std.proofs.lemmas.List.Elements.{Contains-get_or, Contains-append_right, All-cons}
 use Rattle.smt_commands.specs.declared.refusal.ScriptRefusal.{ScriptRefusal}
@@ -8,7 +8,7 @@ pub least_from-append : (found : Option ScriptRefusal) (xs ys : List ScriptRefus
 least_from-append found [] ys = refl
 least_from-append found (x ∷ xs) ys = least_from-append (Some (sooner found x)) xs ys
 
--- two, three and four lists, one behind another
+-- two, three and four lists, one after another
 pub two : (found : Option ScriptRefusal) (a b : List ScriptRefusal) (p q : Option ScriptRefusal) → p ≡ least_from found a → q ≡ least_from p b → q ≡ least_from found (a ++ b)
 two found a b p q e f = f ∙ ap (λ z. least_from z b) e ∙ sym (least_from-append found a b)
 

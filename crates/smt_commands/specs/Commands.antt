@@ -82,7 +82,7 @@ abbrev pub defines : Option Symbol → Option (List Expr) → Expr → Expr → 
 defines (Some f) (Some arguments) s t = defined f arguments s t (list_all is_argument arguments)
 defines _ _ s t = None
 
--- a command by its word and by what stands behind it
+-- a command by its word and by what stands after it
 abbrev pub command_by : Word → List Expr → Option CommandForm
 command_by w.SetLogic (l ∷ []) = skips (is_some (symbol_of l))
 command_by w.SetInfo (k ∷ []) = skips (is_keyword k)

@@ -12,7 +12,7 @@ use Rattle.smt_commands.specs.declared.table.Entry.{Entry}
 use Rattle.smt_commands.specs.Least.{least}
 use Rattle.smt_commands.specs.Symbols.{sort_of, after, declared_number, is_taken}
 
--- what terms are asked for: the faults of a term where a sort is needed, or any, behind these symbols and with these arguments
+-- what terms are asked for: the faults of a term where a sort is needed, or any, after these symbols and with these arguments
 -- of a definition bound around it; and whether a symbol occurs in it that no binder and none of the arguments hides
 pub record TermFaults : Type 0 where
   pub faults : List Entry → List Expr → Option Sort → Expr → List ScriptRefusal
@@ -64,7 +64,7 @@ declaration_faults table x sorts s = name_faults table x ++ many_faults table x 
 abbrev pub definition_faults : List Entry → Symbol → List Expr → Expr → List ScriptRefusal
 definition_faults table f arguments s = name_faults table f ++ flat_map argument_faults arguments ++ sort_faults true s
 
--- the faults of the command whose `(` is at this offset, behind these symbols
+-- the faults of the command whose `(` is at this offset, after these symbols
 abbrev pub command_faults : TermFaults → List Entry → ℕ → Option CommandForm → List ScriptRefusal
 command_faults terms table at None = r.Profile at ∷ []
 command_faults terms table at (Some (declare x sorts s)) = declaration_faults table x sorts s
@@ -80,12 +80,12 @@ form_in (Some es) = command_of es
 abbrev pub form : Expr → Option CommandForm
 form e = form_in (members_of e)
 
--- the symbols behind what may be a command
+-- the symbols after what may be a command
 abbrev pub behind : List Entry → Option CommandForm → List Entry
 behind table None = table
 behind table (Some f) = after table f
 
--- a refusal, or else that of the commands behind
+-- a refusal, or else that of the commands after
 abbrev pub or_later : Option ScriptRefusal → Option ScriptRefusal → Option ScriptRefusal
 or_later None later = later
 or_later (Some e) later = Some e
@@ -94,7 +94,7 @@ abbrev pub unless_exit : Option CommandForm → Option ScriptRefusal → Option 
 unless_exit (Some exit) later = None
 unless_exit _ later = later
 
--- the refusal of a script from a command on, behind these symbols: the least fault of the first command that has one, where
+-- the refusal of a script from a command on, after these symbols: the least fault of the first command that has one, where
 -- no `exit` stands before it
 abbrev pub refusal_from : TermFaults → List Entry → List Expr → Option ScriptRefusal
 refusal_from terms table [] = None

@@ -52,7 +52,7 @@ least_from found (e ∷ faults) = least_from (Some (sooner found e)) faults
 abbrev pub least : List ScriptRefusal → Option ScriptRefusal
 least = least_from None
 
--- the script is refused so; want of memory says nothing
+-- the script is refused so; running out of memory says nothing
 abbrev pub IsScriptRefused : ScriptRefusal → Option ScriptRefusal → Type 0
 IsScriptRefused r.Memory found = Unit {0}
 IsScriptRefused e found = found ≡ Some e

@@ -29,7 +29,7 @@ or_int (Some s) = s
 abbrev pub entry : Symbol → List Expr → Expr → Bool → Entry
 entry x arguments s defined = record { text = x.text; arity = length arguments; sort = or_int (sort_of s); defined = defined }
 
--- the symbols behind a command
+-- the symbols after a command
 abbrev pub after : List Entry → CommandForm → List Entry
 after table (declare x sorts s) = table ++ entry x sorts s false ∷ []
 after table (define f arguments s t) = table ++ entry f arguments s true ∷ []

@@ -48,7 +48,7 @@ pub fn read_command(members: &[Sexp]) -> Option<Command<'_>>
     by_word(word, rest)
 }
 
-/// The command of a word with these members behind it.
+/// The command of a word with these members after it.
 fn by_word(word: Word, rest: &[Sexp]) -> Option<Command<'_>>
     ensures exact { option_map form_of result ≡ command_by word (map expr rest.now) }
 {
@@ -175,7 +175,7 @@ fn assert(rest: &[Sexp]) -> Option<Command<'_>>
     alone(end, Command::Assert(term))
 }
 
-/// The command, where nothing stands behind it.
+/// The command, where nothing stands after it.
 fn alone<'a>(end: &[Sexp], command: Command<'a>) -> Option<Command<'a>>
     ensures exact { MatchOption result (end.now ≡ [] → ⊥) (λ c. (end.now ≡ []) × (form_of c ≡ form_of command.entry)) }
 {

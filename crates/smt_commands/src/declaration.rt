@@ -22,7 +22,7 @@ use std::alloc::Global;
 /// How many symbols may be declared.
 const MOST: u64 = MOST_SYMBOLS as u64;
 
-/// The first fault of a declaration behind these symbols; none where it may be made.
+/// The first fault of a declaration after these symbols; none where it may be made.
 pub fn declaration_refusal(
     table: &Table,
     name: Name<'_>,
@@ -37,7 +37,7 @@ pub fn declaration_refusal(
     with_sort_fault(found, sort, true)
 }
 
-/// The symbols behind a declaration, or its first fault.
+/// The symbols after a declaration, or its first fault.
 pub fn declare(
     alloc: Global,
     table: Table,

@@ -74,7 +74,7 @@ mutual
       ∙ one_read b most end n e back rest os (ms ++ before) one h (last_fits os before e g)
       ∙ ap (λ z. run b most end rest os z) (append_assoc ms before (e ∷ []) ∙ ap (λ z. ms ++ z) (sym is))
 
--- a script is read, if so many lists may be open
+-- a script is read, if this many lists may be open
 pub script_read : (b : List ℕ) (most end n : ℕ) (es : List Sexp) (tokens : List Lexeme) → IsScript b n es tokens → n ≤ most → run b most end tokens [] [] ≡ Ok es
 script_read b most end n es tokens p h =
     let room : length {A = Outer} [] + n ≤ most = omega (arith, h) in

@@ -27,7 +27,7 @@ come_on : (b : List ℕ) (most end : ℕ) (front rest : List Lexeme) (x : Lexeme
     → run b most end ((front ++ x ∷ []) ++ rest) [] [] ≡ whole
 come_on b most end front rest x whole e = ap (λ z. run b most end z [] []) (append_assoc front (x ∷ []) rest) ∙ e
 
--- no script goes on with a token that is refused in this state whatever comes behind it
+-- no script goes on with a token that is refused in this state whatever comes after it
 none_on : (b : List ℕ) (end n : ℕ) (os : List Outer) (es : List Sexp) (front : List Lexeme) (x : Lexeme) (e : ReadRefusal) → At b end n os es front
     → (m most : ℕ) → m ≤ most → 200 ≤ most → ((rest : List Lexeme) → run b most end (x ∷ rest) os es ≡ Err e) → BeginsScript b m (front ++ x ∷ []) → ⊥
 none_on b end n os es front x e a m most h k stops begins =
@@ -105,7 +105,7 @@ here_at end x tokens u e f = ap (λ z. if z then end else x.at) (e ∙ f)
 here_end : (end : ℕ) (x : Lexeme) (tokens : List Lexeme) → x.terminal ≡ t.Unfinished → place end (x ∷ tokens) ≡ end
 here_end end x tokens e = ap (λ z. if is_unfinished z then end else x.at) e
 
--- what comes of the tokens behind the next one
+-- what comes of the tokens after the next one
 abbrev Goes : List ℕ → ℕ → List Lexeme → Type 0
 Goes b end tokens = (front : List Lexeme) (n : ℕ) (os : List Outer) (es : List Sexp) → At b end n os es front → MeansLists b end (front ++ tokens) (run b 200 end tokens os es)
 

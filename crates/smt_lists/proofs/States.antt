@@ -12,7 +12,7 @@ use Rattle.smt_lists.specs.Atoms.{is_atom, atom_of}
 use Rattle.smt_lists.specs.Machine.{run, run_in, LeadsLists, StopsLists}
 use Rattle.smt_lists.proofs.Steps.{run_open, run_deep, run_close, run_surplus, run_bad, run_unfinished, run_atom, run_alone, run_end, run_short}
 
--- the last list is the first from behind
+-- the last list is the first from after
 last_first : (os : List Outer) (o : Outer) → reverse (os ++ o ∷ []) ≡ o ∷ reverse os
 last_first os o = reverse-append os (o ∷ [])
 

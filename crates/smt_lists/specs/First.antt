@@ -1,5 +1,5 @@
 -- The first refusal of a script: where, of its tokens in their order, the first one stands with which no script goes on, or
--- which opens one level too many. A token is judged by the tokens before it and by itself, never by those behind it.
+-- which opens one level too many. A token is judged by the tokens before it and by itself, never by those after it.
 use Rattle.std.specs.Prelude.{ℕ, ◌≡◌, Bool, true, false, List, [], ◌∷◌, ◌++◌, length, Result, Ok, Err, if◌then◌else◌}
 use Rattle.smt_tokens.specs.declared.terminals.Terminal.{Terminal}
 use Rattle.smt_tokens.specs.declared.terminals.Terminal.TheVariants as t
@@ -10,7 +10,7 @@ use Rattle.smt_lists.specs.declared.refusal.ReadRefusal.{ReadRefusal}
 use Rattle.smt_lists.specs.declared.refusal.ReadRefusal.TheVariants as refusal
 use Rattle.smt_lists.specs.Grammar.{IsScript}
 
--- some tokens behind these make them a script, in which lists stand at most n deep within each other
+-- some tokens after these make them a script, in which lists stand at most n deep within each other
 pub record BeginsScript (b : List ℕ) (n : ℕ) (front : List Lexeme) : Type 0 where
   pub more : List Lexeme
   pub lists : List Sexp
@@ -49,7 +49,7 @@ pub record ListsDeepAt (b : List ℕ) (tokens : List Lexeme) (at : ℕ) : Type 0
   pub fits : BeginsScript b 201 (front ++ x ∷ [])
   pub none : BeginsScript b 200 (front ++ x ∷ []) → ⊥
 
--- the tokens of a text that ends at this offset are refused first so; want of memory says nothing
+-- the tokens of a text that ends at this offset are refused first so; running out of memory says nothing
 abbrev pub IsFirst : List ℕ → ℕ → List Lexeme → ReadRefusal → Type 0
 IsFirst b end tokens (refusal.Syntax at) = ListsSyntaxAt b end tokens at
 IsFirst b end tokens (refusal.Deep at) = ListsDeepAt b tokens at

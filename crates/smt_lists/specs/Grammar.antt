@@ -17,7 +17,7 @@ mutual
         → x.terminal ≡ t.Open → SayAll b m es inner → y.terminal ≡ t.Close
         → n ≡ suc m → e ≡ s.List x.at es → tokens ≡ x ∷ inner ++ y ∷ [] → SaysSexp b n e tokens
 
-  -- the tokens are these S-expressions, one behind another
+  -- the tokens are these S-expressions, one after another
   pub data SayAll (b : List ℕ) : ℕ → List Sexp → List Lexeme → Type 0 where
     nothing : {n : ℕ} {all : List Sexp} {tokens : List Lexeme} → all ≡ [] → tokens ≡ [] → SayAll b n all tokens
     more : {n : ℕ} {all : List Sexp} {tokens : List Lexeme} (es : List Sexp) (e : Sexp) (front back : List Lexeme)

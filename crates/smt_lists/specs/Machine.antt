@@ -15,7 +15,7 @@ use Rattle.smt_lists.specs.Atoms.{atom_of}
 use Rattle.smt_lists.specs.Grammar.{IsScript}
 use Rattle.smt_lists.specs.First.{IsFirst}
 
--- what comes of the tokens behind the next one, by the lists that are open and the members so far
+-- what comes of the tokens after the next one, by the lists that are open and the members so far
 abbrev pub Go : Type 0
 Go = List Outer → List Sexp → Result (List Sexp) ReadRefusal
 
@@ -30,7 +30,7 @@ abbrev pub named : Atom → Go → Go
 named a go [] es = Err (refusal.Syntax a.at)
 named a go (o ∷ os) es = go (o ∷ os) (es ++ s.Atom a ∷ [])
 
--- what a token does: at most so many lists may be open, and the text ends at this offset
+-- what a token does: at most this many lists may be open, and the text ends at this offset
 abbrev pub taken : List ℕ → ℕ → ℕ → Lexeme → Terminal → Go → Go
 taken b most end x t.Open go os es = opened most x.at go os es
 taken b most end x t.Close go os es = closed x.at go os es
@@ -55,7 +55,7 @@ abbrev pub MeansLists : List ℕ → ℕ → List Lexeme → Result (List Sexp) 
 MeansLists b end tokens (Ok es) = IsScript b 200 es tokens
 MeansLists b end tokens (Err e) = IsFirst b end tokens e
 
--- the text is refused so; want of memory says nothing
+-- the text is refused so; running out of memory says nothing
 abbrev pub ListsFailWith : ReadRefusal → Result (List Sexp) ReadRefusal → Type 0
 ListsFailWith refusal.Memory outcome = Unit {0}
 ListsFailWith (refusal.Syntax at) outcome = outcome ≡ Err (refusal.Syntax at)

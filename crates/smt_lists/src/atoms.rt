@@ -39,7 +39,7 @@ pub fn atom(alloc: Global, bytes: &[u8], x: Lexeme) -> Result<Atom, AllocError>
     Ok(Atom { at: x.at, kind })
 }
 
-/// So many bytes of a text from an offset on.
+/// This many bytes of a text from an offset on.
 fn span(bytes: &[u8], at: u64, len: u64) -> &[u8]
     ensures { result.now ≡ span bytes.now at len }
 {

@@ -58,7 +58,7 @@ fn read(alloc: Global, bytes: &[u8], tokens: &[Lexeme]) -> Result<Items<Sexp>, R
     ended(bytes.len() as u64, state)
 }
 
-/// The state behind one more token.
+/// The state after one more token.
 #[tactic(auto, using(crate::proofs::States::bad_stops, crate::proofs::States::unfinished_stops))]
 fn step(alloc: Global, bytes: &[u8], x: Lexeme, state: State) -> Result<State, ReadRefusal>
     ensures runs { MatchResult result (λ new. LeadsLists bytes.now (length bytes.now) x state new) (λ e. StopsLists bytes.now (length bytes.now) x state e) }
@@ -78,7 +78,7 @@ fn step(alloc: Global, bytes: &[u8], x: Lexeme, state: State) -> Result<State, R
     }
 }
 
-/// The state behind a `(` at this offset.
+/// The state after a `(` at this offset.
 #[tactic(auto, using(crate::proofs::States::open_leads, crate::proofs::States::open_stops))]
 fn opened(alloc: Global, at: u64, state: State) -> Result<State, ReadRefusal>
     ensures runs { (bytes : List ℕ) (x : Lexeme) → x.at ≡ at → x.terminal ≡ t.Open → MatchResult result (λ new. LeadsLists bytes (length bytes) x state new) (λ e. StopsLists bytes (length bytes) x state e) }
@@ -97,7 +97,7 @@ fn opened(alloc: Global, at: u64, state: State) -> Result<State, ReadRefusal>
     })
 }
 
-/// The state behind a `)` at this offset.
+/// The state after a `)` at this offset.
 #[tactic(auto, using(crate::proofs::States::close_leads, crate::proofs::States::close_stops))]
 fn closed(at: u64, state: State) -> Result<State, ReadRefusal>
     ensures runs { (bytes : List ℕ) (x : Lexeme) → x.at ≡ at → x.terminal ≡ t.Close → MatchResult result (λ new. LeadsLists bytes (length bytes) x state new) (λ e. StopsLists bytes (length bytes) x state e) }
@@ -114,7 +114,7 @@ fn closed(at: u64, state: State) -> Result<State, ReadRefusal>
     })
 }
 
-/// The state behind an atom.
+/// The state after an atom.
 #[tactic(auto, using(crate::proofs::States::atom_leads, crate::proofs::States::atom_stops))]
 fn named(alloc: Global, bytes: &[u8], x: Lexeme, state: State) -> Result<State, ReadRefusal>
     requires { is_atom x.terminal ≡ true }

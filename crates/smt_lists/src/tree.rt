@@ -30,7 +30,7 @@ pub enum AtomKind {
     Hash,
     /// A string between quotes.
     StringLiteral,
-    /// A `:` with letters, digits and signs behind it.
+    /// A `:` with letters, digits and signs after it.
     Keyword,
     /// A symbol, by its name: what stands between the bars of a symbol in bars, else the text itself.
     Symbol(Items<u8>),

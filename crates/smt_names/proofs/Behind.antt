@@ -1,4 +1,4 @@
--- Bound names behind others.
+-- Bound names after others.
 use Rattle.std.proofs.Common.{◌≡◌, ℕ, zero, suc, ◌+◌, ◌<◌, true, false, List, [], ◌∷◌, ◌++◌, map, length, nat_eq, refl, sym, ap, ap₂, ◌∙◌, take, get_or, arith, append_assoc, append-nil, length-append}
 use mathlib.Core.Path.{fun_ext}
 use Rattle.std.proofs.lemmas.List.{map-append, take_more}
@@ -22,7 +22,7 @@ pub bound-more : (D : Calls) (e : List Standing) (xs : List Body) (x : Body)
     → bound_said D e (shapes_of (xs ++ x ∷ [])) ≡ bound_said D e (shapes_of xs) ++ shape_said D (bound_said D e (shapes_of xs)) (shape x) ∷ []
 bound-more D e xs x = bound-append D e xs (x ∷ [])
 
--- they stand behind those around them
+-- they stand after those around them
 pub bound-behind : (D : Calls) (e : List Standing) (xs : List Body) → (more : List Standing) × (bound_said D e (shapes_of xs) ≡ e ++ more) × (length more ≡ length xs)
 bound-behind D e [] = ([], sym (append-nil e), refl)
 bound-behind D e (x ∷ xs) =
@@ -51,7 +51,7 @@ entry-other [] x (suc k) d h = refl
 entry-other (y ∷ e) x zero d h = refl
 entry-other (y ∷ e) x (suc k) d h = entry-other e x k d (λ is. h (ap suc is))
 
--- a leaf is the same with more names behind
+-- a leaf is the same with more names after
 pub leaf-left : (e more : List Standing) (x : Leaf) → IsLeafWithin (length e) x → leaf_said (e ++ more) x ≡ leaf_said e x
 leaf-left e more (l.Slot k) h = fun_ext (λ n. ap (λ z. z n) (entry-left e more k nothing h))
 leaf-left e more (l.Number v) h = fun_ext (λ n. refl)

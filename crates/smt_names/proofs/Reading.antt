@@ -43,7 +43,7 @@ pub within-onto : (n : ℕ) (xs : List Named) (ls : BoundNames) → AreLeavesWit
 within-onto n [] ls h k = k
 within-onto n (x ∷ xs) ls h k = within-onto n xs ((x.text.now, x.leaf) ∷ ls) h.1 (h.0, k)
 
--- the same with more names behind
+-- the same with more names after
 pub names-left : (e more : List Standing) (ls : BoundNames) → AreWithin (length e) ls → names_in (e ++ more) ls ≡ names_in e ls
 names-left e more [] h = refl
 names-left e more (x ∷ ls) h = ap₂ (λ s z. (x.0, s) ∷ z) (leaf-left e more x.1 h.0) (names-left e more ls h.1)

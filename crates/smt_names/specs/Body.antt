@@ -16,7 +16,7 @@ mutual
     predicate : ℕ → Shapes → Shape
     defined : ℕ → Shapes → Shape
     let_in : Shapes → Shape → Shape
-    -- over so many names, true for `forall`
+    -- over this many names, true for `forall`
     quantified : Bool → ℕ → Shape → Shape
 
   -- a list of them

@@ -17,7 +17,7 @@ use Rattle.smt_names.specs.Symbols.{Agrees}
 abbrev pub Resolves : {X : Type 0} → Symbols → List Body → BoundNames → ℕ → (Calls → List Standing → X) → (Writer → Replacements → X) → Type 0
 Resolves s ds ls n F G = (gs : Globals) (e : List Standing) → Agrees gs s ds → AreWithin n ls → length e ≡ n → F (calls_of ds) e ≡ G (symbol_said gs) (names_in e ls)
 
--- the names of a `let` stand for what they are bound to, behind those around them
+-- the names of a `let` stand for what they are bound to, after those around them
 abbrev pub AreRead : Symbols → List Body → BoundNames → ℕ → List Binding → Read → Type 0
 AreRead s ds ls n bs r = (length r.leaves.items ≡ length bs) × (r.count ≡ n + length r.kept) × AreLeavesWithin r.count r.leaves.items
     × ((gs : Globals) (e : List Standing) → Agrees gs s ds → AreWithin n ls → length e ≡ n

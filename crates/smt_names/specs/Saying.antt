@@ -24,12 +24,12 @@ abbrev pub quantified_by : Bool → Formula → Formula
 quantified_by true f = logic.for_all sort.Int f
 quantified_by false f = logic.for_some sort.Int f
 
--- so many of them
+-- this many of them
 abbrev pub quantified_over : Bool → ℕ → Formula → Formula
 quantified_over all zero f = f
 quantified_over all (suc k) f = quantified_by all (quantified_over all k f)
 
--- the bound names with so many variables more, the first of which is the name n
+-- the bound names with this many variables more, the first of which is the name n
 abbrev pub with_variables : ℕ → List Standing → ℕ → List Standing
 with_variables zero e n = e
 with_variables (suc k) e n = with_variables k (e ++ variable n ∷ []) (suc n)

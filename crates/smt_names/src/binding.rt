@@ -1,4 +1,4 @@
-// What is said behind names that `let` binds, as short as it can be said.
+// What is said after names that `let` binds, as short as it can be said.
 
 ghost use Rattle.std.specs.Prelude.{◌≡◌, ◌+◌, ◌++◌, ℕ, List, IfOk, length, true};
 ghost use Rattle.smt_terms.specs.Translation.{Standing};
@@ -12,7 +12,7 @@ use linear_term::Memory;
 use sqlite_items::{Boxed, Items};
 use std::alloc::Global;
 
-/// A body behind bindings; where it has bindings itself, they join these.
+/// A body after bindings; where it has bindings itself, they join these.
 fn behind(alloc: Global, mut kept: Items<Body>, body: Body) -> Result<Body, Memory>
     ensures { IfOk result (λ b. (D : Calls) (e : List Standing) (n : ℕ)
         → shape_said D e (shape b) n ≡ shape_said D (bound_said D e (shapes_of kept)) (shape body) n) }
@@ -44,7 +44,7 @@ fn is_slot(leaf: Leaf, count: u32, more: usize) -> bool
 /// What is not used.
 fn forget(_body: Body) {}
 
-/// A leaf behind bindings: where it is one of their names, what that one is bound to, behind those before it.
+/// A leaf after bindings: where it is one of their names, what that one is bound to, after those before it.
 fn leaf_behind(alloc: Global, count: u32, mut kept: Items<Body>, leaf: Leaf) -> Result<Body, Memory>
     ensures { IfOk result (λ b. (D : Calls) (e : List Standing) (n : ℕ) → length e ≡ count
         → shape_said D e (shape b) n ≡ leaf_said (bound_said D e (shapes_of kept)) leaf n) }
@@ -82,7 +82,7 @@ fn are_within(bodies: &[Body], count: u32) -> bool
     true
 }
 
-/// A body behind bindings, where so many names are bound around them.
+/// A body after bindings, where this many names are bound around them.
 pub(crate) fn bind(alloc: Global, count: u32, kept: Items<Body>, body: Body) -> Result<Body, Memory>
     ensures { IfOk result (λ b. (D : Calls) (e : List Standing) (n : ℕ) → length e ≡ count
         → shape_said D e (shape b) n ≡ shape_said D (bound_said D e (shapes_of kept)) (shape body) n) }

@@ -12,7 +12,7 @@ pub enum Leaf {
     Truth(bool),
     /// An Int constant, by its number.
     Constant(u32),
-    /// A bound name. Those of a defined function come first, from 0 on, then what `let` and quantifiers bind, each behind those
+    /// A bound name. Those of a defined function come first, from 0 on, then what `let` and quantifiers bind, each after those
     /// around it.
     Slot(u32),
 }
@@ -31,6 +31,6 @@ pub enum Body {
     Defined(u32, Items<Body>),
     /// Each of these is bound, in order, and may use those before it; then what is said with all of them.
     Let(Items<Body>, Boxed<Body>),
-    /// A quantifier over so many names, true for `forall`.
+    /// A quantifier over this many names, true for `forall`.
     Quantified(bool, u32, Boxed<Body>),
 }

@@ -1,4 +1,4 @@
-// What is known of a script behind its commands so far: its symbols, and what its defined functions say.
+// What is known of a script after its commands so far: its symbols, and what its defined functions say.
 
 ghost use Rattle.std.specs.Prelude.{◌≡◌, ◌+◌, ◌++◌, ◌∷◌, [], IfOk, false, length, take};
 ghost use Rattle.base_texts.specs.Texts.{is_among};
@@ -89,7 +89,7 @@ impl Known {
         self.symbols.contains(text)
     }
 
-    /// Behind the declaration of a symbol that is not known yet.
+    /// After the declaration of a symbol that is not known yet.
     pub fn declare(self, alloc: Global, text: &[u8], declared: Declared) -> Result<Known, Memory>
         ensures knows { IfOk result (λ k. (gs : Globals) → Knows self gs → is_among text.now self.symbols.texts ≡ false → Knows k ((text.now, declared_as declared) ∷ gs)) }
         ensures texts { IfOk result (λ k. is_among text.now self.symbols.texts ≡ false → k.symbols.texts ≡ self.symbols.texts ++ text.now ∷ []) }
@@ -106,7 +106,7 @@ impl Known {
         })
     }
 
-    /// Behind the definition of a function of these names that is not known yet.
+    /// After the definition of a function of these names that is not known yet.
     pub fn define(
         self,
         alloc: Global,

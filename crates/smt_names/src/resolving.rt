@@ -114,7 +114,7 @@ fn named<'a>(
     Ok(names)
 }
 
-/// What a term says where these names are bound, so many of them by number.
+/// What a term says where these names are bound, this many of them by number.
 #[cycle(resolve)]
 pub(crate) fn resolve(
     alloc: Global,

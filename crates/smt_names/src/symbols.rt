@@ -81,7 +81,7 @@ impl Symbols {
         })
     }
 
-    /// These symbols behind one definition more, whose body uses these of its bound names.
+    /// These symbols after one definition more, whose body uses these of its bound names.
     pub(crate) fn with_used(self, used: Items<bool>) -> Result<Symbols, Memory>
         ensures texts { IfOk result (λ s. s.texts ≡ self.texts) }
         ensures meant { IfOk result (λ s. s.meant.items ≡ self.meant.items) }

@@ -42,7 +42,7 @@ record ClaimFormed (c : ℕ) (fs ps : List Symbol) (claim : Claim) : Type 0 wher
   ranged : IsRangedPhrase claim.term
   none : term_faults table [] (Some sort.Bool) claim.term ≡ []
 
--- what commands came to, behind the symbols of a table
+-- what commands came to, after the symbols of a table
 record StateFormed (g : List Entry) (s : State) : Type 0 where
   linked : Linked (length s.constants) (symbols s.functions) (symbols s.predicates) g s.globals
   counted : declared_number g ≡ length s.constants + length s.functions + length s.predicates
@@ -189,7 +189,7 @@ later_none : (a later : Option ScriptRefusal) → or_later a later ≡ None → 
 later_none None later e = e
 later_none (Some x) later e = absurd (cc)
 
--- what the commands behind come to
+-- what the commands after come to
 abbrev Goes : List Expr → Type 0
 Goes es = (g : List Entry) (s : State) → StateFormed g s → refusal_from script_terms g es ≡ None → All IsFormedCheck (checks_from s (commands_of es))
 

@@ -1,4 +1,4 @@
--- What is held of assertions stays so behind further definitions.
+-- What is held of assertions stays so after further definitions.
 use Rattle.std.proofs.Common.{ℕ, ◌≡◌, ◌≤◌, List, [], ◌∷◌, ◌++◌, length, take, refl, sym, ap, subst, ◌∙◌, arith}
 use Rattle.std.proofs.lemmas.List.{length-take, take-take}
 use Rattle.smt_terms.specs.Scripts as scripts

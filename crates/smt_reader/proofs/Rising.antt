@@ -24,7 +24,7 @@ use Rattle.smt_reader.proofs.Forms.{command_faults_at}
 
 -- Tokens.
 
--- the tokens stand one behind another from an offset on and up to another
+-- the tokens stand one after another from an offset on and up to another
 abbrev Rising : ℕ → List Lexeme → ℕ → Type 0
 Rising low [] high = low ≤ high
 Rising low (x ∷ xs) high = low ≤ x.at × Rising (suc x.at) xs high
@@ -74,7 +74,7 @@ mutual
   all_wider a b c d h k no_expr l = tt
   all_wider a b c d h k (and_expr e es) l = (wider a b c d h k e l.0, all_wider a b c d h k es l.1)
 
--- S-expressions stand one behind another
+-- S-expressions stand one after another
 abbrev Rows : ℕ → List Expr → ℕ → Type 0
 Rows low [] high = low ≤ high
 Rows low (e ∷ es) high = (middle : ℕ) × (low ≤ middle) × ExprAt (In low middle) e × Rows middle es high
@@ -144,7 +144,7 @@ least_before : (found : Option ScriptRefusal) (low high : ℕ) (xs : List Script
 least_before found low high [] h k = h
 least_before found low high (x ∷ xs) h k = least_before (Some (sooner found x)) low high xs (sooner_before found x high h k.0.1) k.1
 
--- what stands behind does not come before
+-- what stands after does not come before
 not_before : (a m b n : ℕ) → b < a → (nat_lt a b || nat_eq a b && nat_lt m n) ≡ false
 not_before a m b n h = grind (arith, h)
 

@@ -166,7 +166,7 @@ not_told r.Large h = absurd (cc)
 not_told (r.Profile at) h = absurd (cc)
 not_told r.Memory h = refl
 
--- a script without faults is refused for want of memory alone
+-- a script without faults is refused for lack of memory alone
 pub only_memory : (bytes : List ℕ) (es : List Sexp) (a : ScriptRefusal) → IsScriptText bytes es → refusal_of script_terms (map expr es) ≡ None → RefusesScript script_terms bytes a → a ≡ r.Memory
 only_memory bytes es a said fits (inl t) = no_tokens bytes es a said t
 only_memory bytes es a said fits (inr c) =

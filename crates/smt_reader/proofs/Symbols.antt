@@ -20,7 +20,7 @@ use Rattle.smt_reader.proofs.Sound.{IsSaid, terms_of, terms_everywhere}
 use Rattle.smt_reader.proofs.Faultless.{needed_is, none_both}
 use Rattle.smt_reader.proofs.Terms.{IsRangedPhrase, Good, AreGood, AreFormed, none, one, SymbolsFormed, formed, said_at}
 
--- The first symbol of a text behind one more.
+-- The first symbol of a text after one more.
 
 size_of : (ts : List Expression) → size (expressions ts) ≡ length ts
 size_of [] = refl
@@ -57,7 +57,7 @@ found_here x (d ∷ g) e y h k n = by (is_text x d.text) (found_here x g e y) h 
     by false ih p q = ih p k q
 
 module _ (c : ℕ) (functions predicates : List Symbol) where
-  -- a symbol of the table means this, behind the symbols before it
+  -- a symbol of the table means this, after the symbols before it
   abbrev pub Links : List Entry → Entry → Meant → Type 0
   Links g e (constant_of k) = (e.arity ≡ 0) × (e.sort ≡ sort.Int) × (k < c)
   Links g e (function_of k) = (e.sort ≡ sort.Int) × (1 ≤ e.arity) × HasArity functions k e.arity

@@ -6,7 +6,7 @@ use Rattle.smt_sizes.specs.declared.size.Size.TheVariants.{Large, Fits}
 use Rattle.smt_sizes.specs.Size.{beside, nothing}
 use Rattle.smt_sizes.specs.Sizes.{all_sizes, size}
 
--- so many nodes, unless those are too many
+-- this many nodes, unless those are too many
 abbrev counted : ℕ → ℕ → Size
 counted n l = if nat_le n 1000000 then Fits n l else Large
 

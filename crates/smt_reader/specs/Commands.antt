@@ -14,7 +14,7 @@ use Rattle.smt_typing.specs.Reading.{phrase_of}
 abbrev pub script_terms : TermFaults
 script_terms = record { faults = script_faults; uses = script_uses }
 
--- a command before those behind it; nothing comes behind an `exit`
+-- a command before those after it; nothing comes after an `exit`
 abbrev pub with_form : Option CommandForm → List Command → List Command
 with_form (Some (form.declare x sorts s)) cs = declare x.text (length sorts) (or_int (sort_of s)) ∷ cs
 with_form (Some (form.define f arguments s t)) cs = define f.text (names_in arguments) (or_int (sort_of s)) (phrase_of t) ∷ cs

@@ -44,7 +44,7 @@ IsNewSymbol texts (define x xs k t) = is_among x texts ≡ false
 IsNewSymbol texts (claim t) = Unit {0}
 IsNewSymbol texts check = Unit {0}
 
--- the symbols behind a command
+-- the symbols after a command
 abbrev pub texts_behind : List (List ℕ) → Command → List (List ℕ)
 texts_behind texts (declare x n k) = texts ++ x ∷ []
 texts_behind texts (define x xs k t) = texts ++ x ∷ []

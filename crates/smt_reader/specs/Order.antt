@@ -6,12 +6,12 @@ use Rattle.smt_commands.specs.declared.table.Entry.{Entry}
 use Rattle.smt_commands.specs.Commands.{CommandForm, exit}
 use Rattle.smt_commands.specs.Faults.{TermFaults, behind, command_faults, form}
 
--- what comes behind a command, unless that ends the script
+-- what comes after a command, unless that ends the script
 abbrev pub unless_end : Option CommandForm → List ScriptRefusal → List ScriptRefusal
 unless_end (Some exit) later = []
 unless_end _ later = later
 
--- the faults of all commands up to an `exit`, each behind the symbols of those before it
+-- the faults of all commands up to an `exit`, each after the symbols of those before it
 abbrev pub all_faults : TermFaults → List Entry → List Expr → List ScriptRefusal
 all_faults terms table [] = []
 all_faults terms table (e ∷ es) = command_faults terms table (place_of e) (form e) ++ unless_end (form e) (all_faults terms (behind table (form e)) es)

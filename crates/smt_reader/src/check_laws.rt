@@ -16,7 +16,7 @@ ghost use Rattle.std.specs.Prelude.{◌≡◌, List, [], ℕ, None, All, length,
 
 /// Where a text is a script whose commands and terms have no fault, at each of its checks few symbols are declared, and the
 /// formula is sound: its numbers are in the range, its names are constants and bound variables, its functions and predicates
-/// are declared with so many arguments, its sums have members, and its products are linear.
+/// are declared with this many arguments, its sums have members, and its products are linear.
 #[tactic(auto, using(crate::proofs::Texts::text_checks))]
 pub fn checks_law()
     ensures { (bytes : List ℕ) (lists : List Sexp) → IsScriptText bytes lists → refusal_of script_terms (map expr lists) ≡ None

@@ -19,7 +19,7 @@ use smt_terms::{Sort, Term, Variable};
 use sqlite_items::Items;
 use std::alloc::Global;
 
-/// An asserted term: what it says over so many of the functions that are defined in the end.
+/// An asserted term: what it says over this many of the functions that are defined in the end.
 #[derive(Drop)]
 pub struct Assertion {
     pub body: Body,
@@ -67,7 +67,7 @@ fn number(place: usize) -> Result<u32, Memory>
     Ok(place as u32)
 }
 
-// A symbol with so many arguments.
+// A symbol with this many arguments.
 fn symbol(alloc: Global, text: &[u8], arity: u64) -> Result<Symbol, Memory>
     ensures { IfOk result (λ s. s ≡ record { name = text.now; arity = arity }) }
 {

@@ -25,7 +25,7 @@ pub struct Script {
     pub checks: Items<Problem>,
 }
 
-// The first ones of the defined functions, so many.
+// The first ones of the defined functions, this many.
 fn first_ones(definitions: &[Body], count: usize) -> &[Body]
     ensures { count ≤ length definitions.now → result.now ≡ take count definitions.now }
 {
@@ -36,7 +36,7 @@ fn first_ones(definitions: &[Body], count: usize) -> &[Body]
     }
 }
 
-// The formulas of assertions, where so many constants are declared.
+// The formulas of assertions, where this many constants are declared.
 fn assertions(
     alloc: Global,
     definitions: &[Body],
@@ -64,7 +64,7 @@ fn types(alloc: Global, names: &[Items<u8>]) -> Result<Items<Sort>, Memory>
     Ok(out)
 }
 
-/// The problem of a check behind the commands so far.
+/// The problem of a check after the commands so far.
 pub(crate) fn pose(alloc: Global, reading: &Reading) -> Result<Problem, Memory>
     ensures { IfOk result (λ p. (s : State) → FollowsState reading.now s → IsCheckPosed s p) }
 {

@@ -30,7 +30,7 @@ struct Gathered {
     size: Size,
 }
 
-// The checks with one more behind these commands; none where their formulas are too large together.
+// The checks with one more after these commands; none where their formulas are too large together.
 fn with_check(
     alloc: Global,
     reading: &Reading,
@@ -48,7 +48,7 @@ fn with_check(
     Ok(Some(Gathered { problems, size }))
 }
 
-// The checks behind a command more.
+// The checks after a command more.
 fn behind_effect(
     alloc: Global,
     reading: &Reading,

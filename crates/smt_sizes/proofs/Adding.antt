@@ -103,7 +103,7 @@ each-first f g k w xs ys c us ig ik =
     ap (λ z. plus (value z xs) (times w (combined us ys))) ig ∙ ap (λ z. plus z (times w (combined us ys))) (and-value k f xs ∙ ap (plus (value f xs)) ik)
     ∙ plus-regrouped (value f xs) (times w c) (times w (combined us ys)) ∙ ap (plus (value f xs)) (sym (times-plus w c (combined us ys)))
 
--- Nothing, with so many names.
+-- Nothing, with this many names.
 
 combined-blank : (n : ℕ) (xs : List Weight) → combined (replicate n nothing) xs ≡ nothing
 combined-blank zero xs = refl

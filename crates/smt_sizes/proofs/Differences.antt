@@ -133,7 +133,7 @@ with-each m b w (z ∷ ys) =
     ∙ crossed (plus n a) u (plus ns (second m b ys)) (ones m b w ys)
     ∙ ap₂ plus (crossed n a ns (second m b ys) ∙ ap₂ plus (one-more (length (kinds ys)) n (unit-times m node)) (second-more m b z ys)) (ones-more m b w z ys t)
 
--- Each with those behind it.
+-- Each with those after it.
 
 of-kind-none : (m : Weight) (b : Bool) (ys : List Weighed) → number_of b (kinds ys) ≡ 0 → of_kind m b ys ≡ nothing
 of-kind-none m b [] h = refl
@@ -152,7 +152,7 @@ but-one m b ys (suc n) h =
     let is : suc n - 1 ≡ n = omega arith in
     ap (λ k. plus (of_kind m b ys) (times (many k) (of_kind m b ys))) is ∙ one-more n (of_kind m b ys) (of-kind-unit m b ys)
 
--- one of a kind before those behind it
+-- one of a kind before those after it
 one-before : (m : Weight) (b : Bool) (w : Weight) (ys : List Weighed)
     → plus (ones m b w ys) (times (many (number_of b (kinds ys) - 1)) (of_kind m b ys)) ≡ times (many (suc (number_of b (kinds ys)) - 1)) (plus (times (place m b) w) (of_kind m b ys))
 one-before m b w ys =

@@ -27,7 +27,7 @@ member-parts [] i d h = absurd (omega arith)
 member-parts (b ∷ bs) zero d h = omega arith
 member-parts (b ∷ bs) (suc i) d h = omega (arith, member-parts bs i d (omega arith))
 
--- a body behind those before it
+-- a body after those before it
 pub before-parts : (bs : List Body) (i : ℕ) (d : Body) → i < length bs → total_parts (take i bs) + parts (shape (get_or bs i d)) < total_parts bs
 before-parts [] i d h = absurd (omega arith)
 before-parts (b ∷ bs) zero d h = omega arith

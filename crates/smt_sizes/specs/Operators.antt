@@ -50,7 +50,7 @@ abbrev pub each : Bool → Weight → Weight → List Bool → Sum → Sum
 each want k c [] f = f
 each want k c (b ∷ bs) f = each want k c bs (added want b k c f)
 
--- grouped to the left: each argument so many levels, and one step more, above the next one
+-- grouped to the left: each argument this many levels, and one step more, above the next one
 abbrev pub falls : Bool → ℕ → Weight → List Bool → Sum → Sum
 falls want s k [] f = f
 falls want s k (b ∷ bs) f = falls want s k bs (added want b (times (up (s * length bs)) k) (up (s * suc (length bs))) f)

@@ -34,12 +34,12 @@ operated o xs = record { is_formula = operator_kind o (kinds xs); weight = value
 abbrev pub applied : List Bool → Sum
 applied bs = each false nothing node bs (start node)
 
--- so many nodes over something, each over the next
+-- this many nodes over something, each over the next
 abbrev pub raised : ℕ → Weight → Weight
 raised zero w = w
 raised (suc k) w = over (raised k w)
 
--- the bound names with so many variables more
+-- the bound names with this many variables more
 abbrev pub with_variables : ℕ → List Weighed → List Weighed
 with_variables zero ws = ws
 with_variables (suc k) ws = with_variables k (ws ++ term_of node ∷ [])

@@ -1,5 +1,5 @@
 -- How much is written: nodes, and one more than the level of the lowest of them, both up to just above the limits of a script.
--- As a factor: so many copies, each so many levels further down, and one.
+-- As a factor: this many copies, each this many levels further down, and one.
 use Rattle.std.specs.Prelude.{ℕ, zero, suc, ◌+◌, ◌*◌, ◌-◌, ◌&&◌, min, max, nat_lt, if◌then◌else◌}
 use Rattle.smt_sizes.specs.declared.size.Size.{Size}
 use Rattle.smt_sizes.specs.declared.size.Size.TheVariants.{Large, Fits}
@@ -26,15 +26,15 @@ onward (suc r) (suc s) = suc (r + s)
 unfoldable pub plus : Weight → Weight → Weight
 plus a b = record { nodes = min (a.nodes + b.nodes) 1000001; reach = max a.reach b.reach }
 
--- so many copies of it, so far down
+-- this many copies of it, so far down
 unfoldable pub times : Weight → Weight → Weight
 times a b = record { nodes = min (a.nodes * b.nodes) 1000001; reach = min (onward a.reach b.reach) 2002 }
 
--- so many copies where they are
+-- this many copies where they are
 abbrev pub many : ℕ → Weight
 many n = record { nodes = min n 1000001; reach = min n 1 }
 
--- one copy so many levels further down
+-- one copy this many levels further down
 abbrev pub up : ℕ → Weight
 up n = record { nodes = 1; reach = suc (min n 2001) }
 

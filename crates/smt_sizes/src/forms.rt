@@ -37,7 +37,7 @@ pub struct Forms {
     forms: Vec<Form>,
 }
 
-/// So many terms.
+/// This many terms.
 fn terms(alloc: Global, count: u32) -> Result<Vec<bool>, Memory>
     ensures { IfOk result (λ bs. bs.items ≡ replicate count false) }
 {
@@ -48,7 +48,7 @@ fn terms(alloc: Global, count: u32) -> Result<Vec<bool>, Memory>
     Ok(out)
 }
 
-/// How much a body writes at so many terms.
+/// How much a body writes at this many terms.
 fn form_of(
     alloc: Global,
     defined: &Defined<'_>,
@@ -74,7 +74,7 @@ impl Forms {
         }
     }
 
-    /// Behind one definition more: the last one of these, over so many arguments.
+    /// After one definition more: the last one of these, over this many arguments.
     pub fn define(
         self,
         alloc: Global,

@@ -27,7 +27,7 @@ pub(crate) fn each(
     Ok(all)
 }
 
-/// One copy so many steps further down.
+/// One copy this many steps further down.
 pub(crate) fn climbed(step: usize, levels: usize) -> Weight
     ensures { result ≡ weight.up (step * levels) }
 {

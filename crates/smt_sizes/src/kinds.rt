@@ -27,7 +27,7 @@ fn leaf_kind(scope: &[bool], leaf: Leaf) -> bool
     }
 }
 
-/// Whether a form is one of so many arguments, and all of these are terms.
+/// Whether a form is one of this many arguments, and all of these are terms.
 pub(crate) fn serves(form: &Form, kinds: &[bool]) -> bool
     ensures { result ≡ true → (xs : List Weighed) → kinds.now ≡ linear.kinds xs → AreTerms xs × (length xs ≡ length form.now.linear.uses.items) }
 {
@@ -119,7 +119,7 @@ fn kind_call(alloc: Global, defined: &Defined<'_>, found: Vec<bool>, k: u32) -> 
     kind(alloc, &inner, &mut scope, &definitions[i])
 }
 
-/// Whether a body behind bindings does.
+/// Whether a body after bindings does.
 #[cycle(kind)]
 pub(crate) fn kind_let(
     alloc: Global,

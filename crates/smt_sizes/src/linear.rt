@@ -7,7 +7,7 @@ use crate::weight::{NODE, NOTHING, Weight, plus, times};
 use linear_term::Memory;
 use std::alloc::Global;
 
-/// A weight and so many of each of some others.
+/// A weight and this many of each of some others.
 #[derive(Drop)]
 pub struct Linear {
     pub constant: Weight,

@@ -32,7 +32,7 @@ fn in_pairs(below: Weight, kinds: &[bool], kind: bool) -> Weight
     times(many(others), times(below, if kind { up(2) } else { NODE }))
 }
 
-/// The second nodes of one and those behind it.
+/// The second nodes of one and those after it.
 fn seconds(below: Weight, kind: bool, formulas: usize) -> Weight
     ensures { result ≡ (if kind then weight.times (weight.many formulas) (weight.times below (weight.up 2)) else NOTHING) }
 {

@@ -22,7 +22,7 @@ pub(crate) fn and(mut all: Linear, more: Weight) -> Linear
     all
 }
 
-/// With a bound name, so many times and so far down.
+/// With a bound name, this many times and so far down.
 fn and_slot(mut all: Linear, weight: Weight, k: u32) -> Linear
     ensures count { length result.uses.items ≡ length all.uses.items }
     ensures value { (ws : List Weighed) → length all.uses.items ≡ length ws
@@ -37,7 +37,7 @@ fn and_slot(mut all: Linear, weight: Weight, k: u32) -> Linear
     all
 }
 
-/// With a leaf, so many times and so far down.
+/// With a leaf, this many times and so far down.
 pub(crate) fn and_leaf(all: Linear, weight: Weight, leaf: Leaf) -> Linear
     ensures count { length result.uses.items ≡ length all.uses.items }
     ensures value { (ws : List Weighed) → length all.uses.items ≡ length ws

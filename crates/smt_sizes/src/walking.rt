@@ -1,4 +1,4 @@
-// How much a body writes, gone down from the top: with what stands so many times, and so far down, of each part.
+// How much a body writes, gone down from the top: with what stands this many times, and so far down, of each part.
 
 ghost use Rattle.std.specs.Prelude.{◌≡◌, ◌+◌, ◌-◌, ◌≤◌, List, IfOk, length, take, get_or, replicate, true};
 ghost use Rattle.smt_names.specs.Body.{shape, shapes_of};
@@ -31,7 +31,7 @@ fn is_nothing(weight: Weight) -> bool
     weight.nodes == 0 && weight.reach == 0
 }
 
-/// So many copies of an argument.
+/// This many copies of an argument.
 fn factor(weight: Weight, factors: &Linear, i: usize) -> Weight
     ensures { result ≡ weights.times weight (get_or factors.now.uses.items i NOTHING) }
 {
@@ -42,7 +42,7 @@ fn factor(weight: Weight, factors: &Linear, i: usize) -> Weight
     }
 }
 
-/// Nothing, with so many bound names.
+/// Nothing, with this many bound names.
 pub(crate) fn blank(alloc: Global, count: usize) -> Result<Linear, Memory>
     ensures uses { IfOk result (λ l. l.uses.items ≡ replicate count NOTHING) }
     ensures constant { IfOk result (λ l. l.constant ≡ NOTHING) }
@@ -54,7 +54,7 @@ pub(crate) fn blank(alloc: Global, count: usize) -> Result<Linear, Memory>
     Ok(all)
 }
 
-/// What is written with so many nodes over something that stands so many times; and how often and how far down it stands then.
+/// What is written with this many nodes over something that stands this many times; and how often and how far down it stands then.
 fn raise(all: Linear, weight: Weight, count: u32) -> (Linear, Weight)
     ensures uses { result.0.uses.items ≡ all.uses.items }
     ensures value { (a : declared.Weight) (xs : List declared.Weight)
@@ -69,7 +69,7 @@ fn raise(all: Linear, weight: Weight, count: u32) -> (Linear, Weight)
     (out, here)
 }
 
-/// Names for so many variables.
+/// Names for this many variables.
 fn variables(alloc: Global, count: u32) -> Result<Items<Body>, Memory>
     ensures { IfOk result (λ bs. bs ≡ replicate count (Body.Leaf (Leaf.Constant 0))) }
 {
@@ -80,7 +80,7 @@ fn variables(alloc: Global, count: u32) -> Result<Items<Body>, Memory>
     Ok(out)
 }
 
-/// With what a body writes, so many times and so far down.
+/// With what a body writes, this many times and so far down.
 #[cycle(walk)]
 pub(crate) fn walk(
     alloc: Global,
@@ -229,7 +229,7 @@ fn walk_call(
     )
 }
 
-/// With a body behind bindings.
+/// With a body after bindings.
 #[cycle(walk)]
 fn walk_let(
     alloc: Global,
@@ -249,7 +249,7 @@ fn walk_let(
     close_names(alloc, &*defined, &mut *scope, inside, &*bodies)
 }
 
-/// With a quantifier over so many variables.
+/// With a quantifier over this many variables.
 #[cycle(walk)]
 fn walk_quantified(
     alloc: Global,

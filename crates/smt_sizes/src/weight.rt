@@ -11,8 +11,8 @@ const NODES: u64 = 1_000_001;
 /// One more than the levels of a script with one level too many.
 const REACH: u64 = 2_002;
 
-/// Nodes, and one more than the level of the lowest of them; no reach where there is nothing. As a factor it stands for so many
-/// copies, each so many levels further down.
+/// Nodes, and one more than the level of the lowest of them; no reach where there is nothing. As a factor it stands for this many
+/// copies, each this many levels further down.
 #[derive(Clone, Copy, Debug, PartialEq, Eq)]
 pub struct Weight {
     pub nodes: u64,
@@ -55,7 +55,7 @@ pub(crate) fn times(a: Weight, b: Weight) -> Weight
     }
 }
 
-/// So many copies where they are.
+/// This many copies where they are.
 pub(crate) fn many(count: usize) -> Weight
     ensures { result ≡ many count }
 {
@@ -66,7 +66,7 @@ pub(crate) fn many(count: usize) -> Weight
     }
 }
 
-/// One copy so many levels further down.
+/// One copy this many levels further down.
 pub(crate) fn up(levels: usize) -> Weight
     ensures { result ≡ up levels }
 {

@@ -10,7 +10,7 @@ use Rattle.smt_terms.specs.Translation.{Standing, Replacements, at_depth, variab
 use Rattle.smt_terms.specs.Meaning.{IsValue}
 use Rattle.smt_terms.proofs.Rules.{AreValues, none, more}
 
--- the list goes on with others behind
+-- the list goes on with others after
 pub record Extends (e e' : List ℤ) : Type 0 where
   pub behind : List ℤ
   pub is : e' ≡ e ++ behind

@@ -74,7 +74,7 @@ record BodyLaw (w : Meaning) (e : List ℤ) (Body : Values → Type 0) (body : R
 body_on : (w : Meaning) (e d : List ℤ) (Body : Values → Type 0) (body : Replacements → ℕ → Formula) → Extends e d → BodyLaw w e Body body → BodyLaw w d Body body
 body_on w e d Body body x l = record { at = λ e' y. l.at e' (extends_further e d e' x y) }
 
--- the body behind one more variable
+-- the body after one more variable
 one_more : (w : Meaning) (all : Bool) (x : List ℕ) (xs : List (List ℕ)) (e : List ℤ) (b : Values) (c : Replacements) (Body : Values → Type 0) (body : Replacements → ℕ → Formula)
     → ((v : ℤ) → Ranges all xs Body ((x, integer v) ∷ b) ↔ Truth w (bound_said all xs body ((x, variable (length e)) ∷ c) (length (e ++ v ∷ []))) (e ++ v ∷ []))
     → (v : ℤ) → Ranges all xs Body ((x, integer v) ∷ b) ↔ Truth w (bound_said all xs body ((x, variable (length e)) ∷ c) (suc (length e))) (e ++ v ∷ [])

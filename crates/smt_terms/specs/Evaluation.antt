@@ -96,7 +96,7 @@ pub data Meant : Type 0 where
 abbrev pub Globals : Type 0
 Globals = List (List ℕ × Meant)
 
--- The value of a symbol that is declared or defined so, behind the symbols before it. That of a defined function at another number
+-- The value of a symbol that is declared or defined so, after the symbols before it. That of a defined function at another number
 -- of arguments is of no interest.
 abbrev pub MeantHas : Meaning → List ℤ → Symbols → Meant → List Value → (Value → Type 0) → Type 0
 MeantHas w u S (constant_of k) vs P = P (integer (entry u k))

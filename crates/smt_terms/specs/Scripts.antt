@@ -11,7 +11,7 @@ use Rattle.smt_terms.specs.Translation.{asserted}
 
 -- a command that has an effect
 pub data Command : Type 0 where
-  -- a symbol with so many arguments of the sort Int
+  -- a symbol with this many arguments of the sort Int
   declare : List ℕ → ℕ → Sort → Command
   -- a function of these arguments by a term
   define : List ℕ → List (List ℕ) → Sort → PlacedTerm → Command
@@ -40,7 +40,7 @@ pub record State : Type 0 where
 abbrev pub start : State
 start = record { globals = []; constants = []; functions = []; predicates = []; claims = [] }
 
--- behind a declaration: an Int constant, a function with arguments, or a predicate, which may have none
+-- after a declaration: an Int constant, a function with arguments, or a predicate, which may have none
 abbrev pub after_declaration : State → List ℕ → ℕ → Sort → State
 after_declaration s x zero sort.Int = record s { globals = (x, constant_of (length s.constants)) ∷ s.globals; constants = s.constants ++ x ∷ [] }
 after_declaration s x (suc n) sort.Int =
@@ -48,7 +48,7 @@ after_declaration s x (suc n) sort.Int =
 after_declaration s x n sort.Bool =
     record s { globals = (x, predicate_of (length s.predicates)) ∷ s.globals; predicates = s.predicates ++ (record { text = x; arity = n }) ∷ [] }
 
--- behind a command
+-- after a command
 abbrev pub after : State → Command → State
 after s (declare x n k) = after_declaration s x n k
 after s (define x xs k t) = record s { globals = (x, defined_by xs t) ∷ s.globals }

@@ -1,5 +1,5 @@
 -- The formula or the term of a problem that a term of SMT-LIB is written out to, with `let` and `define-fun` replaced by what
--- they bind. A bound variable is the name behind those around it, so what a name is replaced by depends on the number of
+-- they bind. A bound variable is the name after those around it, so what a name is replaced by depends on the number of
 -- names where it is used: it is a function of that number.
 use Rattle.std.specs.Prelude.{ℕ, suc, pos, Bool, true, false, List, length, nat_eq, [], ◌∷◌, map, Option, Some, None, if◌then◌else◌}
 use Rattle.form_typed.specs.declared.typed.Relation.{Relation}
@@ -101,7 +101,7 @@ operated op.Times (s ∷ ss) = a_term (multiplied (term_in s) (map term_in ss))
 operated op.Abs (s ∷ ss) = a_term (logic.absolute (term_in s))
 operated _ _ = a_formula (logic.constant false)
 
--- what a name is replaced by, where so many names are around its use
+-- what a name is replaced by, where this many names are around its use
 abbrev pub Standing : Type 0
 Standing = ℕ → Said
 
@@ -109,7 +109,7 @@ Standing = ℕ → Said
 abbrev pub Replacements : Type 0
 Replacements = List (List ℕ × Standing)
 
--- what several are where so many names are around
+-- what several are where this many names are around
 abbrev pub at_depth : ℕ → List Standing → List Said
 at_depth n = map (λ s. s n)
 
@@ -134,7 +134,7 @@ bound_said true (x ∷ xs) body b n = logic.for_all sort.Int (bound_said true xs
 bound_said false (x ∷ xs) body b n = logic.for_some sort.Int (bound_said false xs body ((x, variable n) ∷ b) (suc n))
 
 abbrev mutual
-  -- what a term becomes where so many names are around
+  -- what a term becomes where this many names are around
   pub said : Writer → Replacements → PlacedTerm → ℕ → Said
   said W b (number _ k) n = a_term (logic.number k)
   said W b (large _) n = a_formula (logic.constant false)
@@ -156,7 +156,7 @@ abbrev mutual
 
 -- The symbols of a script.
 
--- a symbol that is declared or defined so, behind the symbols before it
+-- a symbol that is declared or defined so, after the symbols before it
 abbrev pub meant_said : Writer → Meant → List Standing → Standing
 meant_said W (constant_of k) ss n = a_term (logic.name k)
 meant_said W (function_of k) ss n = a_term (logic.call k (expressions (map term_in (at_depth n ss))))
@@ -167,6 +167,6 @@ abbrev pub symbol_said : Globals → Writer
 symbol_said [] x ss n = a_formula (logic.constant false)
 symbol_said (g ∷ gs) x ss n = if is_text x g.0 then meant_said (symbol_said gs) g.1 ss n else symbol_said gs x ss n
 
--- the formula that an asserted term becomes, where so many constants are declared
+-- the formula that an asserted term becomes, where this many constants are declared
 abbrev pub asserted : Globals → ℕ → PlacedTerm → Formula
 asserted gs n t = formula_in (said (symbol_said gs) [] t n)

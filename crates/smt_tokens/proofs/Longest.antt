@@ -115,7 +115,7 @@ no_fraction : (rest : List ℕ) → begins is_symbol_byte rest ≡ false → fra
 no_fraction [] h = refl
 no_fraction (y ∷ rest) h = if_no (y == 46) _ _ _ (other_byte (λ b. not (is_symbol_byte b)) y 46 refl (ap not h)) refl
 
--- how many digits stand behind the first one of a numeral
+-- how many digits stand after the first one of a numeral
 digits_are : (b : ℕ) (bs rest : List ℕ) → (if b == 48 then is_none bs else list_all is_ascii_digit bs) ≡ true → begins is_ascii_digit rest ≡ false → more_digits b (bs ++ rest) ≡ length bs
 digits_are b bs rest e f = by (b == 48) bs e
   where
@@ -124,7 +124,7 @@ digits_are b bs rest e f = by (b == 48) bs e
     by true (x ∷ xs) h = cc
     by false xs h = run_before is_ascii_digit xs rest h f
 
--- a number that is parted from what stands behind it
+-- a number that is parted from what stands after it
 number_known : (text behind rest : List ℕ) (n m : ℕ) → fraction_len behind ≡ m → drop m behind ≡ rest → begins is_symbol_byte rest ≡ false → number_before text n behind ≡ number_piece n m
 number_known text behind rest n m f r h =
     ap (λ z. parted text (drop z behind) (number_piece n z)) f ∙ ap (λ z. parted text z (number_piece n m)) r
@@ -196,7 +196,7 @@ symbol_reaches (b ∷ bs) rest r d =
     subst (Reaches t.Symbol (length (b ∷ bs))) (sym (symbol_piece b (bs ++ rest) (left_true (is_symbol_byte b) _ r) d))
     (record { len = 1 + prefix_len is_symbol_byte (bs ++ rest); terminal = t.Symbol; is = refl; same = λ q. refl; not_bad = λ q. cc; finished = λ q. cc; fits = omega (arith, fits) })
 
--- a string closes at its quote, unless another one stands behind it
+-- a string closes at its quote, unless another one stands after it
 close_by : (n : ℕ) (rest : List ℕ) → begins (λ b. b == 34) rest ≡ false → ending_from n true rest ≡ e.Closed n
 close_by n [] h = refl
 close_by n (b ∷ rest) h = rw h refl

@@ -24,7 +24,7 @@ stops_by : (p : ℕ → Bool) (b : ℕ) (bs : List ℕ) (v : Bool) → p b ≡ v
 stops_by p b bs true h r = rw (h, one-add) r
 stops_by p b bs false h r = rw h h
 
--- the byte behind a longest run does not pass
+-- the byte after a longest run does not pass
 run_stops : (p : ℕ → Bool) (bs : List ℕ) → begins p (drop (prefix_len p bs) bs) ≡ false
 run_stops p [] = refl
 run_stops p (b ∷ bs) = stops_by p b bs (p b) refl (run_stops p bs)
@@ -79,7 +79,7 @@ pub data Begun (text : List ℕ) (piece : Piece) : Type 0 where
 bad_begun : (b : ℕ) (bs : List ℕ) → Begun (b ∷ bs) (bad_piece bs)
 bad_begun b bs = a_bad (whole_len b bs t.Bad)
 
--- a byte with a longest run behind it
+-- a byte with a longest run after it
 behind : (p : ℕ → Bool) (b : ℕ) (bs : List ℕ) → b ∷ bs ≡ (b ∷ take (prefix_len p bs) bs) ++ drop (prefix_len p bs) bs
 behind p b bs = ap (λ z. b ∷ z) (sym (take-append-drop (prefix_len p bs) bs))
 
@@ -141,7 +141,7 @@ digits_within b bs = by (b == 48)
     by true = omega arith
     by false = prefix_len-le-length is_ascii_digit bs
 
--- a dot with digits behind it
+-- a dot with digits after it
 record Fraction (text : List ℕ) (n : ℕ) : Type 0 where
   digits : List ℕ
   is : text ≡ 46 ∷ digits

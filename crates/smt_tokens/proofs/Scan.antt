@@ -8,7 +8,7 @@ use Rattle.smt_tokens.specs.Lexemes.{first_piece_of, lexemes_from, piece_of, put
 
 pub ruleset runs = prefix_len-le-length
 
--- what is left behind the bytes that a piece takes
+-- what is left after the bytes that a piece takes
 pub lexemes_skip : (at skip : ℕ) (text : List ℕ) → lexemes_from at skip text ≡ lexemes_from (at + skip) 0 (drop skip text)
 unfolding lexemes_from
 lexemes_skip at zero text = ap (λ k. lexemes_from k 0 text) (sym (add-zero at))
@@ -21,7 +21,7 @@ drop_behind : (n b : ℕ) (text : List ℕ) → 1 ≤ n → drop (n - 1) text �
 drop_behind zero b text h = absurd (omega arith)
 drop_behind (suc n) b text h = let e : suc n - 1 ≡ n = omega arith in rw e refl
 
--- the first piece, and what is behind it
+-- the first piece, and what is after it
 pub lexemes_piece : (at : ℕ) (text : List ℕ) (piece : Piece) → first_piece_of text ≡ Some piece → 1 ≤ piece.len
     → lexemes_from at 0 text ≡ put at piece.len piece.terminal (lexemes_from (at + piece.len) 0 (drop piece.len text))
 unfolding lexemes_from

@@ -21,12 +21,12 @@ named n terminal = record { len = n; terminal = Some terminal }
 abbrev pub bad : List ℕ → Piece
 bad text = named (1 + length text) t.Bad
 
--- the token of some bytes and so many more of a run, which is not empty, at the byte before this text
+-- the token of some bytes and this many more of a run, which is not empty, at the byte before this text
 abbrev pub marked : ℕ → ℕ → Terminal → List ℕ → Piece
 marked front zero terminal text = bad text
 marked front (suc n) terminal text = named (front + suc n) terminal
 
--- the length of a dot with digits behind it, 0 where there is none
+-- the length of a dot with digits after it, 0 where there is none
 abbrev pub fraction_of : ℕ → ℕ
 fraction_of zero = 0
 fraction_of (suc n) = 2 + n
@@ -35,7 +35,7 @@ abbrev pub fraction_len : List ℕ → ℕ
 fraction_len [] = 0
 fraction_len (b ∷ text) = if b == 46 then fraction_of (prefix_len is_ascii_digit text) else 0
 
--- a numeral of n digits, or a decimal with so many bytes behind them
+-- a numeral of n digits, or a decimal with this many bytes after them
 abbrev pub number_piece : ℕ → ℕ → Piece
 number_piece n zero = named n t.Numeral
 number_piece n (suc m) = named (n + suc m) t.Decimal
@@ -44,15 +44,15 @@ number_piece n (suc m) = named (n + suc m) t.Decimal
 abbrev pub parted : List ℕ → List ℕ → Piece → Piece
 parted text rest piece = if begins is_symbol_byte rest then bad text else piece
 
--- what begins at the byte before a text with n digits of a numeral, behind which this text stands
+-- what begins at the byte before a text with n digits of a numeral, after which this text stands
 abbrev pub number_before : List ℕ → ℕ → List ℕ → Piece
 number_before text n behind = parted text (drop (fraction_len behind) behind) (number_piece n (fraction_len behind))
 
--- how many digits of a numeral stand behind its first one: none behind a 0
+-- how many digits of a numeral stand after its first one: none after a 0
 abbrev pub more_digits : ℕ → List ℕ → ℕ
 more_digits b text = if b == 48 then 0 else prefix_len is_ascii_digit text
 
--- what begins at a `#` with the text behind it
+-- what begins at a `#` with the text after it
 abbrev pub hash_piece : List ℕ → Piece
 hash_piece text =
     if slice_index text 0 == 120 then marked 2 (prefix_len is_ascii_hexdigit (drop 1 text)) t.Hash text else
@@ -73,7 +73,7 @@ ending_from n false (b ∷ text) =
 abbrev pub string_ending_of : List ℕ → Ending
 string_ending_of = ending_from 0 false
 
--- how a symbol ends that begins at the `|` before this text, by the text behind its bytes: n of them
+-- how a symbol ends that begins at the `|` before this text, by the text after its bytes: n of them
 abbrev pub bars_end : ℕ → List ℕ → Ending
 bars_end n [] = e.Missing
 bars_end n (b ∷ text) = if b == 124 then e.Closed (1 + n) else e.Forbidden
@@ -87,7 +87,7 @@ enclosed terminal text (e.Closed n) = named (1 + n) terminal
 enclosed terminal text e.Forbidden = bad text
 enclosed terminal text e.Missing = named (1 + length text) t.Unfinished
 
--- the longest token, or the white space or comment, that begins at the byte b with the text behind it
+-- the longest token, or the white space or comment, that begins at the byte b with the text after it
 abbrev pub piece_of : ℕ → List ℕ → Piece
 piece_of b text =
     if is_white b then blank 1 else
@@ -107,7 +107,7 @@ abbrev pub first_piece_of : List ℕ → Option Piece
 first_piece_of [] = None
 first_piece_of (b ∷ text) = Some (piece_of b text)
 
--- the piece at this offset, before the tokens behind it, where it is a token
+-- the piece at this offset, before the tokens after it, where it is a token
 abbrev pub put : ℕ → ℕ → Option Terminal → List Lexeme → List Lexeme
 put at n None more = more
 put at n (Some terminal) more = record { at = at; len = n; terminal = terminal } ∷ more

@@ -21,7 +21,7 @@ abbrev pub is_none : List ℕ → Bool
 is_none [] = true
 is_none (b ∷ bs) = false
 
--- `0`, or another digit with digits behind it
+-- `0`, or another digit with digits after it
 abbrev pub is_numeral : List ℕ → Bool
 is_numeral [] = false
 is_numeral (b ∷ bs) = is_ascii_digit b && (if b == 48 then is_none bs else list_all is_ascii_digit bs)
@@ -51,19 +51,19 @@ is_number t.Numeral = true
 is_number t.Decimal = true
 is_number _ = false
 
--- A text with this rest behind it is a token of this kind. A quote behind a string would belong to it, and a number is parted from
--- what stands behind it: bytes of which symbols are made, of which the first is a digit, are one number or no token.
+-- A text with this rest after it is a token of this kind. A quote after a string would belong to it, and a number is parted from
+-- what stands after it: bytes of which symbols are made, of which the first is a digit, are one number or no token.
 pub record IsScriptToken (terminal : Terminal) (front rest : List ℕ) : Type 0 where
   pub spelled : IsSpelled terminal front
   pub ended : terminal ≡ t.StringLiteral → begins (λ b. b == 34) rest ≡ false
   pub parted : is_number terminal ≡ true → begins is_symbol_byte rest ≡ false
 
--- so many bytes are the longest token at the front of a text
+-- this many bytes are the longest token at the front of a text
 pub record IsLongestPiece (terminal : Terminal) (front rest : List ℕ) : Type 0 where
   pub token : IsScriptToken terminal front rest
   pub longest : (other : Terminal) (longer behind : List ℕ) → longer ++ behind ≡ front ++ rest → length front < length longer → IsScriptToken other longer behind → ⊥
 
--- a byte of white space; or a `;` with all bytes behind it that end no line
+-- a byte of white space; or a `;` with all bytes after it that end no line
 pub data IsScriptBlank : List ℕ → List ℕ → Type 0 where
   white : {front rest : List ℕ} (b : ℕ) → is_white b ≡ true → front ≡ b ∷ [] → IsScriptBlank front rest
   comment : {front rest : List ℕ} (inner : List ℕ) → list_all is_in_line inner ≡ true → begins is_in_line rest ≡ false → front ≡ 59 ∷ inner → IsScriptBlank front rest

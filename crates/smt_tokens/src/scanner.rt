@@ -21,7 +21,7 @@ struct Piece {
     terminal: Option<Terminal>,
 }
 
-/// The tokens of a text, in order; behind a byte that begins no token nothing is cut.
+/// The tokens of a text, in order; after a byte that begins no token nothing is cut.
 pub fn lexemes(alloc: Global, bytes: &[u8]) -> Result<Items<Lexeme>, AllocError>
     ensures exact { IfOk result (λ found. found ≡ lexemes_of bytes.now) }
 {
@@ -109,7 +109,7 @@ fn bad(text: &[u8]) -> Piece
     named(1 + text.len(), Terminal::Bad)
 }
 
-/// The token of some bytes and a run of so many more, at the byte before this text; none where the run is empty.
+/// The token of some bytes and a run of this many more, at the byte before this text; none where the run is empty.
 fn marked(front: usize, run: usize, terminal: Terminal, text: &[u8]) -> Piece
     requires { (1 ≤ front) × (front + run ≤ 1 + length text.now) × (length text.now < 2 ^ 63) }
     ensures exact { result ≡ marked front run terminal text.now }
@@ -121,7 +121,7 @@ fn marked(front: usize, run: usize, terminal: Terminal, text: &[u8]) -> Piece
     named(front + run, terminal)
 }
 
-/// How many digits of a numeral stand behind its first one: none behind a 0.
+/// How many digits of a numeral stand after its first one: none after a 0.
 fn more_digits(first: u8, behind: &[u8]) -> usize
     ensures exact { result ≡ more_digits first behind.now }
     ensures within { result ≤ length behind.now }
@@ -129,7 +129,7 @@ fn more_digits(first: u8, behind: &[u8]) -> usize
     if first == b'0' { 0 } else { digits_len(behind) }
 }
 
-/// The length of a dot with digits behind it, 0 where there is none.
+/// The length of a dot with digits after it, 0 where there is none.
 fn fraction(text: &[u8]) -> usize
     ensures exact { result ≡ fraction_len text.now }
     ensures within { result ≤ length text.now }
@@ -154,8 +154,8 @@ fn begins_symbol(text: &[u8]) -> bool
     is_symbol_byte(*first)
 }
 
-/// What begins at the byte before a text with so many digits of a numeral, behind which this text stands: a numeral or a decimal,
-/// and no token where a byte of a symbol stands behind it.
+/// What begins at the byte before a text with this many digits of a numeral, after which this text stands: a numeral or a decimal,
+/// and no token where a byte of a symbol stands after it.
 fn number(digits: usize, behind: &[u8], text: &[u8]) -> Piece
     requires { (1 ≤ digits) × (digits + length behind.now ≡ 1 + length text.now) × (length text.now < 2 ^ 63) }
     ensures exact { result ≡ number_before text.now digits behind.now }
@@ -171,7 +171,7 @@ fn number(digits: usize, behind: &[u8], text: &[u8]) -> Piece
     named(digits + fraction, Terminal::Decimal)
 }
 
-/// What begins at a `#` with this text behind it.
+/// What begins at a `#` with this text after it.
 fn hash(behind: &[u8]) -> Piece
     requires { length behind.now < 2 ^ 63 }
     ensures exact { result ≡ hash_piece behind.now }

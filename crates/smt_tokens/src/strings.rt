@@ -8,10 +8,10 @@ ghost use Rattle.smt_tokens.specs.Endings.{ClosesWithin};
 
 use crate::bytes::{is_bar_byte, is_string_byte};
 
-/// How a string or a symbol between bars ends, behind its first byte.
+/// How a string or a symbol between bars ends, after its first byte.
 #[derive(Clone, Copy, Debug, PartialEq, Eq)]
 pub enum Ending {
-    /// With so many bytes, the last one its quote or bar.
+    /// With this many bytes, the last one its quote or bar.
     Closed(usize),
     /// It has a byte that it may not have.
     Forbidden,

@@ -4,7 +4,7 @@ use Rattle.std.specs.Option.{option_map}
 use Rattle.smt_terms.specs.declared.term.Binding.{Binding}
 use Rattle.smt_terms.specs.Term.{bound}
 
--- these, with what comes behind them, if it comes
+-- these, with what comes after them, if it comes
 abbrev pub joined : {A : Type 0} → List A → Option (List A) → Option (List A)
 joined xs o = option_map (λ ys. xs ++ ys) o
 

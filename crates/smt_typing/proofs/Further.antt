@@ -1,4 +1,4 @@
--- One command further: the refusal of the whole script by that of the commands behind.
+-- One command further: the refusal of the whole script by that of the commands after.
 use Rattle.std.proofs.Common.{◌≡◌, true, false, List, ◌∷◌, refl, sym, ap, ◌∙◌, Option, Some, None}
 use Rattle.smt_lists.specs.Expressions.{Expr, place_of}
 use Rattle.smt_commands.specs.declared.refusal.ScriptRefusal.{ScriptRefusal}

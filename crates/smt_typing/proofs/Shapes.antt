@@ -54,7 +54,7 @@ empty_is (x ∷ es) b e f = absurd (grind arith)
 nonempty : {b : Bool} → b ≡ (length {A = Sexp} [] == 0) → b ≡ false → ⊥
 nonempty {b} e f = cc
 
--- lists and one behind
+-- lists and one after
 rest_is : (rest : List Sexp) (first : Sexp) (behind : List Sexp) (body : Sexp) (end : List Sexp) → rest ≡ first ∷ behind → behind ≡ body ∷ end
     → exprs_of rest ≡ and_expr (expr first) (and_expr (expr body) (exprs_of end))
 rest_is rest first behind body end p q = ap exprs_of (p ∙ ap (λ z. first ∷ z) q)

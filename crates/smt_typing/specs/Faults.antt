@@ -26,7 +26,7 @@ kind_faults (Some sort.Int) (Some sort.Bool) at = r.Kind at ∷ []
 kind_faults (Some sort.Bool) (Some sort.Int) at = r.Kind at ∷ []
 kind_faults _ _ at = []
 
--- whether an operator takes so many arguments
+-- whether an operator takes this many arguments
 abbrev pub takes : Operator → ℕ → Bool
 takes (op.Truth b) n = nat_eq n 0
 takes op.Not n = nat_eq n 1
@@ -90,7 +90,7 @@ product_faults _ at ts = []
 abbrev pub arity_faults : Bool → ℕ → List ScriptRefusal
 arity_faults fits at = if fits then [] else r.Arity at ∷ []
 
--- a symbol of the script at so many arguments, or one that is none
+-- a symbol of the script at this many arguments, or one that is none
 abbrev pub symbol_faults : Option Entry → List ℕ → ℕ → ℕ → List ScriptRefusal
 symbol_faults (Some e) x at n = arity_faults (nat_eq n e.arity) at
 symbol_faults None x at n = if is_unlisted x then r.Profile at ∷ [] else r.Undeclared at ∷ []
@@ -111,7 +111,7 @@ variable_faults [] = []
 variable_faults (x ∷ xs) = ill_faults x.ill ++ variable_faults xs
 
 abbrev mutual
-  -- the faults of a term behind these symbols, where these names are bound
+  -- the faults of a term after these symbols, where these names are bound
   pub faults : List Entry → Sorts → PlacedTerm → List ScriptRefusal
   faults g b (number _ n) = []
   faults g b (large at) = r.Literal at ∷ []

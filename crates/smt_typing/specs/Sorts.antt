@@ -23,7 +23,7 @@ abbrev pub second_of : List (Option Sort) → Option Sort
 second_of [] = None
 second_of (s ∷ ss) = first_of ss
 
--- the sort of an operator at so many arguments, the second of which has this sort
+-- the sort of an operator at this many arguments, the second of which has this sort
 abbrev pub operator_sort : Operator → ℕ → Option Sort → Option Sort
 operator_sort op.Choose n s = if nat_eq n 3 then s else None
 operator_sort op.Plus n s = Some sort.Int
@@ -47,7 +47,7 @@ abbrev pub variables : List (List ℕ) → Sorts → Sorts
 variables xs b = with_names xs (map (λ x. Some sort.Int) xs) b
 
 abbrev mutual
-  -- the sort of a term behind these symbols, where these names are bound
+  -- the sort of a term after these symbols, where these names are bound
   pub term_sort : List Entry → Sorts → PlacedTerm → Option Sort
   term_sort g b (number _ n) = Some sort.Int
   term_sort g b (large _) = Some sort.Int

@@ -1,4 +1,4 @@
--- What the walk over commands answers at each of them, and behind all.
+-- What the walk over commands answers at each of them, and after all.
 use Rattle.std.specs.Prelude.{ℕ, ◌≡◌, Bool, true, false, List, [], ◌∷◌, Option, Some, None}
 use Rattle.smt_lists.specs.Expressions.{Expr}
 use Rattle.smt_commands.specs.declared.refusal.ScriptRefusal.{ScriptRefusal}
@@ -12,12 +12,12 @@ abbrev pub is_exit : Option CommandForm → Bool
 is_exit (Some exit) = true
 is_exit _ = false
 
--- what comes of the commands behind one; this where it ends the script
+-- what comes of the commands after one; this where it ends the script
 abbrev pub unless_last : {A : Type 0} → Option CommandForm → A → A → A
 unless_last (Some exit) here later = here
 unless_last _ here later = later
 
--- the symbols behind all commands of a script without faults, behind these
+-- the symbols after all commands of a script without faults, after these
 abbrev pub symbols_from : List Entry → List Expr → List Entry
 symbols_from table [] = table
 symbols_from table (e ∷ es) = unless_last (form e) (behind table (form e)) (symbols_from (behind table (form e)) es)
@@ -26,7 +26,7 @@ symbols_from table (e ∷ es) = unless_last (form e) (behind table (form e)) (sy
 abbrev pub symbols_of : List Expr → List Entry
 symbols_of = symbols_from []
 
--- the command has no fault, and these are the symbols behind it
+-- the command has no fault, and these are the symbols after it
 pub record PassesCommand (terms : TermFaults) (table : List Entry) (at : ℕ) (command : Option CommandForm) (new : List Entry) : Type 0 where
   pub fits : least (command_faults terms table at command) ≡ None
   pub symbols : new ≡ behind table command

@@ -18,7 +18,7 @@ use smt_lists::Sexp;
 use smt_terms::Sort;
 use std::alloc::Global;
 
-/// The symbols behind a command, and whether it ends the script.
+/// The symbols after a command, and whether it ends the script.
 #[derive(Drop)]
 struct Step {
     table: Table,
@@ -45,7 +45,7 @@ pub fn walk<T: Terms>(alloc: Global, terms: &T, commands: &[Sexp]) -> Result<Tab
     Ok(table)
 }
 
-/// The symbols behind what may be a command, or its first fault.
+/// The symbols after what may be a command, or its first fault.
 #[tactic(auto, using(crate::proofs::CommandForms::forms))]
 fn take_command<T: Terms>(
     alloc: Global,
@@ -92,7 +92,7 @@ pub fn is_exit(command: Command<'_>) -> bool
     }
 }
 
-/// The symbols behind a command whose `(` is at this offset, or its first fault.
+/// The symbols after a command whose `(` is at this offset, or its first fault.
 #[tactic(auto, using(crate::proofs::CommandForms::declared_passes, crate::proofs::CommandForms::declared_stops))]
 fn behind_command<T: Terms>(
     alloc: Global,
@@ -114,7 +114,7 @@ fn behind_command<T: Terms>(
     }
 }
 
-/// The symbols behind a definition whose `(` is at this offset, or its first fault.
+/// The symbols after a definition whose `(` is at this offset, or its first fault.
 fn define<T: Terms>(
     alloc: Global,
     terms: &T,
@@ -147,7 +147,7 @@ fn define<T: Terms>(
     Ok(table)
 }
 
-/// The symbols behind an assertion, or its first fault.
+/// The symbols after an assertion, or its first fault.
 fn assertion<T: Terms>(
     alloc: Global,
     terms: &T,

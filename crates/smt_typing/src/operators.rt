@@ -35,7 +35,7 @@ pub fn wants(operator: Operator) -> Need
     }
 }
 
-/// Whether an operator takes so many arguments.
+/// Whether an operator takes this many arguments.
 pub fn takes(operator: Operator, count: usize) -> bool
     ensures { result ≡ takes operator count }
 {
@@ -53,7 +53,7 @@ pub fn takes(operator: Operator, count: usize) -> bool
     }
 }
 
-/// The sort of an operator at so many arguments, the second of which has this sort.
+/// The sort of an operator at this many arguments, the second of which has this sort.
 pub fn operator_sort(operator: Operator, count: usize, second: Option<Sort>) -> Option<Sort>
     ensures { result ≡ operator_sort operator count second }
 {

@@ -23,7 +23,7 @@ pub struct Head<'a> {
     pub sort: Option<Sort>,
 }
 
-/// A reader of terms: the faults of a term where a sort is needed, or any, behind the symbols of a table, with the arguments of
+/// A reader of terms: the faults of a term where a sort is needed, or any, after the symbols of a table, with the arguments of
 /// a definition bound around it; and whether a symbol occurs in a term where nothing binds it.
 pub trait Terms {
     ghost faults: { List Entry → List Expr → Option Sort → Expr → List ScriptRefusal };

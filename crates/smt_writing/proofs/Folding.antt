@@ -8,7 +8,7 @@ use Rattle.smt_terms.specs.Translation.{either_said, implied_said, multiplied, f
 use Rattle.smt_writing.specs.declared.written.Written.{Written}
 use Rattle.smt_writing.specs.Written.{written}
 
--- formulas implied one behind the other, and the last one by all
+-- formulas implied one after the other, and the last one by all
 abbrev pub implied_onto : List Formula → Formula → Formula
 implied_onto [] f = f
 implied_onto (g ∷ gs) f = implies g (implied_onto gs f)

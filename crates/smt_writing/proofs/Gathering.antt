@@ -1,4 +1,4 @@
--- Bound names that are gathered one behind the other: what replaces them, and their heights.
+-- Bound names that are gathered one after the other: what replaces them, and their heights.
 use Rattle.std.proofs.Common.{◌≡◌, ℕ, zero, suc, ◌+◌, ◌<◌, ◌≤◌, List, [], ◌∷◌, ◌++◌, length, refl, sym, ap, ◌∙◌, take, get_or, arith, length-append, if◌then◌else◌, nat_eq, true, false}
 use Rattle.smt_terms.specs.Translation.{Standing, variable}
 use Rattle.smt_names.specs.declared.body.Body.{Body}

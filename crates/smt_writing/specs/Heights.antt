@@ -22,7 +22,7 @@ abbrev pub total_height : List ℕ → ℕ
 total_height [] = 0
 total_height (h ∷ hs) = suc (h + total_height hs)
 
--- the heights of bound names with those of so many variables
+-- the heights of bound names with those of this many variables
 abbrev pub with_zeros : ℕ → List ℕ → List ℕ
 with_zeros zero e = e
 with_zeros (suc k) e = with_zeros k (e ++ 0 ∷ [])

@@ -8,7 +8,7 @@ use Rattle.smt_writing.specs.declared.layers.Names.{Names}
 use Rattle.smt_writing.specs.declared.layers.Names.TheVariants as names
 use Rattle.smt_writing.specs.Heights.{heights, bound_heights, with_zeros, costs_of}
 
--- what the names in sight stand for where these names stand behind others
+-- what the names in sight stand for where these names stand after others
 abbrev pub names_behind : List Standing → Names → List Standing
 names_behind e (names.Variables k first) = with_variables k e first
 names_behind e (names.Bound bs ds) = bound_said (calls_of ds.now) e (shapes_of bs.now)
@@ -33,7 +33,7 @@ names_at ls n = get_or (layer_by_layer names_behind ([] ∷ []) ls) n []
 abbrev pub heights_at : List Layer → ℕ → List ℕ
 heights_at ls n = get_or (layer_by_layer heights_behind ([] ∷ []) ls) n []
 
--- the number of the first of these names, behind so many others
+-- the number of the first of these names, after this many others
 abbrev pub first_number : Names → ℕ → ℕ
 first_number (names.Variables k first) count = count
 first_number (names.Bound bs ds) count = count
@@ -53,7 +53,7 @@ IsNumbered ls l = l.start ≡ first_number l.names (length (names_at ls l.outer)
 abbrev pub AreLayered : List Layer → Type 0
 AreLayered ls = (i : ℕ) (d : Layer) → i < length ls → ((get_or ls i d).outer ≤ i) × IsNumbered ls (get_or ls i d)
 
--- the new layers are the old ones and more behind them
+-- the new layers are the old ones and more after them
 abbrev pub Extends : List Layer → List Layer → Type 0
 Extends old new = (more : List Layer) × (new ≡ old ++ more)
 

@@ -43,7 +43,7 @@ name_said ls l i = let e = names_at ls l.outer in get_or (names_behind e l.names
 abbrev pub name_height : List Layer → Layer → ℕ → ℕ
 name_height ls l i = let e = heights_at ls l.outer in get_or (heights_behind e l.names) (first_number l.names (length e) + i) 0
 
--- what the body of a place becomes inside a quantifier over so many names
+-- what the body of a place becomes inside a quantifier over this many names
 abbrev pub inside_said : ℕ → List Layer → Place → ℕ → Formula
 inside_said k ls p n = formula_in (shape_said (calls_of p.definitions.now) (with_variables k (names_at ls p.layer) n) (shape p.body.now) (n + k))
 
@@ -89,7 +89,7 @@ abbrev pub IsWithin : List Layer → Step → Type 0
 IsWithin ls (steps.Next p) = p.layer ≤ length ls
 IsWithin ls (steps.Last x) = IsHeadWithin ls x
 
--- a step to what becomes the same and goes less far down, behind more layers
+-- a step to what becomes the same and goes less far down, after more layers
 pub record Reaches (old : List Layer) (said : Standing) (height : ℕ) (new : List Layer) (step : Step) : Type 0 where
   pub layered : AreLayered new
   pub extends : Extends old new

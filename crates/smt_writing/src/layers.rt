@@ -11,7 +11,7 @@ use smt_names::Body;
 /// Some bound names.
 #[derive(Clone, Copy)]
 pub enum Names<'a> {
-    /// So many variables, of which the first is the name of the second number.
+    /// This many variables, of which the first is the name of the second number.
     Variables(u32, u32),
     /// Each of these bodies, over these defined functions. A body may use the names before its own.
     Bound(&'a [Body], &'a [Body]),
@@ -46,7 +46,7 @@ fn added(some: usize, more: usize) -> Result<usize, Memory>
     some.checked_add(more).ok_or(Memory)
 }
 
-/// How many bound names are in sight in the layer up to which there are so many layers.
+/// How many bound names are in sight in the layer up to which there are this many layers.
 fn count(layers: &[Layer<'_>], place: usize) -> Result<usize, Memory>
     requires layered { AreLayered layers.now }
     requires within { place ≤ length layers.now }
@@ -59,7 +59,7 @@ fn count(layers: &[Layer<'_>], place: usize) -> Result<usize, Memory>
     added(layer.start, count_names(&layer.names))
 }
 
-/// The number of the first of these names, behind those in sight in the layer up to which there are so many layers.
+/// The number of the first of these names, after those in sight in the layer up to which there are this many layers.
 fn start_of(layers: &[Layer<'_>], outer: usize, names: &Names<'_>) -> Result<usize, Memory>
     requires layered { AreLayered layers.now }
     requires within { outer ≤ length layers.now }
@@ -71,7 +71,7 @@ fn start_of(layers: &[Layer<'_>], outer: usize, names: &Names<'_>) -> Result<usi
     }
 }
 
-/// Puts one more layer behind those there are. These names stand in the layer up to which there are `outer` layers. The answer is how
+/// Puts one more layer after those there are. These names stand in the layer up to which there are `outer` layers. The answer is how
 /// many layers there are then.
 pub(crate) fn push<'a>(
     layers: &mut Vec<Layer<'a>>,

@@ -38,7 +38,7 @@ pub enum Head<'a> {
     Operated(Operator, Places<'a>),
     Function(u32, Places<'a>),
     Predicate(u32, Places<'a>),
-    /// A quantifier over so many names, true for `forall`. Its names are not yet in sight at the place.
+    /// A quantifier over this many names, true for `forall`. Its names are not yet in sight at the place.
     Quantified(bool, u32, Place<'a>),
 }
 
@@ -82,7 +82,7 @@ fn enter<'a>(layers: &mut Vec<Layer<'a>>, k: u32, arguments: Places<'a>) -> Resu
     }))
 }
 
-/// The name that is so many names behind the first.
+/// The name that is this many names after the first.
 fn name_behind(first: u32, more: u32) -> Result<u32, Memory>
     ensures { IfOk result (λ name. name ≡ first + more) }
 {

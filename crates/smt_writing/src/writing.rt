@@ -34,7 +34,7 @@ fn quantifier(alloc: Global, all: bool, body: Typed) -> Result<Typed, Memory>
     }
 }
 
-/// So many of them.
+/// This many of them.
 fn quantify(alloc: Global, all: bool, count: u32, body: Typed) -> Result<Typed, Memory>
     ensures { IfOk result (λ f. formula f ≡ quantified_over all count (formula body)) }
 {
@@ -45,7 +45,7 @@ fn quantify(alloc: Global, all: bool, count: u32, body: Typed) -> Result<Typed, 
     Ok(whole)
 }
 
-/// What the body at a place becomes where so many names are around. The layers are left as they were.
+/// What the body at a place becomes where this many names are around. The layers are left as they were.
 #[cycle(write)]
 fn write<'a>(
     alloc: Global,
@@ -101,7 +101,7 @@ fn write_head<'a>(
     }
 }
 
-/// What the body at a place becomes inside a quantifier over so many names.
+/// What the body at a place becomes inside a quantifier over this many names.
 #[cycle(write)]
 fn write_inside<'a>(
     alloc: Global,
@@ -150,7 +150,7 @@ fn write_all<'a>(
     Ok(out)
 }
 
-/// The formula that an asserted term becomes, of which this body is what it says over these defined functions, where so many
+/// The formula that an asserted term becomes, of which this body is what it says over these defined functions, where this many
 /// constants are declared. Where more than 2^32 names would be around a part of it, it has no room in memory.
 pub fn write_formula(
     alloc: Global,

@@ -13,7 +13,7 @@ pub record IsFirst (p : List ℤ → Bool) (n : ℕ) (v : List ℤ) : Type 0 whe
   pub satisfies : p v ≡ true
   pub best : (w : List ℤ) → length w ≡ n → p w ≡ true → (j : ℕ) → j < n → take j w ≡ take j v → rank (entry v j) ≤ rank (entry w j)
 
--- a best first entry, and a best list behind it
+-- a best first entry, and a best list after it
 pub best-cons : (p : List ℤ → Bool) (n : ℕ) (v : ℤ) (r : List ℤ) → ((u : ℤ) (w : List ℤ) → length w ≡ n → p (u ∷ w) ≡ true → rank v ≤ rank u)
     → IsFirst (λ w. p (v ∷ w)) n r → IsFirst p (suc n) (v ∷ r)
 best-cons p n v r first h = record {
@@ -36,7 +36,7 @@ best-cons p n v r first h = record {
 best-none : (p : List ℤ → Bool) → p [] ≡ true → IsFirst p 0 []
 best-none p t = record { names = refl; satisfies = t; best = λ w l s j lt e. absurd (omega arith) }
 
--- a list of n + 1 integers is one of n and one behind it
+-- a list of n + 1 integers is one of n and one after it
 record IsSplit (n : ℕ) (w : List ℤ) : Type 0 where
   front : List ℤ
   last : ℤ
@@ -58,7 +58,7 @@ length-behind (v ∷ e) u = ap suc (length-behind e u)
 put-behind : (e : List ℤ) (x : ℕ) (v : ℤ) → length e ≡ x → put e x v ≡ e ++ v ∷ []
 put-behind e x v l = subst (λ (y : ℕ). put e y v ≡ e ++ v ∷ []) l (put-length e v)
 
--- some k integers behind p satisfy d
+-- some k integers after p satisfy d
 abbrev pub IsSatisfied : (List ℤ → Bool) → ℕ → List ℤ → Type 0
 IsSatisfied t k p = (w : List ℤ) × ((length w ≡ k) × (t (p ++ w) ≡ true))
 
@@ -111,7 +111,7 @@ module _ {D : Type 0} (m : Method D) (Spans : ℕ → ℕ → D → Type 0) (h :
   out-spans (suc k) j i d le s =
       out-spans k j i (m.without (j + k) d) le (h.out_spans i (j + k) d (omega arith) (subst (λ (n : ℕ). Spans i n d) (omega arith) s))
 
-  -- the values chosen from j on are the best ones behind p, where some values satisfy d there
+  -- the values chosen from j on are the best ones after p, where some values satisfy d there
   pub values-best : (k j : ℕ) (d : D) (p : List ℤ) → length p ≡ j → Spans j (j + k) d → IsSatisfied (m.truth d) k p
       → IsFirst (λ w. m.truth d (p ++ w)) k (values_from m k j d)
   values-best zero j d p l s w =

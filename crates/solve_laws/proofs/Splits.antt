@@ -190,7 +190,7 @@ pub record Here (j : ℕ) (c : List Literal) : Type 0 where
 no_equation : (j : ℕ) (c : List Literal) → Here j c → AllByRecursion (λ l. is_equation j l ≡ false) c
 no_equation j c k = any-none (is_equation j) c k.none
 
--- a second divisibility behind the one at i, or none
+-- a second divisibility after the one at i, or none
 second : (j : ℕ) (c : List Literal) (i : ℕ) (o : Option ℕ) → Here j c → position (is_indivisibility j) c ≡ None → position (is_divisibility j) c ≡ Some i
     → position (is_divisibility j) (drop (i + 1) c) ≡ o → IsCase j c (option_map (λ m. Merge i (i + 1 + m)) o)
 second j c i None k none at behind =

@@ -21,7 +21,7 @@ values_more : (pre : List ℤ) (v : ℤ) → AllByRecursion InRange pre → InRa
 values_more [] v a h = (h, tt)
 values_more (x ∷ pre) v a h = (a.0, values_more pre v a.1 h)
 
--- the values stand behind those that were there
+-- the values stand after those that were there
 values_behind : (k j : ℕ) (d : List (List Literal)) (pre : List ℤ) → (rest : List ℤ) × ((values_at k j d pre).value ≡ pre ++ rest)
 unfolding next just step
 values_behind zero j d pre = ([], sym (append-nil pre))

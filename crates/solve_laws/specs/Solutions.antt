@@ -47,7 +47,7 @@ abbrev pub names_from : ℕ → ℕ → List (List Literal) → Traced (List (Li
 names_from zero j d = just d
 names_from (suc k) j d = next (exists_name (j + k) d) (λ r. names_from k j r)
 
--- values for the k names from j on, behind those in vs; the elimination for each value begins a log
+-- values for the k names from j on, after those in vs; the elimination for each value begins a log
 abbrev pub values_at : ℕ → ℕ → List (List Literal) → List ℤ → Traced (List ℤ)
 values_at zero j d vs = just vs
 values_at (suc k) j d vs =

@@ -34,7 +34,7 @@ pub fn holds(list: &BackList<u32>, x: u32) -> bool
     found
 }
 
-/// The place of item number n, if there are so many, counted from 0.
+/// The place of item number n, if there are this many, counted from 0.
 pub fn place_of(list: &BackList<u32>, n: usize) -> Option<Pos>
     ensures { (p : Pos) → result ≡ Some p → IsIn p list.now.present }
 {

@@ -57,7 +57,7 @@ fn each_item_is_dropped_once(rt: HostRuntime) {
     assert_eq!(rt; drops.get(), 2);
 }
 
-// Where memory is wanting the item comes back, and the list is as it was.
+// Where memory runs out the item comes back, and the list is as it was.
 #[test]
 fn a_refused_push_changes_nothing(rt: HostRuntime) {
     let mut list = BackList::new(rt.alloc());

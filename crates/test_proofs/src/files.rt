@@ -10,7 +10,7 @@ use test_texts::PROOF;
 pub(crate) const USED: &str =
     "princess-proof 2\nparts 2\npart o\npart e0 s1\ncharges 18\ngamma 0\nclose\nlog u1\ngives true\nlog u1\ngives c0 - 3 = 0\nnone u1\n";
 
-/// What a file is: a proof for so many charges, or refused at a place.
+/// What a file is: a proof for this many charges, or refused at a place.
 #[derive(Clone, Copy, PartialEq, Eq)]
 enum Answer {
     Charges(u64),

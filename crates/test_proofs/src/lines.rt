@@ -31,7 +31,7 @@ fn next_step<L: ProofLines>(alloc: Global, lines: &mut L) -> Step {
     }
 }
 
-/// Whether these lines come in this order from a text that charges 18, and behind them a log of two entries as the conclusion, or
+/// Whether these lines come in this order from a text that charges 18, and after them a log of two entries as the conclusion, or
 /// another one.
 fn gives_in_order(alloc: Global, text: &str, steps: &[Step], two_entries: bool) -> bool {
     match Lines::new(alloc, text.as_bytes()) {

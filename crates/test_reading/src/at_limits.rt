@@ -4,7 +4,7 @@ use crate::shown::{is_assumed, is_encoded, joined, measured};
 use std::alloc::{AllocError, Global};
 use std::test::Fail;
 
-/// Before a chain, behind it, and how often its link stands in it.
+/// Before a chain, after it, and how often its link stands in it.
 fn chain(
     alloc: Global,
     before: &str,
@@ -48,7 +48,7 @@ fn doubling_is_large_at_once(rt: HostRuntime) -> Result<(), Fail> {
     is_assumed(&rt, rt.alloc(), parts.as_str(), &[0], "Large")
 }
 
-/// A disjunction of chains of k equivalences, each of 6 · 2^k - 5 nodes, and of so many atoms: with two of them, of
+/// A disjunction of chains of k equivalences, each of 6 · 2^k - 5 nodes, and of this many atoms: with two of them, of
 /// 786,427 + 196,603 + 12,283 + 3,067 + 1,531 + 43 + 43 + 1 + 1 members and itself, of 1,000,000 nodes.
 fn many_nodes(alloc: Global, atoms: u32) -> Result<String, AllocError> {
     let mut text = String::from_str(alloc, "\\predicates { p; } \\problem { false")?;
@@ -145,7 +145,7 @@ fn numbers_stay_in_the_range(rt: HostRuntime) -> Result<(), Fail> {
             " - 1 = 0",
             "Overflow +1 -170141183460469231731687303715884105727 -1 +1",
         ),
-        // what stands behind a member that decides the conjunction counts too
+        // what stands after a member that decides the conjunction counts too
         (
             "false & ",
             " + 1 = 0",

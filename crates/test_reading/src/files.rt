@@ -21,7 +21,7 @@ fn ends(rt: &impl Abort, alloc: Global, text: &str, wanted: Option<ReadRefusal>,
     assert_eq!(rt; refusal(alloc, text), wanted, "at {at}");
 }
 
-// The beginning of a `\problem`, with this text so many times.
+// The beginning of a `\problem`, with this text this many times.
 fn opened(alloc: Global, before: &str, times: u32) -> Result<String, AllocError> {
     let mut text = String::from_str(alloc, "\\problem { ")?;
     for _ in 0..times {
@@ -30,7 +30,7 @@ fn opened(alloc: Global, before: &str, times: u32) -> Result<String, AllocError>
     Ok(text)
 }
 
-// A `\problem` of this text in its middle, so many times with the one before it and the other behind it.
+// A `\problem` of this text in its middle, this many times with the one before it and the other after it.
 fn nested(
     alloc: Global,
     before: &str,

@@ -123,7 +123,7 @@ fn functions_are_relations(rt: HostRuntime) -> Result<(), Fail> {
                 "All[Or[F0(+1x0+0;+1x2+0),All[Or[F0(+1x1+0;+1x3+0),Eq(+1x2-1x3+0)]]]]",
                 "All[Or[F0(+1x0+0;+1x2+0),All[Or[F0(+1x1+0;+1x3+0),Neq(+1x2-1x3+0)]]]]",
             ),
-            // the value of a function has the name behind those of the quantifiers
+            // the value of a function has the name after those of the quantifiers
             (
                 "\\forall int z; f(z) > z",
                 "All[All[Or[F0(+1x2+0;+1x3+0),Geq(-1x2+1x3-1)]]]",
@@ -159,7 +159,7 @@ fn conditions_are_cases(rt: HostRuntime) -> Result<(), Fail> {
                 "Or[And[Geq(+1x0-1x1+0),Eq(+1x0-3)],And[Geq(-1x0+1x1-1),Eq(+1x1-3)]]",
                 "Or[And[Geq(+1x0-1x1+0),Neq(+1x0-3)],And[Geq(-1x0+1x1-1),Neq(+1x1-3)]]",
             ),
-            // what stands before and behind a condition in its sum
+            // what stands before and after a condition in its sum
             (
                 "x + \\abs(y) - 2 = 0",
                 "Or[And[Geq(+1x1+0),Eq(+1x0+1x1-2)],And[Geq(-1x1-1),Eq(+1x0-1x1-2)]]",
@@ -171,7 +171,7 @@ fn conditions_are_cases(rt: HostRuntime) -> Result<(), Fail> {
                 "Or[And[All[Or[F0(+1x0+0;+1x2+0),Eq(+1x2+0)]],All[Or[F0(+1;+1x2+0),Eq(-1x1+1x2+0)]]],And[All[Or[F0(+1x0+0;+1x2+0),Neq(+1x2+0)]],All[Or[F0(+2;+1x2+0),Eq(-1x1+1x2+0)]]]]",
                 "Or[And[All[Or[F0(+1x0+0;+1x2+0),Eq(+1x2+0)]],All[Or[F0(+1;+1x2+0),Neq(-1x1+1x2+0)]]],And[All[Or[F0(+1x0+0;+1x2+0),Neq(+1x2+0)]],All[Or[F0(+2;+1x2+0),Neq(-1x1+1x2+0)]]]]",
             ),
-            // a condition behind a function speaks of its value by the next name
+            // a condition after a function speaks of its value by the next name
             (
                 "\\abs(f(x)) = y",
                 "All[Or[F0(+1x0+0;+1x2+0),Or[And[Geq(+1x2+0),Eq(-1x1+1x2+0)],And[Geq(-1x2-1),Eq(-1x1-1x2+0)]]]]",

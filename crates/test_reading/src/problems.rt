@@ -10,7 +10,7 @@ use std::process::Abort;
 use std::test::Fail;
 
 /// Declarations of a constant c, a function f of one argument and one without, g, and a predicate p of one argument and
-/// one without, q: 89 bytes, so that a formula behind them and `\problem { ` stands at 100.
+/// one without, q: 89 bytes, so that a formula after them and `\problem { ` stands at 100.
 const DECLARED: &str =
     "\\existentialConstants { int c; } \\functions { int f(int), g; } \\predicates { p(int), q; }";
 
@@ -31,7 +31,7 @@ fn has_fault(rt: &impl Abort, alloc: Global, text: &str, wanted: Option<TypeRefu
     assert_eq!(rt; fault(alloc, text), wanted, "at {at}");
 }
 
-/// A problem behind the declarations.
+/// A problem after the declarations.
 fn behind_declarations(alloc: Global, formula: &str) -> Result<String, AllocError> {
     let mut text = String::from_str(alloc, DECLARED)?;
     text.push_str("\\problem { ")?;
@@ -67,7 +67,7 @@ fn formulas_are_typed(rt: HostRuntime) -> Result<(), Fail> {
     Ok(())
 }
 
-/// A file of so many declarations of different constants, and the first of them again if asked: the name of the i-th
+/// A file of this many declarations of different constants, and the first of them again if asked: the name of the i-th
 /// stands at 26 + 11 i.
 fn declared(alloc: Global, count: u16, again: bool) -> Result<String, AllocError> {
     let mut text = String::from_str(alloc, "\\universalConstants { ")?;

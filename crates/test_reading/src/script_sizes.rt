@@ -11,7 +11,7 @@ use sqlite_items::Items;
 use std::alloc::Global;
 use std::test::Fail;
 
-/// A script behind some of its commands.
+/// A script after some of its commands.
 #[derive(Drop)]
 struct Script {
     known: Known,
@@ -57,7 +57,7 @@ impl Script {
         })
     }
 
-    /// The script behind one command more.
+    /// The script after one command more.
     fn behind(self, alloc: Global, effect: &Effect) -> Result<Script, Memory> {
         match effect {
             Effect::Declare(text, _, _) => self.declare(alloc, text.as_slice()),
@@ -111,7 +111,7 @@ fn sizes(alloc: Global, text: &str, written: bool) -> Result<Vec<Size>, Memory> 
     Ok(all)
 }
 
-/// Behind these commands x is a constant, and three functions are defined.
+/// After these commands x is a constant, and three functions are defined.
 const BEFORE: &str =
     "(declare-const x Int)(define-fun twice ((x Int)) Int (+ x x))(define-fun none ((x Int)) Int 0)(define-fun same ((x Int) (y Int)) Bool (= x y))";
 

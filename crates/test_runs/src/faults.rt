@@ -5,7 +5,7 @@ use std::test::Fail;
 
 const TRUE: &[u8] = b"\\problem { true }";
 
-// The outside with a source that fails at these calls and gives so many bytes a read.
+// The outside with a source that fails at these calls and gives this many bytes a read.
 fn reading(source_fails: &[u64], source_most: u64) -> Outside<'_> {
     Outside {
         source_fails,

@@ -9,7 +9,7 @@ use std::process::Abort;
 use std::test::Fail;
 use test_texts::PROOF;
 
-// A problem, and what is told of it; PROOF is the proof behind that.
+// A problem, and what is told of it; PROOF is the proof after that.
 pub const UNIFIED: &[u8] =
     b"\\existentialConstants { int a; } \\predicates { p(int); } \\problem { p(3) -> p(a) }";
 

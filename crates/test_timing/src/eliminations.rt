@@ -42,7 +42,7 @@ pub enum Whole {
     Chain,
 }
 
-/// Takes so many names out, this many times.
+/// Takes this many names out, this many times.
 pub fn eliminations(alloc: Global, whole: Whole, names: u16, times: u32) -> Result<u64, StepFault> {
     match whole {
         Whole::Gap => repeat(alloc, &formula(alloc, &GAP, names)?, 0, times),

@@ -131,7 +131,7 @@ passed_more limit b p w q m to e got idle next =
       next w.before r.0 r.1 whole,
     )
 
--- a rule takes a member from behind them, and adds its new ones at the end
+-- a rule takes a member from after them, and adds its new ones at the end
 pub passed_entered : (b d : Branch) (p : Principal) (h : IsPrincipalItem p b.list.present) (new : List (Pos × code.Member)) → d.list.present ≡ (h.before ++ h.behind) ++ new
     → (limit : ℕ) (q : Passed) → IsPassed limit b q → q.count ≤ p.index → IsPassed limit d q
 passed_entered b d p h new is limit q w le =
@@ -147,7 +147,7 @@ passed_entered b d p h new is limit q w le =
       idle = w.idle;
     }
 
--- the better of two principals is behind what was passed
+-- the better of two principals is after what was passed
 pub better_behind : (n : ℕ) (best : Option Principal) (o : Option Shape) (i : ℕ) (p : Pos) → IfSome best (λ x. n ≤ x.index) → n ≤ i → IfSome (better best o i p) (λ x. n ≤ x.index)
 better_behind n best None i p h le = h
 better_behind n None (Some k) i p h le = le

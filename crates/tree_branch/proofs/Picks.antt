@@ -1,4 +1,4 @@
--- The pick of members with one more behind them: the later member is picked where its rule comes first.
+-- The pick of members with one more after them: the later member is picked where its rule comes first.
 use Rattle.std.proofs.Common.{◌≡◌, ℕ, suc, Bool, true, false, cond, nat_lt, List, [], ◌∷◌, ◌++◌, length, Option, None, Some, refl, sym, ap, ◌∙◌}
 use Rattle.sequent.specs.declared.member.Shape.{Shape}
 use Rattle.sequent.specs.declared.member.Shape.TheVariants.{Trivial, Alpha, Delta, Beta, Gamma}
@@ -120,7 +120,7 @@ rule_better (Some b) (Some k) i p = by (nat_lt (rank k) (rank b.shape)) ∙ ap (
     by true = refl
     by false = refl
 
--- the better of the pick so far and of the member behind
+-- the better of the pick so far and of the member after
 pub picks_better : (limit : ℕ) (ms : List Member) (m : Member) (best : Option Principal) (i : ℕ) (p : Pos) → rule_of best ≡ picked limit ms → length ms ≡ i
     → rule_of (better best (fits limit m) i p) ≡ picked limit (ms ++ m ∷ [])
 picks_better limit ms m best i p is count =

@@ -6,7 +6,7 @@ use Rattle.formula.specs.Sizes.{size}
 use Rattle.sequent.specs.Limits.{IsLimited}
 use Rattle.sequent.specs.Sequent.{Sequent, IsFormedSequent}
 
--- the sequent is well formed, and each node above it, of which there are so many that the branch may have `left` more, has
+-- the sequent is well formed, and each node above it, of which there are this many that the branch may have `left` more, has
 -- used a member once, brought one more constant and as many members as a formula has nodes at most
 pub record IsWithin (left : ℕ) (s : Sequent) : Type 0 where
   pub nodes : left ≤ branch_limit

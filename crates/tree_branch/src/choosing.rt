@@ -1,5 +1,5 @@
 // Which rule comes first: one pass over the members, without memory. Members from the front that fit no rule are passed once for all
-// nodes below, since a rule takes its principal from behind them and adds its new members at the end.
+// nodes below, since a rule takes its principal from after them and adds its new members at the end.
 
 ghost use Rattle.backlist.specs.Links.{first_place};
 ghost use Rattle.tree_branch.specs.Passed.{IsPassed, nothing};
@@ -32,7 +32,7 @@ impl Passed {
 }
 
 impl Branch {
-    /// Where the member behind those that were passed lies.
+    /// Where the member after those that were passed lies.
     fn behind(&self, passed: &Passed) -> Option<Pos>
         requires { (limit : ℕ) × IsPassed limit self.now passed.now }
         ensures { (limit : ℕ) (w : IsPassed limit self.now passed.now) → result ≡ first_place w.rest }
@@ -43,7 +43,7 @@ impl Branch {
         }
     }
 
-    /// Passes the members behind those that were passed, up to the first one that fits a rule.
+    /// Passes the members after those that were passed, up to the first one that fits a rule.
     pub fn pass(&self, limit: u32, passed: &Passed) -> Passed
         requires few { length (standing self.now).members < 2 ^ 32 }
         requires passed { IsPassed limit self.now passed.now }
@@ -67,7 +67,7 @@ impl Branch {
         now
     }
 
-    /// The principal of the first rule that some member fits, the first such member, which is behind those that were passed; none
+    /// The principal of the first rule that some member fits, the first such member, which is after those that were passed; none
     /// where the branch is to be closed.
     pub fn principal(&self, limit: u32, passed: &Passed) -> Option<Principal>
         requires few { length (standing self.now).members < 2 ^ 32 }

@@ -96,7 +96,7 @@ impl Branch {
         Ok(Branch { list, count })
     }
 
-    /// Enters premise number i of the rule with this principal, and says what leaving it undoes. Where memory is wanting
+    /// Enters premise number i of the rule with this principal, and says what leaving it undoes. Where memory runs out
     /// the branch is of no more use.
     pub fn enter(&mut self, alloc: Global, principal: &Principal, i: u32) -> Result<Entered, Memory>
         requires principal { IsPrincipal self.old principal.now }

@@ -115,7 +115,7 @@ after_row Coming Next Behind s t rule count left o {old} {new} {from} {to} {r} s
     walk ns es d ls below (subst (λ q. count ≡ told_width q (width ns) es) (sym is.0) is.1) (subst (λ q. Next (told_all ns ++ (last_lines q es d ++ ls))) (sym is.0) behind) in
     (subst (λ z. HasWalked z (node p ns es d) (Behind ls) old from r new to) same (subst (λ q. HasWalked s (node q ns es d) (Behind ls) old from r new to) is.0 here), is.0)
 
--- want of memory before anything was done
+-- running out of memory before anything was done
 pub walked_memory : (s : Sequent) (x : Proof) {Behind : Type 0} {a : Funds} {c d : Course} (r : Result (Option (List (List Literal))) StepFault) → IsErrAnd r (λ y. y ≡ Memory) → HasWalked s x Behind a c r a d
 walked_memory s x r err = record { work = follow_memory r err; behind = if_err _ _ r err }
 

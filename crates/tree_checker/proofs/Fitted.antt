@@ -1,4 +1,4 @@
--- Which count of premises a row tells, and what it means that a rule has so many.
+-- Which count of premises a row tells, and what it means that a rule has this many.
 use Rattle.std.proofs.Common.{◌≡◌, ◌∙◌, ℕ, zero, suc, ◌+◌, ◌<◌, ◌≤◌, Bool, true, false, cond, ◌&&◌, nat_eq, nat_lt, List, [], ◌∷◌, ◌++◌, length, is_none, is_some, refl, sym, arith}
 use Rattle.base_budget.specs.declared.log.Entry.{Entry}
 use Rattle.sequent.specs.declared.member.Pick.{Pick}

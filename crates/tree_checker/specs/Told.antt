@@ -25,7 +25,7 @@ abbrev mutual
   told_all no_proof = []
   told_all (and_proof n ns) = told_lines n ++ told_all ns
 
--- the proof has so many levels at most
+-- the proof has this many levels at most
 abbrev mutual
   pub HasLevels : ℕ → Proof → Type 0
   HasLevels zero x = ⊥

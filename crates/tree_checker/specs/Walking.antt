@@ -19,7 +19,7 @@ IfGiven (Ok (Some a)) p = p a
 IfGiven (Ok None) p = Unit {0}
 IfGiven (Err e) p = Unit {0}
 
--- every node that was entered is paid, and so many charges fit 32 bits
+-- every node that was entered is paid, and this many charges fit 32 bits
 pub record IsPaid (c : Course) (p : Funds) : Type 0 where
   pub nodes : c.nodes ≤ p.spent
   pub within : p.spent ≤ p.budget
@@ -31,7 +31,7 @@ IsLogOf true log es = log.entries ≡ es
 IsLogOf false log es = es ≡ []
 
 -- the walk went over the proof x of s as far as the result says: where a constraint came out it is that of x, the nodes of x
--- are counted, and what holds behind x holds
+-- are counted, and what holds after x holds
 pub record HasWalked (s : Sequent) (x : Proof) (Behind : Type 0) (old : Funds) (from : Course) (r : Result (Option (List (List Literal))) StepFault) (new : Funds) (to : Course) : Type 0 where
   pub work : Followed at_node (walked from.nodes s x) old from.hand r new to.hand
   pub behind : IfGiven r (λ d. (d ≡ given x) × (to.nodes ≡ from.nodes + nodes_in x) × Behind)

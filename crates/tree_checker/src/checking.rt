@@ -53,7 +53,7 @@ pub enum CheckFault {
     Memory,
 }
 
-/// Whether these lines are a proof of the formula over so many constants that charges no more than this: what it says, or the first
+/// Whether these lines are a proof of the formula over this many constants that charges no more than this: what it says, or the first
 /// thing that is wrong. They may be those of a text, and those in which a walk is told of any proof of at most 2,000 levels.
 pub fn check_lines<L: ProofLines>(
     alloc: Global,

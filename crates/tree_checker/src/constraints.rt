@@ -75,7 +75,7 @@ fn beta(alloc: Global, given: &[Dnf], purse: &mut Purse) -> Result<Option<Dnf>, 
     Ok(Some(conjoined(alloc, given, purse)?))
 }
 
-/// The constraint of delta: that of the premise, for every value of the new constant, which comes after so many.
+/// The constraint of delta: that of the premise, for every value of the new constant, which comes after this many.
 fn delta(
     alloc: Global,
     count: u32,
@@ -90,7 +90,7 @@ fn delta(
     outcome(check_forall(alloc, &d, count + 1, log, purse))
 }
 
-/// The constraint of gamma: that of the premise, for some value of the new constant, which comes after so many.
+/// The constraint of gamma: that of the premise, for some value of the new constant, which comes after this many.
 fn gamma(
     alloc: Global,
     count: u32,

@@ -40,7 +40,7 @@ impl Course {
         self.hand = number;
     }
 
-    /// The check is behind the last node, at the conclusion.
+    /// The check is after the last node, at the conclusion.
     pub fn conclude(&mut self)
         ensures hand { self.new.hand ≡ at_node self.old.hand (enter self.old.nodes) }
         ensures nodes { self.new.nodes ≡ self.old.nodes }

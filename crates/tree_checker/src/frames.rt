@@ -32,7 +32,7 @@ struct Frame<'a> {
     gives: &'a [Items<Literal>],
 }
 
-/// Where the lines of a tree are: before its root, within a node, before its conclusion or behind that.
+/// Where the lines of a tree are: before its root, within a node, before its conclusion or after that.
 #[derive(Clone, Copy)]
 enum Stage<'a> {
     Root,
@@ -78,7 +78,7 @@ fn log_of<'a>(rule: Pick, log: &'a ElimLog) -> Option<&'a ElimLog>
     if eliminates(rule) { Some(log) } else { None }
 }
 
-/// What comes of a node behind its row.
+/// What comes of a node after its row.
 fn behind_row<'a>(node: &'a Node) -> Frame<'a>
     ensures { due result ≡ below (proof_of node.now) }
 {

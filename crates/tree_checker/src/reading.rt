@@ -28,7 +28,7 @@ pub fn read_row<L: ProofLines>(alloc: Global, lines: &mut L) -> Result<Option<(P
     }
 }
 
-/// The constraint of a node, behind its premises, once its log has come where its rule has one.
+/// The constraint of a node, after its premises, once its log has come where its rule has one.
 pub fn read_last<L: ProofLines>(
     alloc: Global,
     lines: &mut L,

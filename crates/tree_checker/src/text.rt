@@ -26,7 +26,7 @@ pub enum TextFault {
     Memory,
 }
 
-/// Checks the proof in a file, of a formula over so many constants, in memory that grows with the open branch and not with the
+/// Checks the proof in a file, of a formula over this many constants, in memory that grows with the open branch and not with the
 /// proof. The whole text is read once before its first line is checked.
 pub fn check_text(
     alloc: Global,

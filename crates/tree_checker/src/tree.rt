@@ -14,7 +14,7 @@ use formula::Core;
 use proof_tree::Tree;
 use std::alloc::Global;
 
-/// Whether the tree, of at most 2,000 levels, is a proof of the formula over so many constants: what it says, or the first thing
+/// Whether the tree, of at most 2,000 levels, is a proof of the formula over this many constants: what it says, or the first thing
 /// that is wrong.
 pub fn check(alloc: Global, root: &Core, constants: u32, tree: &Tree) -> Result<Checked, CheckFault>
     requires searchable { IsSearchable (form root.now) constants }
