@@ -51,7 +51,8 @@ pub fn shrink<J: Judge>(
     Ok(best)
 }
 
-/// Candidate number k in the place of x: 0, 1, -1, 2, -2 and then the halves of x; None where it is no smaller.
+/// Candidate number k in the place of x: 0, 1, -1, 2, -2 and then the halves of x as far as they are others; None where it is no
+/// smaller.
 fn candidate(x: i128, k: u32) -> Option<i128> {
     let new = match k {
         0 => 0,
@@ -61,6 +62,9 @@ fn candidate(x: i128, k: u32) -> Option<i128> {
         4 => -2,
         _ => x.checked_div(1i128.checked_shl(k.saturating_sub(4))?)?,
     };
+    if k > 4 && new.unsigned_abs() <= 2 {
+        return None;
+    }
     if new.unsigned_abs() < x.unsigned_abs() {
         Some(new)
     } else {

@@ -7,18 +7,20 @@ use crate::finish::Final;
 use crate::restart::{Limits, Restart};
 use crate::tally::Tally;
 use base_watch::{Event, Progress, Watch};
-use cdcl_forms::{TRUE, Vocabulary, negated};
-use cdcl_fuel::{Fault, Fuel};
+use cdcl_forms::{List, TRUE, Term, Terms, Vocabulary, negated};
+use cdcl_fuel::{Fault, Fuel, small};
 use cdcl_state::{Pending, State};
 use cdcl_steps::write_proof;
 use formula::Core;
 use std::alloc::Global;
 
-/// A search for a proof that a closed root is true, or for a model in which it is false.
+/// A search for a proof that a root is true at integers for its names, or for a model in which it is false there.
 #[derive(Drop)]
 pub struct Search<Q> {
     pub(crate) state: State,
     pub(crate) advisor: Q,
+    /// The integers for the names of the root.
+    at: List,
     restart: Restart,
     limits: Limits,
     /// How often all clauses were true.
@@ -42,13 +44,21 @@ enum Round {
 }
 
 impl<Q: Advisor + Drop> Search<Q> {
-    /// A search with a budget of steps. The root has no names of its own.
-    pub fn new(alloc: Global, root: &Core, advisor: Q, budget: u64) -> Result<Search<Q>, Fault> {
-        let words = Vocabulary::new(alloc, root, 0)?;
+    /// A search with a budget of steps, at these integers for the names of the root, from the first on.
+    pub fn new(
+        alloc: Global,
+        root: &Core,
+        values: &[i128],
+        advisor: Q,
+        budget: u64,
+    ) -> Result<Search<Q>, Fault> {
+        let mut words = Vocabulary::new(alloc, root, small(values.len())?)?;
+        let at = numbers(alloc, &mut words, values)?;
         let state = State::new(alloc, words, budget)?;
         Ok(Search {
             state,
             advisor,
+            at,
             restart: Restart::new(),
             limits: Limits::new(),
             finals: 0,
@@ -92,7 +102,7 @@ impl<Q: Advisor + Drop> Search<Q> {
 
     /// Searches until there is an answer, or a fault ends the search. Who watches is told now and then how far it is.
     pub fn run<X: Watch>(&mut self, watch: &mut X) -> Result<Answer, Fault> {
-        begin(&mut self.state)?;
+        begin(&mut self.state, self.at)?;
         self.register_all()?;
         for round in 0..u64::MAX {
             self.state.fuel.spend(1)?;
@@ -139,10 +149,19 @@ fn proof(state: &State) -> Result<Answer, Fault> {
     Ok(Answer::Proof(proof))
 }
 
-/// The root is false.
-fn begin(state: &mut State) -> Result<(), Fault> {
+/// Integers as a list of terms.
+fn numbers(alloc: Global, words: &mut Vocabulary, values: &[i128]) -> Result<List, Fault> {
+    let mut terms: Vec<Term> = Vec::with_capacity(alloc, values.len())?;
+    for k in values {
+        terms.push(Terms::number(*k))?;
+    }
+    words.terms.list_of(terms.as_slice())
+}
+
+/// The root is false at the integers for its names.
+fn begin(state: &mut State, at: List) -> Result<(), Fault> {
     let root = state.knowledge.words.tree.root;
-    let x = state.knowledge.words.formula(root, 0)?;
+    let x = state.knowledge.words.formula(root, at)?;
     let l = state.literal(x)?;
     let id = state.knowledge.log.root(l)?;
     state.input(&[TRUE], id)?;

@@ -2,6 +2,7 @@
 // beside those of the search.
 
 use crate::guessing::guessed;
+use crate::target::Target;
 use cdcl_deciding::Elimination;
 use cdcl_forms::{Instance, Present, Vocabulary};
 use cdcl_fuel::{Fault, Fuel};
@@ -9,7 +10,6 @@ use cdcl_instances::{Outcome, Quantifiers};
 use cdcl_matching::Items;
 use cdcl_models::Model;
 use cdcl_search::{Advice, Advisor};
-use formula::Core;
 use std::alloc::Global;
 
 /// The first round in which small models are tried. They are tried again after twice as many, and so on.
@@ -26,8 +26,7 @@ pub(crate) struct Instances<'a> {
     alloc: Global,
     quantifiers: Quantifiers,
     decider: Elimination,
-    root: &'a Core,
-    universals: u32,
+    target: Target<'a>,
     budget: u64,
     rounds: u64,
     next_guess: u64,
@@ -35,19 +34,13 @@ pub(crate) struct Instances<'a> {
 }
 
 impl<'a> Instances<'a> {
-    /// An advisor for a search of this budget, of a root whose first for-alls are this many universal constants.
-    pub(crate) fn new(
-        alloc: Global,
-        root: &'a Core,
-        universals: u32,
-        budget: u64,
-    ) -> Instances<'a> {
+    /// An advisor for a search of this budget.
+    pub(crate) fn new(alloc: Global, target: Target<'a>, budget: u64) -> Instances<'a> {
         Instances {
             alloc,
             quantifiers: Quantifiers::new(alloc),
             decider: Elimination { alloc },
-            root,
-            universals,
+            target,
             budget,
             rounds: 0,
             next_guess: FIRST_GUESS,
@@ -79,7 +72,7 @@ impl<'a> Instances<'a> {
         let tables = Model::new(self.alloc, &items, present, fuel)?;
         let so_far = self.budget.saturating_sub(fuel.left());
         let steps = (so_far / GUESS_PART).max(LEAST_STEPS);
-        self.guess = guessed(self.alloc, self.root, self.universals, tables, steps, fuel)?;
+        self.guess = guessed(self.alloc, self.target, tables, steps, fuel)?;
         Ok(self.guess.is_some())
     }
 

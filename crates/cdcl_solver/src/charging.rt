@@ -4,6 +4,7 @@ ghost use Rattle.formula.specs.Sizes.{depth};
 ghost use Rattle.formula.specs.Tree.{form};
 ghost use Rattle.std.specs.Prelude.{◌≢◌, ◌≤◌};
 
+use crate::target::Target;
 use base_budget::Purse;
 use base_limits::MOST_BUDGET;
 use cdcl_steps::Proof;
@@ -42,19 +43,19 @@ pub(crate) fn preparation(root: &Core, budget: u64) -> u32
 /// prepared. None where the proof is refused, or its check costs more than any file may say.
 pub(crate) fn charges(
     alloc: Global,
-    root: &Core,
+    target: Target<'_>,
     prepared: &Core,
     steps: u32,
     proof: &Proof,
 ) -> Result<Option<u32>, Memory> {
     let mut purse = Purse::new(MOST_BUDGET);
     if steps != 0 {
-        let cost = walks(root).saturating_add(u64::from(steps));
+        let cost = walks(target.root).saturating_add(u64::from(steps));
         if purse.charge(cost).is_err() {
             return Ok(None);
         }
     }
-    match check(alloc, &mut purse, prepared, proof) {
+    match check(alloc, &mut purse, prepared, target.values, proof) {
         Ok(()) => Ok(u32::try_from(purse.spent()).ok()),
         Err(Fault::Memory) => Err(Memory),
         Err(_) => Ok(None),
@@ -62,9 +63,15 @@ pub(crate) fn charges(
 }
 
 /// Checks the lines of the proof, as a check of a file does.
-fn check(alloc: Global, purse: &mut Purse, root: &Core, proof: &Proof) -> Result<(), Fault> {
+fn check(
+    alloc: Global,
+    purse: &mut Purse,
+    root: &Core,
+    values: &[i128],
+    proof: &Proof,
+) -> Result<(), Fault> {
     let mut marks = Marks::new(alloc);
-    let mut state = begin(alloc, purse, root, &[], proof.root)?;
+    let mut state = begin(alloc, purse, root, values, proof.root)?;
     for line in proof.lines.as_slice() {
         step(alloc, purse, &mut marks, &mut state, line)?;
     }

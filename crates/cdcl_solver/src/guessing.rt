@@ -3,9 +3,9 @@
 
 use crate::shrinking::judged;
 use crate::squeezing::{near_constants, project, squeezed};
+use crate::target::Target;
 use cdcl_fuel::{Fault, Fuel};
 use cdcl_models::{Defaults, Model};
-use formula::Core;
 use std::alloc::Global;
 
 /// The greatest gaps between the numbers of the models that are tried.
@@ -58,8 +58,7 @@ fn candidate(
 /// The candidate, if the root is seen to be false in it. One that is cut is none.
 fn tried(
     alloc: Global,
-    root: &Core,
-    universals: u32,
+    target: Target<'_>,
     tables: &Model,
     gap: i128,
     elsewhere: Elsewhere,
@@ -70,7 +69,7 @@ fn tried(
         Err(Fault::Memory) => return Err(Fault::Memory),
         Err(_) => return Ok(None),
     };
-    match judged(alloc, root, universals, &model, fuel) {
+    match judged(alloc, target, &model, fuel) {
         Ok(true) => Ok(Some(model)),
         Err(Fault::Memory) => Err(Fault::Memory),
         _ => Ok(None),
@@ -80,8 +79,7 @@ fn tried(
 /// A small model in which the root is false, beside these tables. Each one that is tried takes at most `steps` steps.
 fn beside(
     alloc: Global,
-    root: &Core,
-    universals: u32,
+    target: Target<'_>,
     tables: &Model,
     steps: u64,
     fuel: &mut Fuel,
@@ -89,7 +87,7 @@ fn beside(
     for gap in GAPS {
         for elsewhere in ALL {
             let mut share = fuel.share(steps);
-            let found = tried(alloc, root, universals, tables, gap, elsewhere, &mut share)?;
+            let found = tried(alloc, target, tables, gap, elsewhere, &mut share)?;
             fuel.give_back(share);
             if found.is_some() {
                 return Ok(found);
@@ -103,18 +101,17 @@ fn beside(
 /// Each one that is tried takes at most `steps` steps.
 pub(crate) fn guessed(
     alloc: Global,
-    root: &Core,
-    universals: u32,
+    target: Target<'_>,
     tables: Model,
     steps: u64,
     fuel: &mut Fuel,
 ) -> Result<Option<Model>, Fault> {
     let mut tables = tables;
-    tables.constants.truncate(universals as usize);
-    let found = beside(alloc, root, universals, &tables, steps, fuel)?;
+    tables.constants.truncate(target.universals as usize);
+    let found = beside(alloc, target, &tables, steps, fuel)?;
     if found.is_some() {
         return Ok(found);
     }
     let fewer = near_constants(alloc, &tables, fuel)?;
-    beside(alloc, root, universals, &fewer, steps, fuel)
+    beside(alloc, target, &fewer, steps, fuel)
 }

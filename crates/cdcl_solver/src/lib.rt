@@ -1,4 +1,4 @@
-// The clause search of a closed formula, from its root to the text of a proof or to a model.
+// The clause search of a closed formula, or of a formula at integers for its names, from its root to the text of a proof or to a model.
 #![tactic(auto)]
 
 mod advising;
@@ -9,6 +9,7 @@ mod shrinking;
 mod solving;
 mod squeezing;
 mod stopping;
+mod target;
 mod writing;
 
-pub use solving::{Found, search};
+pub use solving::{Found, search, search_at};

@@ -2,9 +2,10 @@
 
 use crate::modelling::{Refutation, refutation_of};
 use crate::squeezing::squeezed;
+use crate::target::Target;
 use base_budget::Purse;
-use cdcl_fuel::{Fault, Fuel};
-use cdcl_models::{Judge, Model, shrink};
+use cdcl_fuel::{Fault, Fuel, small};
+use cdcl_models::{Judge, Model, RootTruth, shrink};
 use formula::Core;
 use model_check::is_false;
 use model_formulas::Fault as Cut;
@@ -90,21 +91,54 @@ fn is_false_below(
 #[derive(Drop)]
 struct Judgement<'a> {
     alloc: Global,
-    root: &'a Core,
-    universals: u32,
+    target: Target<'a>,
+    /// What sees at little cost that the root is true in many of the models that are no counterexample.
+    truth: Option<RootTruth>,
+    /// How many models were judged to be one.
+    accepted: u64,
     best: Option<Refutation>,
+}
+
+/// Whether something sees that the root is true in the model.
+fn is_seen_true(
+    truth: &mut Option<RootTruth>,
+    model: &Model,
+    values: &[i128],
+    fuel: &mut Fuel,
+) -> Result<bool, Fault> {
+    match truth {
+        Some(truth) => truth.is_true(model, values, fuel),
+        None => Ok(false),
+    }
 }
 
 impl Judge for Judgement<'_> {
     fn is_false(&mut self, model: &Model, fuel: &mut Fuel) -> Result<bool, Fault> {
-        let found = refutation_of(self.alloc, model, self.universals)?;
+        if is_seen_true(&mut self.truth, model, self.target.values, fuel)? {
+            return Ok(false);
+        }
+        let Target {
+            root,
+            values,
+            universals,
+        } = self.target;
+        let found = refutation_of(self.alloc, model, universals)?;
+        let mut at = Vec::from_slice(self.alloc, values)?;
+        at.extend_from_slice(found.values.as_slice())?;
         let mut purse = Purse::new(fuel.left());
-        let values = found.values.as_slice();
-        let outcome = is_false_below(self.alloc, &mut purse, self.root, &found.model, values, 0);
+        let outcome = is_false_below(
+            self.alloc,
+            &mut purse,
+            root,
+            &found.model,
+            at.as_slice(),
+            values.len(),
+        );
         fuel.spend(purse.spent())?;
         match outcome {
             Ok(true) => {
                 self.best = Some(found);
+                self.accepted = self.accepted.saturating_add(1);
                 Ok(true)
             }
             Ok(false) => Ok(false),
@@ -118,15 +152,15 @@ impl Judge for Judgement<'_> {
 /// Whether the root is seen to be false in the model, at the values of its first constants for the root's first for-alls.
 pub(crate) fn judged(
     alloc: Global,
-    root: &Core,
-    universals: u32,
+    target: Target<'_>,
     model: &Model,
     fuel: &mut Fuel,
 ) -> Result<bool, Fault> {
     let mut judgement = Judgement {
         alloc,
-        root,
-        universals,
+        target,
+        truth: None,
+        accepted: 0,
         best: None,
     };
     judgement.is_false(model, fuel)
@@ -148,8 +182,8 @@ fn with_gaps(
     Ok(found)
 }
 
-/// Judges the model, and then smaller ones: first with smaller gaps, then number by number, twice, since one number may be in the way
-/// of another.
+/// Judges the model, and then smaller ones: first with smaller gaps, then number by number, and again where that made
+/// one smaller, since one number may be in the way of another.
 fn judge_all(
     alloc: Global,
     found: Model,
@@ -162,27 +196,43 @@ fn judge_all(
     }
     let mut found = with_gaps(alloc, found, judgement, &mut fuel)?;
     for _ in 0..PASSES {
+        let before = judgement.accepted;
         found = shrink(alloc, found, judgement, &mut fuel)?;
+        if judgement.accepted == before {
+            break;
+        }
     }
     Ok(())
 }
 
-/// The model of a search with smaller numbers, looked for in at most `steps` steps, at values of the root's first `universals`
-/// for-alls. Where the root is not seen to be false in the model, the model stays as it is.
+/// What sees that the root is true in a model; None where nothing does.
+fn truth_of(alloc: Global, target: Target<'_>) -> Result<Option<RootTruth>, Fault> {
+    let Ok(names) = small(target.values.len()) else {
+        return Ok(None);
+    };
+    match RootTruth::new(alloc, target.root, names, target.universals) {
+        Err(Fault::Memory) => Err(Fault::Memory),
+        Err(_) => Ok(None),
+        found => found,
+    }
+}
+
+/// The model of a search with smaller numbers, looked for in at most `steps` steps, at values of the root's first for-alls. Where the
+/// root is not seen to be false in the model, the model stays as it is.
 pub(crate) fn shrunk(
     alloc: Global,
-    root: &Core,
+    target: Target<'_>,
     found: Model,
-    universals: u32,
     steps: u64,
 ) -> Result<Refutation, Fault> {
     let mut found = found;
-    found.constants.truncate(universals as usize);
-    let first = refutation_of(alloc, &found, universals)?;
+    found.constants.truncate(target.universals as usize);
+    let first = refutation_of(alloc, &found, target.universals)?;
     let mut judgement = Judgement {
         alloc,
-        root,
-        universals,
+        target,
+        truth: truth_of(alloc, target)?,
+        accepted: 0,
         best: None,
     };
     if let Err(Fault::Memory) = judge_all(alloc, found, &mut judgement, steps) {

@@ -21,6 +21,9 @@ use std::alloc::Global;
 // How many steps of the clause search there are for each step of a budget: they are shorter than those of the canonical run.
 const RATE: u64 = 4;
 
+// A brief search has one part in this many of a budget.
+const BRIEF: u64 = 20;
+
 /// What the clause search found, and its judge accepted.
 #[derive(Drop)]
 pub enum Judged {
@@ -60,6 +63,22 @@ pub fn search_judged<X: Watch>(
         ),
         Found::Nothing => Ok(Judged::Nothing),
     }
+}
+
+/// The same with a small part of the budget, as a first try.
+pub fn search_briefly<X: Watch>(
+    alloc: Global,
+    problem: &Problem,
+    encoded: &Encoded,
+    budget: u64,
+    watch: &mut X,
+) -> Result<Judged, Memory>
+    requires well_formed { IsWellFormed problem.now }
+    requires alone { problem.now.existentials ≡ [] }
+    requires encoded { IsEncoded problem.now encoded.now }
+    ensures { IfOk result (IsJudged problem.now) }
+{
+    search_judged(alloc, problem, encoded, budget / BRIEF, watch)
 }
 
 // The proof, if the check accepts it.

@@ -5,5 +5,5 @@
 mod judging;
 mod laws;
 
-pub use judging::{Judged, search_judged};
+pub use judging::{Judged, search_briefly, search_judged};
 pub use laws::proof_law;

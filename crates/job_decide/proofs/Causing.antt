@@ -2,10 +2,10 @@
 use Rattle.std.proofs.Common.{◌≡◌, ◌≢◌, ◌∙◌, ℕ, Bool, List, [], Option, refl, sym, ap, subst}
 use Rattle.base_answers.specs.Answer.{Answer, IsAnswerStatus}
 use Rattle.base_answers.specs.declared.form.ProofForm.{ProofForm}
-use Rattle.job_decide.specs.Causes.{IsCausedAs, IsSolveCaused, IsSolveCausedAs, by_problem, canonical as canonical_cause, elsewhere, proved as proved_cause, refuted as refuted_cause}
+use Rattle.job_decide.specs.Causes.{IsCausedAs, IsSolveCaused, IsSolveCausedAs, by_problem, canonical as canonical_cause, elsewhere, nowhere as nowhere_cause, proved as proved_cause, refuted as refuted_cause}
 use Rattle.job_decide.specs.Shown.{AnswersShown}
 use Rattle.job_decide.proofs.Showing.{no_part, run_alone, unextended}
-use Rattle.job_decide.specs.Decided.{IsDecidedAs, canonical, proved, refuted}
+use Rattle.job_decide.specs.Decided.{IsDecidedAs, canonical, nowhere, proved, refuted}
 use Rattle.job_solve.specs.Proved.{IsSolvedAs, extended}
 use Rattle.job_solve.specs.Solved.{IsSolved, run_end}
 use Rattle.job_solve.proofs.Causing as solve_causing
@@ -59,6 +59,7 @@ causes calculus shows asked budget bytes a (posed p h (leaves l e)) = canonical_
 causes calculus shows asked budget bytes a (posed p h (runs f (canonical k))) = canonical_cause (shown_so shows asked budget bytes p a h f k)
 causes calculus shows asked budget bytes a (posed p h (runs f (proved off k))) = proved_cause off (ap status_of k.whole) (p, h, (f, k.left_open, (k.file, k.proof)))
 causes calculus shows asked budget bytes a (posed p h (runs f (refuted off k))) = refuted_cause off (ap status_of k.whole) (p, h, (f, k.left_open, (k.model, k.universals, k.is)))
+causes calculus shows asked budget bytes a (posed p h (runs f (nowhere off none k))) = nowhere_cause off none (ap status_of k.whole) (p, h, (f, k.cut, k.nowhere))
 
 solved_as_status : (asked : Option ProofForm) (budget : ℕ) (bytes : List ℕ) (a : Answer) → IsSolvedAs asked budget bytes a → IsAnswerStatus a.status
 solved_as_status asked budget bytes a h = let s = parted asked budget bytes a h in subst (λ b. IsAnswerStatus b.status) (sym s.whole) (solved_status budget bytes s.plain s.solved)
@@ -71,3 +72,4 @@ decided_status calculus shows asked budget bytes a (posed p h (runs f (canonical
     subst IsAnswerStatus (sym (ap status_of k.whole)) (solved_as_status asked budget bytes (extended k.plain k.part) (posed p h (runs f (run_alone shows asked budget p a k))))
 decided_status calculus shows asked budget bytes a (posed p h (runs f (proved off k))) = subst (λ b. IsAnswerStatus b.status) (sym k.whole) refl
 decided_status calculus shows asked budget bytes a (posed p h (runs f (refuted off k))) = subst (λ b. IsAnswerStatus b.status) (sym k.whole) refl
+decided_status calculus shows asked budget bytes a (posed p h (runs f (nowhere off none k))) = subst (λ b. IsAnswerStatus b.status) (sym k.whole) refl

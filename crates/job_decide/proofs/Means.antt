@@ -12,7 +12,7 @@ use Rattle.form_typed.specs.Truth.{Meaning, Truth}
 use Rattle.formula.specs.Form.{is_pure}
 use Rattle.formula.proofs.Anywhere.{truth_anywhere}
 use Rattle.itp_lines.proofs.Meaning.{blocks_mean}
-use Rattle.job_decide.specs.Decided.{AnswersProved, AnswersRefuted, IsDecidedAs, canonical, clause_part, model_answer, proved, refuted, whole_purse}
+use Rattle.job_decide.specs.Decided.{AnswersNowhere, AnswersProved, AnswersRefuted, IsDecidedAs, canonical, clause_part, model_answer, nowhere, proved, refuted, whole_purse}
 use Rattle.job_decide.specs.Meaning.{Means, RefutesInModel}
 use Rattle.job_decide.specs.Shown.{AnswersShown, AreShownLines, AreToShow, nothing, values}
 use Rattle.job_decide.proofs.Showing.{invalid_plain, no_part as no_part_shown, run_alone, unshown}
@@ -122,6 +122,21 @@ refuted_means w shows asked budget bytes p a poses h =
       disproved = λ form on z. inr (refl, refutes);
     }
 
+-- an answer by a clause proof that there are no values
+nowhere_means : (w : Meaning) (shows : Bool) (budget : ℕ) (bytes : List ℕ) (p : Problem) (a : Answer) → Poses bytes p → AnswersNowhere budget p a → Means w shows None bytes a
+nowhere_means w shows budget bytes p a poses h =
+    let is = h.nowhere in
+    record {
+      text = a.text;
+      part = [];
+      whole = sym (append-nil a.text);
+      none = λ off. refl;
+      valid = λ z. let bad = sym z ∙ ap status_of h.whole in absurd cc;
+      invalid = λ one. inl (record { problem = p; reads = poses.reads; refuted = is.refuted; shows = λ impure vs probe. absurd (impure is.pure) });
+      proved = λ form on. absurd cc;
+      disproved = λ form on. absurd cc;
+    }
+
 -- an answer of the canonical run with values that are shown
 values_mean : (w : Meaning) (shows : Bool) (asked : Option ProofForm) (budget : ℕ) (bytes : List ℕ) (p : Problem) (a : Answer) → Poses bytes p → Fits p → (k : AnswersShown shows asked budget p a) (vs : List ℤ) → AreToShow shows p k.plain
     → AreFalseValues budget p vs → k.lines ≡ model_text p vs no_model → Means w shows asked bytes a
@@ -169,6 +184,7 @@ means w calculus shows asked budget bytes a (posed p h (leaves l e)) = solved_me
 means w calculus shows asked budget bytes a (posed p h (runs f (canonical k))) = canonical_means w shows asked budget bytes p a h f k
 means w calculus shows asked budget bytes a (posed p h (runs f (proved off k))) = proved_means w shows asked budget bytes p a h f k
 means w calculus shows asked budget bytes a (posed p h (runs f (refuted off k))) = refuted_means w shows asked budget bytes p a h k
+means w calculus shows asked budget bytes a (posed p h (runs f (nowhere off none k))) = subst (λ x. Means w shows x bytes a) (sym none) (nowhere_means w shows budget bytes p a h k)
 
 -- with the calculus alone, and where no values are shown, there is no other answer than those of the canonical run
 no_lines : (budget : ℕ) (p : Problem) (plain : Answer) (lines : List ℕ) → AreShownLines false budget p plain lines → lines ≡ []
@@ -182,3 +198,4 @@ calculus_alone asked budget bytes a (posed p h (leaves l e)) = posed p h (leaves
 calculus_alone asked budget bytes a (posed p h (runs f (canonical k))) = posed p h (runs f (unshown false asked budget p a k (no_lines budget p k.plain k.lines k.shown)))
 calculus_alone asked budget bytes a (posed p h (runs f (proved off k))) = absurd cc
 calculus_alone asked budget bytes a (posed p h (runs f (refuted off k))) = absurd cc
+calculus_alone asked budget bytes a (posed p h (runs f (nowhere off none k))) = absurd cc

@@ -6,8 +6,11 @@ use Rattle.job_clauses.specs.Judged.{IsClauseFile}
 use Rattle.job_decide.specs.Decided.{IsLeftOpen}
 use Rattle.job_decide.specs.Shown.{AreShownLines}
 use Rattle.job_solve.specs.Causes.{SolveCauses, SolveDecides}
+use Rattle.job_parts.specs.Parts.{IsCut, first_part}
+use Rattle.job_seeking.specs.Sought.{IsProvedNowhere}
 use Rattle.job_solve.specs.Ground.{IsEnough}
 use Rattle.job_solve.specs.Proved.{extended}
+use Rattle.job_solve.specs.Solved.{run_end}
 use Rattle.model_refuting.specs.Refuting.{IsModelCounterexample}
 use Rattle.model_table.specs.declared.model.Model.{Model}
 use Rattle.pri_problem.specs.Answers.{PosesOne}
@@ -43,8 +46,14 @@ IsProvedByClauses budget bytes = PosesOne bytes (λ p. Fits p × IsLeftOpen budg
 abbrev pub IsRefutedByModel : ℕ → List ℕ → Type 0
 IsRefutedByModel budget bytes = PosesOne bytes (λ p. Fits p × IsLeftOpen budget p × ((m : Model) × (us : List ℤ) × IsModelCounterexample p [] m us))
 
+-- the bytes pose a problem whose encoding fits, whose canonical run is cut within the first part of the budget, and of which there is a
+-- clause proof that it holds at no values of its existential constants
+abbrev pub IsNowhereByClauses : ℕ → List ℕ → Type 0
+IsNowhereByClauses budget bytes = PosesOne bytes (λ p. Fits p × IsCut (run_end (first_part budget) p) × IsProvedNowhere p)
+
 -- the answer is that of the canonical run; or, not by the calculus alone, it is valid or invalid where that run leaves the problem open
 pub data IsCausedAs (calculus shows : Bool) (asked : Option ProofForm) (budget : ℕ) (bytes : List ℕ) (answer : Answer) : Type 0 where
   canonical : IsSolveCausedAs shows asked budget bytes answer → IsCausedAs calculus shows asked budget bytes answer
   proved : calculus ≡ false → answer.status ≡ 0 → IsProvedByClauses budget bytes → IsCausedAs calculus shows asked budget bytes answer
   refuted : calculus ≡ false → answer.status ≡ 1 → IsRefutedByModel budget bytes → IsCausedAs calculus shows asked budget bytes answer
+  nowhere : calculus ≡ false → asked ≡ None → answer.status ≡ 1 → IsNowhereByClauses budget bytes → IsCausedAs calculus shows asked budget bytes answer

@@ -1,11 +1,13 @@
 -- What `solve` answers: the end of the canonical run; or, where that leaves the problem open, that it is valid, by a clause proof, or that
 -- it is refuted, by a finite model.
 use Rattle.std.specs.Prelude.{◌≡◌, ℕ, ℤ, Bool, false, cond, ◌||◌, List, [], ◌++◌, codes, Option, Some, None, is_some}
-use Rattle.base_answers.specs.Answer.{Answer, line}
+use Rattle.base_answers.specs.Answer.{Answer, answer_of, line, says_line}
 use Rattle.base_answers.specs.declared.form.ProofForm.{ProofForm}
+use Rattle.base_answers.specs.declared.output.Output.{Output}
 use Rattle.base_budget.specs.Trace.{Funds}
 use Rattle.itp_lines.specs.Blocks.{IsBlocksText}
 use Rattle.job_clauses.specs.Judged.{IsClauseFile}
+use Rattle.job_seeking.specs.Sought.{IsProvedNowhere}
 use Rattle.job_parts.specs.Parts.{IsCut, first_part}
 use Rattle.job_decide.specs.Shown.{AnswersShown}
 use Rattle.job_solve.specs.Proved.{extended}
@@ -59,11 +61,24 @@ pub record AnswersRefuted (shows : Bool) (budget : ℕ) (p : Problem) (answer : 
   pub is : IsModelCounterexample p [] model universals
   pub whole : answer ≡ model_answer shows p universals model
 
+-- the answer that the problem, which has neither predicates nor functions, holds at no values of its existential constants: its canonical
+-- run is cut within the first part of the budget, and there is a clause proof of that
+pub record AnswersNowhere (budget : ℕ) (p : Problem) (answer : Answer) : Type 0 where
+  pub cut : IsCut (run_end (first_part budget) p)
+  pub nowhere : IsProvedNowhere p
+  pub whole : answer ≡ says_line 1 (codes "INVALID")
+
 -- the answer to a problem whose encoding fits, by the calculus alone or not, with values that are shown or not
 pub data AnswersDecided (calculus shows : Bool) (asked : Option ProofForm) (budget : ℕ) (p : Problem) (answer : Answer) : Type 0 where
   canonical : AnswersShown shows asked budget p answer → AnswersDecided calculus shows asked budget p answer
   proved : calculus ≡ false → AnswersProved asked budget p answer → AnswersDecided calculus shows asked budget p answer
   refuted : calculus ≡ false → AnswersRefuted shows budget p answer → AnswersDecided calculus shows asked budget p answer
+  nowhere : calculus ≡ false → asked ≡ None → AnswersNowhere budget p answer → AnswersDecided calculus shows asked budget p answer
+
+-- the answer by what the clause search found, where it found something
+abbrev pub AnswersFound : Bool → Option ProofForm → ℕ → Problem → Option Output → Type 0
+AnswersFound shows asked budget p None = Unit {0}
+AnswersFound shows asked budget p (Some output) = AnswersDecided false shows asked budget p (answer_of output)
 
 -- the answer of `solve` with this budget to the bytes of a file, with its proof or without
 abbrev pub IsDecidedAs : Bool → Bool → Option ProofForm → ℕ → List ℕ → Answer → Type 0

@@ -1,5 +1,5 @@
-// What `solve` answers to a problem's file, and `drill` to a problem that the program makes: by the canonical run, and where that leaves the problem open, by the clause search, whose proofs and
-// models are judged before anything is told.
+// What `solve` answers to a problem's file, and `drill` to a problem that the program makes: by the canonical run, or, where that
+// leaves the problem open, by the clause search, whose proofs and models are judged before anything is told.
 #![tactic(auto)]
 
 mod clauses;

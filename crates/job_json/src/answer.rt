@@ -67,6 +67,9 @@ fn write_verdict(object: &mut Object, line: &[u8]) -> Result<(), Memory> {
     if verdict.starts_with(b"constraint: ") {
         return object.text_member("answer", b"constraint");
     }
+    if verdict.starts_with(b"solution: ") {
+        return object.text_member("answer", b"solution");
+    }
     if let Some(least) = verdict.strip_prefix(b"least: ") {
         object.text_member("answer", b"least")?;
         return object.text_member("least", least);
@@ -78,7 +81,7 @@ fn write_verdict(object: &mut Object, line: &[u8]) -> Result<(), Memory> {
     object.text_member("answer", verdict)
 }
 
-/// Writes members for the lines after the first one, and for a first one that is a constraint.
+/// Writes members for the lines after the first one, and for a first one that is a constraint or a solution.
 fn write_lines(object: &mut Object, answer: &[u8]) -> Result<(), Memory> {
     if let Some(constraint) = labelled(answer, b"constraint: ") {
         object.text_member("constraint", constraint)?;

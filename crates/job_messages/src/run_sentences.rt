@@ -49,7 +49,7 @@ pub(crate) const EMPTY_TYPE: &str =
 pub(crate) const NO_CHECK: &str = "the script has no (check-sat), so it asks nothing";
 
 pub(crate) const UNASKED_ASSERTION: &str =
-    "no (check-sat) stands behind this assertion, so nothing is asked of it";
+    "no (check-sat) stands after this assertion, so nothing is asked of it";
 
 pub(crate) const VACUITY_NO_ASSUMPTIONS: &str =
     "the problem is no implication, as A -> B, so it has no assumptions to ask about";
@@ -147,7 +147,7 @@ pub(crate) const WORDS_OPTION: &str = "there is no option {other} of {name}";
 pub(crate) const WORDS_OPTION_NEAR: &str =
     "there is no option {other} of {name}; did you mean {token}?";
 
-pub(crate) const WORDS_FIRST: &str = "the command comes first, and its options behind it";
+pub(crate) const WORDS_FIRST: &str = "the command comes first, and its options after it";
 
 pub(crate) const WORDS_TWICE: &str = "{other} is given twice";
 

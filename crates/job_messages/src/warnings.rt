@@ -147,7 +147,7 @@ fn commands_of(script: &Script) -> Commands {
                 commands.last = Some(k);
                 match script.text_behind(k, 1) {
                     b"exit" => return commands,
-                    b"check-sat" => {
+                    b"check-sat" | b"check-sat-assuming" => {
                         commands.has_check = true;
                         commands.unasked = None;
                     }

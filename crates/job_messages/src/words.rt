@@ -17,7 +17,7 @@ struct Seen {
 }
 
 /// The commands, and the options of any of them.
-const COMMANDS: [&str; 6] = ["solve", "check", "elim", "drill", "least", "smt"];
+const COMMANDS: [&str; 7] = ["solve", "check", "elim", "find", "drill", "least", "smt"];
 
 const OPTIONS: [&str; 11] = [
     "--budget",
@@ -151,16 +151,18 @@ fn option_slip<'a>(fault: OptionFault, command: &'a [u8], name: &'a [u8]) -> Sli
 /// What is wrong with an option; it is counted as seen.
 fn option_fault(command: &[u8], name: &[u8], seen: &mut Seen) -> Option<OptionFault> {
     let is_solve = command == b"solve".as_slice();
+    let has_proof = is_solve || command == b"find".as_slice();
     let was_seen = match name {
         b"--budget" if command != b"check".as_slice() => mem::replace(&mut seen.budget, true),
-        b"--proof" if is_solve => mem::replace(&mut seen.proof, true),
+        b"--proof" if has_proof => mem::replace(&mut seen.proof, true),
         b"--short" if is_solve => mem::replace(&mut seen.short, true),
         b"--calculus" if is_solve => mem::replace(&mut seen.calculus, true),
         b"--counterexample" if is_solve => mem::replace(&mut seen.counterexample, true),
         b"--quiet" => return Some(OptionFault::Quiet),
         b"--json" | b"--stats" | b"--progress" => return Some(OptionFault::Twice),
-        b"--vacuous" | b"--proof-to" if is_solve => return Some(OptionFault::Twice),
-        b"--proof-to=" if is_solve => return Some(OptionFault::NoFile),
+        b"--vacuous" if is_solve => return Some(OptionFault::Twice),
+        b"--proof-to" if has_proof => return Some(OptionFault::Twice),
+        b"--proof-to=" if has_proof => return Some(OptionFault::NoFile),
         b"--unused" if command == b"smt".as_slice() => return Some(OptionFault::Twice),
         _ if command == b"least".as_slice() => return Some(OptionFault::Dash),
         _ => return Some(OptionFault::Unknown),

@@ -26,6 +26,10 @@ IsCut end = (y : Why) × IsCutBy y end
 abbrev pub first_part : ℕ → ℕ
 first_part budget = min budget 100000
 
+-- how many steps of a budget the canonical run has after a brief clause search
+abbrev pub longer_part : ℕ → ℕ
+longer_part budget = min budget 1000000
+
 -- the problem has no existential constants, and its canonical run is cut within the first part of the budget
 pub record IsCutEarly (budget : ℕ) (p : Problem) : Type 0 where
   pub alone : p.existentials ≡ []

@@ -6,4 +6,4 @@ mod laws;
 mod part;
 
 pub use laws::raised_law;
-pub use part::{first_part, with_budget};
+pub use part::{first_part, longer_part, with_budget};

@@ -1,6 +1,6 @@
-// The first part of a budget, and a purse that is raised to the whole.
+// The parts of a budget, and a purse that is raised to the whole.
 
-ghost use Rattle.job_parts.specs.Parts.{first_part, raised};
+ghost use Rattle.job_parts.specs.Parts.{first_part, longer_part, raised};
 ghost use Rattle.std.specs.Prelude.{◌≡◌, ◌≤◌};
 
 use base_budget::Purse;
@@ -13,6 +13,16 @@ pub fn first_part(budget: u64) -> u64
     ensures { result ≡ first_part budget }
 {
     budget.min(FIRST)
+}
+
+// How many steps of a budget the canonical run has after a brief clause search.
+const LONGER: u64 = 1_000_000;
+
+/// How many steps of this budget the canonical run has after a brief clause search.
+pub fn longer_part(budget: u64) -> u64
+    ensures { result ≡ longer_part budget }
+{
+    budget.min(LONGER)
 }
 
 /// The purse with this budget, of which as much is spent.

@@ -1,7 +1,7 @@
 -- Each line says what is so of its check.
 use Rattle.std.proofs.Common.{◌≡◌, ◌⊎◌, inl, inr, Bool, true, false, cond, ℕ, zero, suc, ◌<◌, List, [], ◌∷◌, length, map, get_or, refl, sym, ap, subst, ◌∙◌, arith, codes, Result, Ok, Err}
-use Rattle.std.specs.List.{All, Contains, list_any}
-use Rattle.std.proofs.lemmas.List.Elements.{All-cons, All-contains_itself}
+use Rattle.std.specs.List.{All, list_any}
+use Rattle.std.proofs.lemmas.List.Elements.{All-cons}
 use Rattle.smt_lists.specs.declared.tree.Sexp.{Sexp}
 use Rattle.smt_lists.specs.Expressions.{expr}
 use Rattle.form_typed.specs.Truth.{Meaning}
@@ -12,8 +12,8 @@ use Rattle.base_answers.specs.Answer.{Answer, IsAnswerStatus, answer_of, refused
 use Rattle.base_answers.specs.declared.output.Output.{Output}
 use Rattle.smt_commands.specs.declared.refusal.ScriptRefusal.{ScriptRefusal}
 use Rattle.smt_commands.specs.declared.refusal.ScriptRefusal.TheVariants as r
-use Rattle.smt_terms.specs.Scripts.{Command, State, checks}
-use Rattle.smt_reader.specs.Commands.{commands_of}
+use Rattle.smt_terms.specs.Scripts.{Command, State}
+use Rattle.smt_reader.specs.Commands.{acts_of, questions, state_of}
 use Rattle.smt_reader.specs.Formed.{IsFormedCheck}
 use Rattle.smt_reader.specs.Posed.{IsCheckPosed}
 use Rattle.smt_reader.proofs.Answers.{satisfiable, unsatisfiable}
@@ -33,21 +33,21 @@ head P x xs h = h 0 x (omega arith)
 tail : {A : Type 0} (P : A → Type 0) (x : A) (xs : List A) → All P (x ∷ xs) → All P xs
 tail P x xs h i d k = h (suc i) d (omega (arith, k))
 
-means : (w : Meaning) (budget : ℕ) (cs : List Command) (s : State) (p : Problem) (a : CheckAnswer) → IsFormedCheck s → Contains (checks cs) s → IsCheckPosed s p → IsCheckAnswer budget p a → Means w s a
-means w budget cs s p Unsat f c h is = unsatisfiable cs p s c h w (unsat_holds w budget p (well_formed s p f h) h.existentials is)
-means w budget cs s p Sat f c h is = satisfiable cs p s c h (sat_refuted budget p (well_formed s p f h) is)
-means w budget cs s p Unknown f c h is = tt
+means : (w : Meaning) (budget : ℕ) (cs : List Command) (p : Problem) (a : CheckAnswer) → IsFormedCheck (state_of cs) → IsCheckPosed (state_of cs) p → IsCheckAnswer budget p a → Means w (state_of cs) a
+means w budget cs p Unsat f h is = unsatisfiable cs p h w (unsat_holds w budget p (well_formed (state_of cs) p f h) h.existentials is)
+means w budget cs p Sat f h is = satisfiable cs p h (sat_refuted budget p (well_formed (state_of cs) p f h) is)
+means w budget cs p Unknown f h is = tt
 
-pub all_mean : (w : Meaning) (budget : ℕ) (cs : List Command) (ss : List State) (ps : List Problem) (xs : List CheckAnswer) → All IsFormedCheck ss → All (Contains (checks cs)) ss → ArePosed ss ps
-    → AreCheckAnswers budget ps xs → AllMean w ss xs
-all_mean w budget cs [] [] [] f c h is = tt
-all_mean w budget cs [] [] (a ∷ xs) f c h is = absurd is
-all_mean w budget cs [] (p ∷ ps) xs f c h is = absurd h
-all_mean w budget cs (s ∷ ss) [] xs f c h is = absurd h
-all_mean w budget cs (s ∷ ss) (p ∷ ps) [] f c h is = absurd is
-all_mean w budget cs (s ∷ ss) (p ∷ ps) (a ∷ xs) f c h is = (
-  means w budget cs s p a (head IsFormedCheck s ss f) (head (Contains (checks cs)) s ss c) h.0 is.0,
-  all_mean w budget cs ss ps xs (tail IsFormedCheck s ss f) (tail (Contains (checks cs)) s ss c) h.1 is.1,
+pub all_mean : (w : Meaning) (budget : ℕ) (qs : List (List Command)) (ps : List Problem) (xs : List CheckAnswer) → All IsFormedCheck (map state_of qs) → ArePosed (map state_of qs) ps → AreCheckAnswers budget ps xs
+    → AllMean w (map state_of qs) xs
+all_mean w budget [] [] [] f h is = tt
+all_mean w budget [] [] (a ∷ xs) f h is = absurd is
+all_mean w budget [] (p ∷ ps) xs f h is = absurd h
+all_mean w budget (q ∷ qs) [] xs f h is = absurd h
+all_mean w budget (q ∷ qs) (p ∷ ps) [] f h is = absurd is
+all_mean w budget (q ∷ qs) (p ∷ ps) (a ∷ xs) f h is = (
+  means w budget q p a (head IsFormedCheck (state_of q) (map state_of qs) f) h.0 is.0,
+  all_mean w budget qs ps xs (tail IsFormedCheck (state_of q) (map state_of qs) f) h.1 is.1,
 )
 
 not_refused : (a : Answer) (name : List ℕ) → a ≡ refused_answer name → (a.status ≡ 0) ⊎ (a.status ≡ 2) → ⊥
@@ -58,14 +58,13 @@ pub means_all : (w : Meaning) (budget : ℕ) (bytes : List ℕ) (a : Answer) →
 means_all w budget bytes a (refused e h k is) s = absurd (not_refused a (refusal_name e) is s)
 means_all w budget bytes a (answered ps h (large p c l is)) s = absurd (not_refused a (codes "Large") is s)
 means_all w budget bytes a (answered ps h (lines xs are is)) s =
-    let cs : List Command = commands_of (map expr h.lists) in
-    let formed : All IsFormedCheck (checks cs) = text_checks bytes h.lists h.said h.posed.fits in record {
+    record {
       lists = h.lists;
       said = h.said;
       fits = h.posed.fits;
       answers = xs;
       lines = ap (λ (z : Answer). z.text) is;
-      mean = all_mean w budget cs (checks cs) ps xs formed (All-contains_itself (checks cs)) h.posed.posed are;
+      mean = all_mean w budget (questions (acts_of (map expr h.lists))) ps xs (text_checks bytes h.lists h.said h.posed.fits) h.posed.posed are;
     }
 
 pub formed_all : (ss : List State) (ps : List Problem) → All IsFormedCheck ss → ArePosed ss ps → All IsWellFormed ps

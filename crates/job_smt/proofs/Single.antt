@@ -1,7 +1,7 @@
 -- The answers to a script do not contradict each other.
 use Rattle.std.proofs.Common.{ℕ, ◌≡◌, ◌≢◌, ◌<◌, ◌⊎◌, inl, inr, Bool, true, false, cond, None, List, [], ◌∷◌, length, map, refl, sym, ap, subst, ◌∙◌, arith}
-use Rattle.std.specs.List.{All, Contains, list_any}
-use Rattle.std.proofs.lemmas.List.Elements.{All-cons, All-contains, All-contains_itself}
+use Rattle.std.specs.List.{All, list_any}
+use Rattle.std.proofs.lemmas.List.Elements.{All-cons, All-contains}
 use Rattle.form_typed.specs.Table.{meaning_of}
 use Rattle.form_typed.specs.Truth.{Meaning}
 use Rattle.pri_lines.proofs.Losing.{no_table}
@@ -16,8 +16,8 @@ use Rattle.smt_commands.specs.declared.refusal.ScriptRefusal.TheVariants as r
 use Rattle.smt_lists.specs.Expressions.{expr}
 use Rattle.smt_lists.specs.Grammar.{IsScriptText}
 use Rattle.smt_lists.specs.declared.tree.Sexp.{Sexp}
-use Rattle.smt_terms.specs.Scripts.{Command, State, checks}
-use Rattle.smt_reader.specs.Commands.{commands_of, script_terms}
+use Rattle.smt_terms.specs.Scripts.{Command, State}
+use Rattle.smt_reader.specs.Commands.{acts_of, questions, script_terms}
 use Rattle.smt_reader.specs.Formed.{IsFormedCheck}
 use Rattle.smt_reader.specs.Posed.{IsCheckPosed}
 use Rattle.smt_reader.proofs.Texts.{text_checks}
@@ -74,9 +74,9 @@ all_alike (s ∷ ss) (a ∷ xs) (b ∷ ys) h k = (alike_meant s a b (λ w. (h w)
 one_lines : (budget : ℕ) (bytes : List ℕ) (lists : List Sexp) (ps qs : List Problem) (xs ys : List CheckAnswer) → IsScriptText bytes lists → refusal_of script_terms (map expr lists) ≡ None
     → ArePosed (checks_in lists) ps → ArePosed (checks_in lists) qs → AreCheckAnswers budget ps xs → AreCheckAnswers budget qs ys → AllAlike xs ys
 one_lines budget bytes lists ps qs xs ys said fits h k x y =
-    let cs : List Command = commands_of (map expr lists) in
-    let formed : All IsFormedCheck (checks cs) = text_checks bytes lists said fits in
-    all_alike (checks cs) xs ys (λ w. all_mean w budget cs (checks cs) ps xs formed (All-contains_itself (checks cs)) h x) (λ w. all_mean w budget cs (checks cs) qs ys formed (All-contains_itself (checks cs)) k y)
+    let asked : List (List Command) = questions (acts_of (map expr lists)) in
+    let formed : All IsFormedCheck (checks_in lists) = text_checks bytes lists said fits in
+    all_alike (checks_in lists) xs ys (λ w. all_mean w budget asked ps xs formed h x) (λ w. all_mean w budget asked qs ys formed k y)
 
 none_large : (budget : ℕ) (ss : List State) (ps qs : List Problem) (ys : List CheckAnswer) → ArePosed ss ps → ArePosed ss qs → AreCheckAnswers budget qs ys → All (λ p. ¬ (IsLarge p)) ps
 none_large budget [] [] qs ys h k y = λ i d l. absurd (omega (arith, l))

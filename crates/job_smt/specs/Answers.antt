@@ -35,6 +35,11 @@ pub data IsCheckAnswer (budget : ℕ) (p : Problem) (a : CheckAnswer) : Type 0 w
   proved : Fits p → IsCutEarly budget p → (file : List ℕ) → IsClauseFile p file → a ≡ Unsat → IsCheckAnswer budget p a
   refuted : Fits p → IsCutEarly budget p → (m : Model) (us : List ℤ) → IsModelCounterexample p [] m us → a ≡ Sat → IsCheckAnswer budget p a
 
+-- the answer by what the clause search found, where it found something
+abbrev pub IsFoundAnswer : ℕ → Problem → Option CheckAnswer → Type 0
+IsFoundAnswer budget p None = Unit {0}
+IsFoundAnswer budget p (Some a) = IsCheckAnswer budget p a
+
 -- what comes of a check: no answer where its encoding is too large
 abbrev pub IsCheckOutcome : ℕ → Problem → Option CheckAnswer → Type 0
 IsCheckOutcome budget p None = IsLarge p

@@ -13,7 +13,7 @@ use Rattle.smt_commands.specs.Faults.{refusal_of}
 use Rattle.smt_reader.specs.Commands.{script_terms}
 use Rattle.smt_reader.specs.Poses.{checks_in}
 
--- Unsat says that no integers of the Int constants satisfy the assertions before the check, in the interpretation; Sat says that some
+-- Unsat says that no integers of the Int constants satisfy the assertions of the check, in the interpretation; Sat says that some
 -- do, in a finite one
 abbrev pub Means : Meaning → State → CheckAnswer → Type 0
 Means w s Unsat = (u : List ℤ) → length u ≡ length s.constants → ¬ (IsSatisfied w u s)

@@ -6,7 +6,7 @@ use Rattle.clap.specs.declared.parser.matches.Found.{Found}
 use Rattle.base_answers.specs.declared.form.ProofForm.{ProofForm}
 use Rattle.base_answers.specs.declared.form.ProofForm.TheVariants.{Whole, Short}
 use Rattle.job_words.specs.Uses.{Text, listed, operands, tally, times, values_of}
-use Rattle.job_words.specs.Jobs.{IsBudget, IsNumber, NamesCheck, NamesDrill, NamesFile, NamesLeast, NamesSolve, asks_short, asks_whole, budget_option, solve_options}
+use Rattle.job_words.specs.Jobs.{IsBudget, IsNumber, NamesCheck, NamesDrill, NamesFile, NamesFind, NamesLeast, NamesSolve, asks_short, asks_whole, budget_option, find_options, solve_options}
 use Rattle.job_words.specs.Shapes.{command_app}
 use Rattle.job_words.proofs.Accepted.{IsCommand}
 use Rattle.job_words.proofs.Answering.{budget_is, budget_once, flag_is, flag_once, one_flag, operand_is, operands_are}
@@ -17,6 +17,9 @@ solve_is = record { is_built = refl; whole = refl; places = (refl, refl); strang
 
 pub elim_is : IsCommand (command_app (codes "elim") (codes "FILE" ∷ []) budget_option) (codes "elim") (codes "FILE" ∷ []) budget_option
 elim_is = record { is_built = refl; whole = refl; places = (refl, refl); strange = (refl, tt); distinct_rules = refl; distinct_ids = refl; distinct_names = refl; named = refl }
+
+pub find_is : IsCommand (command_app (codes "find") (codes "FILE" ∷ []) find_options) (codes "find") (codes "FILE" ∷ []) find_options
+find_is = record { is_built = refl; whole = refl; places = (refl, refl); strange = (refl, tt); distinct_rules = refl; distinct_ids = refl; distinct_names = refl; named = refl }
 
 pub smt_is : IsCommand (command_app (codes "smt") (codes "FILE" ∷ []) budget_option) (codes "smt") (codes "FILE" ∷ []) budget_option
 smt_is = record { is_built = refl; whole = refl; places = (refl, refl); strange = (refl, tt); distinct_rules = refl; distinct_ids = refl; distinct_names = refl; named = refl }
@@ -37,6 +40,9 @@ solve_once line file n a k v names = (
 
 pub elim_once : (line : List Text) (file : Text) (n : ℕ) (names : NamesFile line file n) → OnceEach budget_option names.us
 elim_once line file n names = (budget_once (values_of (codes "budget") names.us) n names.budget_is, tt)
+
+pub find_once : (line : List Text) (file : Text) (n : ℕ) (p : Bool) (names : NamesFind line file n p) → OnceEach find_options names.us
+find_once line file n p names = (budget_once (values_of (codes "budget") names.us) n names.budget_is, (flag_once (times (codes "proof") names.us) p names.proof_is, tt))
 
 pub least_once : (line : List Text) (file term : Text) (n : ℕ) (names : NamesLeast line file term n) → OnceEach budget_option names.us
 least_once line file term n names = (budget_once (values_of (codes "budget") names.us) n names.budget_is, tt)
@@ -83,6 +89,16 @@ elim_named line f file n found is budget = record {
   spells = found.spells;
   file_is = operand_is (codes "FILE") file budget_option line f found is;
   budget_is = budget_is (codes "FILE" ∷ []) budget_option line f n refl found budget;
+}
+
+pub find_named : (line : List Text) (f : Found) (file : Text) (n : ℕ) (p : Bool) → Finds (codes "FILE" ∷ []) find_options line f → Some file ≡ first_value f (codes "FILE") → IsBudget (listed (first_value f (codes "budget"))) n
+    → Raised f (codes "proof") p → NamesFind line file n p
+find_named line f file n p found is budget proof = record {
+  us = found.us;
+  spells = found.spells;
+  file_is = operand_is (codes "FILE") file find_options line f found is;
+  budget_is = budget_is (codes "FILE" ∷ []) find_options line f n refl found budget;
+  proof_is = flag_is (codes "proof") (codes "FILE" ∷ []) find_options line f p refl found proof.0 proof.1;
 }
 
 pub least_named : (line : List Text) (f : Found) (file term : Text) (n : ℕ) → Finds (codes "FILE" ∷ codes "TERM" ∷ []) budget_option line f → Some file ≡ first_value f (codes "FILE") → Some term ≡ first_value f (codes "TERM")

@@ -6,15 +6,16 @@ use Rattle.std.specs.Str.Parse.{digits_value}
 use Rattle.base_answers.specs.declared.form.ProofForm.{ProofForm}
 use Rattle.base_answers.specs.declared.form.ProofForm.TheVariants.{Whole, Short}
 use Rattle.job_words.specs.Uses.{Text, operands, times, values_of}
-use Rattle.job_words.specs.Jobs.{IsBudget, NamesCheck, NamesDrill, NamesFile, NamesJob, NamesLeast, NamesSolve, Task, asks_short, asks_whole, solve, eliminate, run_script, minimise, check, drill}
+use Rattle.job_words.specs.Jobs.{IsBudget, NamesCheck, NamesDrill, NamesFile, NamesFind, NamesJob, NamesLeast, NamesSolve, Task, asks_short, asks_whole, solve, eliminate, find_values, run_script, minimise, check, drill}
 use Rattle.job_words.proofs.Answering.{one_flag}
-use Rattle.job_words.proofs.Commanding.{check_is, drill_is, elim_is, least_is, smt_is, solve_is}
+use Rattle.job_words.proofs.Commanding.{check_is, drill_is, elim_is, find_is, least_is, smt_is, solve_is}
 use Rattle.job_words.proofs.Finds.{same_uses}
 
 -- the command of a job
 abbrev command_of : Task → Text
 command_of (solve file budget asked calculus shows) = codes "solve"
 command_of (eliminate file budget) = codes "elim"
+command_of (find_values file budget proves) = codes "find"
 command_of (run_script file budget) = codes "smt"
 command_of (minimise file term budget) = codes "least"
 command_of (check file proof) = codes "check"
@@ -30,6 +31,11 @@ pub only_elim : (line : List Text) → ((f : Text) (n : ℕ) → NamesFile line 
 only_elim line none (eliminate f n) names = none f n names.1
 only_elim line none task names =
     let bad : true ≡ false = ap (bytes_eq (codes "elim")) names.0 in cc
+
+pub only_find : (line : List Text) → ((f : Text) (n : ℕ) (p : Bool) → NamesFind line f n p → ⊥) → (task : Task) → NamesJob (codes "find" ∷ line) task → ⊥
+only_find line none (find_values f n p) names = none f n p names.1
+only_find line none task names =
+    let bad : true ≡ false = ap (bytes_eq (codes "find")) names.0 in cc
 
 pub only_smt : (line : List Text) → ((f : Text) (n : ℕ) → NamesFile line f n → ⊥) → (task : Task) → NamesJob (codes "smt" ∷ line) task → ⊥
 only_smt line none (run_script f n) names = none f n names.1
@@ -86,6 +92,13 @@ one_elim line f g n m a b =
     let file : f ≡ g = ap (λ l. slice_index_or l 0 []) (sym a.file_is ∙ ap operands us ∙ b.file_is) in
     let budget = one_budget (values_of (codes "budget") b.us) n m (subst (λ vs. IsBudget (values_of (codes "budget") vs) n) us a.budget_is) b.budget_is in λ i. eliminate (file i) (budget i)
 
+one_find : (line : List Text) (f g : Text) (n m : ℕ) (p q : Bool) → NamesFind line f n p → NamesFind line g m q → find_values f n p ≡ find_values g m q
+one_find line f g n m p q a b =
+    let us = same_uses _ _ _ _ find_is line a.us b.us a.spells b.spells in
+    let file : f ≡ g = ap (λ l. slice_index_or l 0 []) (sym a.file_is ∙ ap operands us ∙ b.file_is) in
+    let budget = one_budget (values_of (codes "budget") b.us) n m (subst (λ vs. IsBudget (values_of (codes "budget") vs) n) us a.budget_is) b.budget_is in
+    let proof = one_flag p q (sym a.proof_is ∙ ap (times (codes "proof")) us ∙ b.proof_is) in λ i. find_values (file i) (budget i) (proof i)
+
 one_smt : (line : List Text) (f g : Text) (n m : ℕ) → NamesFile line f n → NamesFile line g m → run_script f n ≡ run_script g m
 one_smt line f g n m a b =
     let us = same_uses _ _ _ _ smt_is line a.us b.us a.spells b.spells in
@@ -116,6 +129,7 @@ pub one_job : (words : List Text) (a b : Task) → NamesJob words a → NamesJob
 one_job [] a b x y = absurd x
 one_job (command ∷ line) (solve f n p k v) (solve g m q l w) x y = one_solve line f g n m p q k l v w x.1 y.1
 one_job (command ∷ line) (eliminate f n) (eliminate g m) x y = one_elim line f g n m x.1 y.1
+one_job (command ∷ line) (find_values f n p) (find_values g m q) x y = one_find line f g n m p q x.1 y.1
 one_job (command ∷ line) (run_script f n) (run_script g m) x y = one_smt line f g n m x.1 y.1
 one_job (command ∷ line) (minimise f t n) (minimise g u m) x y = one_least line f g t u n m x.1 y.1
 one_job (command ∷ line) (check f p) (check g q) x y = one_check line f g p q x.1 y.1

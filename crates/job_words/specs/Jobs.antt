@@ -9,11 +9,12 @@ use Rattle.job_words.specs.declared.jobs.Job.TheVariants as job
 use Rattle.job_words.specs.Uses.{Text, Use, Options, Spells, operands, tally, times, values_of}
 
 -- A job by the bytes of its words. It solves the problem in a file, with its proof in a form or without, by the calculus alone where that is
--- asked for, and with values that refute it where they are; gives its constraint; answers the checks of the script in a file; gives the least value of a term where a problem holds; checks the proof in a file; or solves the
+-- asked for, and with values that refute it where they are; gives its constraint; finds values at which it holds, with the proof or without; answers the checks of the script in a file; gives the least value of a term where a problem holds; checks the proof in a file; or solves the
 -- problem of a size that the program makes. All but checking a proof have a budget, a script's checks one each.
 pub data Task : Type 0 where
   solve : (file : Text) → (budget : ℕ) → (asked : Option ProofForm) → (calculus shows : Bool) → Task
   eliminate : (file : Text) → (budget : ℕ) → Task
+  find_values : (file : Text) → (budget : ℕ) → (proves : Bool) → Task
   run_script : (file : Text) → (budget : ℕ) → Task
   minimise : (file term : Text) → (budget : ℕ) → Task
   check : (file proof : Text) → Task
@@ -23,6 +24,7 @@ pub data Task : Type 0 where
 abbrev pub task_of : Job → Task
 task_of (job.Solve file budget asked calculus shows) = solve (string_bytes file) budget asked calculus shows
 task_of (job.Elim file budget) = eliminate (string_bytes file) budget
+task_of (job.Find file budget proves) = find_values (string_bytes file) budget proves
 task_of (job.Smt file budget) = run_script (string_bytes file) budget
 task_of (job.Least file term budget) = minimise (string_bytes file) (string_bytes term) budget
 task_of (job.Check file proof) = check (string_bytes file) (string_bytes proof)
@@ -32,6 +34,7 @@ task_of (job.Drill count budget) = drill count budget
 abbrev pub files_of : Task → List Text
 files_of (solve file budget asked calculus shows) = file ∷ []
 files_of (eliminate file budget) = file ∷ []
+files_of (find_values file budget proves) = file ∷ []
 files_of (run_script file budget) = file ∷ []
 files_of (minimise file term budget) = file ∷ []
 files_of (check file proof) = file ∷ proof ∷ []
@@ -54,6 +57,10 @@ IsBudget (text ∷ more ∷ rest) n = ⊥
 -- the option of a command with a budget
 abbrev pub budget_option : Options
 budget_option = (codes "budget", true) ∷ []
+
+-- the options of `find`: a budget, and a flag for the proof
+abbrev pub find_options : Options
+find_options = (codes "budget", true) ∷ (codes "proof", false) ∷ []
 
 -- a budget, and a flag for each form of the proof
 abbrev pub proof_options : Options
@@ -94,6 +101,14 @@ pub record NamesFile (line : List Text) (file : Text) (budget : ℕ) : Type 0 wh
   pub file_is : operands us ≡ file ∷ []
   pub budget_is : IsBudget (values_of (codes "budget") us) budget
 
+-- the words after `find` name a file and a budget, and ask for the proof by its flag
+pub record NamesFind (line : List Text) (file : Text) (budget : ℕ) (proves : Bool) : Type 0 where
+  pub us : List Use
+  pub spells : Spells find_options line us
+  pub file_is : operands us ≡ file ∷ []
+  pub budget_is : IsBudget (values_of (codes "budget") us) budget
+  pub proof_is : times (codes "proof") us ≡ tally proves
+
 -- the words after `least` name a file, a term and a budget
 pub record NamesLeast (line : List Text) (file term : Text) (budget : ℕ) : Type 0 where
   pub us : List Use
@@ -121,6 +136,7 @@ abbrev pub NamesJob : List Text → Task → Type 0
 NamesJob [] task = ⊥
 NamesJob (command ∷ line) (solve file budget asked calculus shows) = (command ≡ codes "solve") × NamesSolve line file budget asked calculus shows
 NamesJob (command ∷ line) (eliminate file budget) = (command ≡ codes "elim") × NamesFile line file budget
+NamesJob (command ∷ line) (find_values file budget proves) = (command ≡ codes "find") × NamesFind line file budget proves
 NamesJob (command ∷ line) (run_script file budget) = (command ≡ codes "smt") × NamesFile line file budget
 NamesJob (command ∷ line) (minimise file term budget) = (command ≡ codes "least") × NamesLeast line file term budget
 NamesJob (command ∷ line) (check file proof) = (command ≡ codes "check") × NamesCheck line file proof

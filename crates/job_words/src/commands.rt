@@ -1,7 +1,7 @@
 // The commands as `clap` reads them: their operands and options, without help and version.
 
 ghost use Rattle.clap.specs.Words.{app_of, fault_of, found_of, is_simple_and_free, matches_of, rows_of};
-ghost use Rattle.job_words.specs.Jobs.{budget_option, proof_options, solve_options};
+ghost use Rattle.job_words.specs.Jobs.{budget_option, find_options, proof_options, solve_options};
 ghost use Rattle.job_words.specs.Shapes.{command_app};
 ghost use Rattle.std.specs.Prelude.{◌≡◌, ◌≢◌, [], ◌∷◌, codes, map, string_bytes, true, IfOk, IfErr};
 
@@ -72,6 +72,24 @@ pub(crate) fn elim_command<'a>(alloc: Global) -> Result<Command<'a>, AllocError>
         .disable_version_flag(true)
         .arg(file)?
         .arg(budget)
+}
+
+// `find FILE [--budget N] [--proof]`
+pub(crate) fn find_command<'a>(alloc: Global) -> Result<Command<'a>, AllocError>
+    ensures { IfOk result (λ c. app_of c ≡ command_app (codes "find") (codes "FILE" ∷ []) find_options) }
+{
+    let file = Arg::new(alloc, "FILE").required(true);
+    let budget = Arg::new(alloc, "budget").long("budget");
+    let proof = Arg::new(alloc, "proof")
+        .long("proof")
+        .action(ArgAction::SetTrue);
+    Command::new(alloc, "find")
+        .no_binary_name(true)
+        .disable_help_flag(true)
+        .disable_version_flag(true)
+        .arg(file)?
+        .arg(budget)?
+        .arg(proof)
 }
 
 // `smt FILE [--budget N]`

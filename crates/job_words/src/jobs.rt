@@ -23,6 +23,13 @@ pub enum Job {
         file: String,
         budget: u64,
     },
+    /// To find values of the existential constants at which the problem in this file holds, within a budget, and with the proof where one
+    /// is asked for.
+    Find {
+        file: String,
+        budget: u64,
+        proves: bool,
+    },
     /// To answer the checks of the script in this file, each within a budget.
     Smt {
         file: String,

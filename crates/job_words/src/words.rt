@@ -7,7 +7,8 @@ ghost use Rattle.base_limits.specs.Limits.{most_count};
 ghost use Rattle.std.specs.Prelude.{◌≡◌, ◌∷◌, ◌&&◌, ℕ, List, map, codes, string_bytes, true, false, None, Some, IfOk, IfErr, MatchResult};
 
 use crate::commands::{
-    check_command, drill_command, elim_command, least_command, read, smt_command, solve_command,
+    check_command, drill_command, elim_command, find_command, least_command, read, smt_command,
+    solve_command,
 };
 use crate::jobs::{Job, WordsFault};
 use crate::numbers::number;
@@ -30,6 +31,7 @@ pub fn job(alloc: Global, words: &[String]) -> Result<Job, WordsFault>
     match command.as_str() {
         "solve" => solve_job(alloc, line),
         "elim" => elim_job(alloc, line),
+        "find" => find_job(alloc, line),
         "smt" => smt_job(alloc, line),
         "least" => least_job(alloc, line),
         "check" => check_job(alloc, line),
@@ -75,6 +77,22 @@ fn elim_job(alloc: Global, line: &[String]) -> Result<Job, WordsFault>
     let file = text_in(alloc, &matches, "FILE")?;
     let budget = budget_in(&matches)?;
     Ok(Job::Elim { file, budget })
+}
+
+// `find FILE [--budget N] [--proof]`
+fn find_job(alloc: Global, line: &[String]) -> Result<Job, WordsFault>
+    ensures named { IfOk result (λ job. NamesJob (codes "find" ∷ map string_bytes line.now) (task_of job)) }
+    ensures refused { IfErr result (λ e. e ≡ WordsFault.Words → (task : Task) → NamesJob (codes "find" ∷ map string_bytes line.now) task → ⊥) }
+{
+    let matches = read(find_command(alloc)?, line)?;
+    let file = text_in(alloc, &matches, "FILE")?;
+    let budget = budget_in(&matches)?;
+    let proves = matches.get_flag("proof");
+    Ok(Job::Find {
+        file,
+        budget,
+        proves,
+    })
 }
 
 // `smt FILE [--budget N]`

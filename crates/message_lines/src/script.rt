@@ -200,6 +200,52 @@ impl<'a> Script<'a> {
         None
     }
 
+    /// The first command before that of token k which declares or defines a name, of those that no `pop` and no reset between them
+    /// takes back.
+    pub fn declaration_before(&self, name: &[u8], k: usize) -> Option<usize> {
+        let mut found = None;
+        let mut left: u64 = 0;
+        let mut depth: usize = 0;
+        let command = self.outermost(k).unwrap_or(k);
+        for i in (0..command.min(self.len())).rev() {
+            if self.closes(i) {
+                depth = depth.saturating_add(1);
+            }
+            if !self.opens(i) {
+                continue;
+            }
+            depth = depth.saturating_sub(1);
+            if depth > 0 {
+                continue;
+            }
+            match self.text_behind(i, 1) {
+                b"reset" | b"reset-assertions" => return found,
+                b"pop" => left = left.saturating_add(self.levels(i)),
+                b"push" => left = left.saturating_sub(self.levels(i)),
+                _ => {
+                    if left == 0 && self.declares(i) && self.text_behind(i, 2) == name {
+                        found = Some(i);
+                    }
+                }
+            }
+        }
+        found
+    }
+
+    /// How many levels the `push` or `pop` that token k opens is for.
+    fn levels(&self, k: usize) -> u64 {
+        if self.terminal(k.saturating_add(2)) != Some(Terminal::Numeral) {
+            return 1;
+        }
+        let mut levels: u64 = 0;
+        for digit in self.text_behind(k, 2) {
+            levels = levels
+                .saturating_mul(10)
+                .saturating_add(digit.saturating_sub(b'0') as u64);
+        }
+        levels
+    }
+
     /// The first list that declares or defines a name which differs from this one at most in case.
     pub fn declaration_in_any_case(&self, name: &[u8]) -> Option<usize> {
         for k in 0..self.len() {
@@ -216,4 +262,5 @@ fn is_declaration(text: &[u8]) -> bool {
     text == b"declare-const".as_slice()
         || text == b"declare-fun".as_slice()
         || text == b"define-fun".as_slice()
+        || text == b"define-const".as_slice()
 }

@@ -18,8 +18,6 @@ pub enum Phrase<'a> {
     Infix(Script<'a>, &'a [u8], Option<(Span, Span)>),
     /// The name of a function in front of the members of the list that the token opens.
     Call(Script<'a>, &'a [u8], usize),
-    /// A constant's name, sort and value, from the list `define-const` that the token opens.
-    Definition(Script<'a>, usize),
 }
 
 /// Whether a text is an operator that stands between its members elsewhere.
@@ -118,14 +116,6 @@ pub(crate) fn put_phrase(page: &mut Page, phrase: &Phrase) -> Result<(), Memory>
             call.put(b")")?;
             page.put_short(call.bytes(), CALL)
         }
-        Phrase::Definition(script, k) if script.count(*k) == 4 => {
-            put_member(page, script, *k, 1)?;
-            page.put(b" () ")?;
-            put_member(page, script, *k, 2)?;
-            page.put(b" ")?;
-            put_member(page, script, *k, 3)
-        }
-        Phrase::Definition(_, _) => page.put(b"c () Int 4"),
     }
 }
 

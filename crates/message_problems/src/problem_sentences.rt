@@ -25,7 +25,7 @@ pub(crate) const SECOND_PROBLEM: &str =
 
 pub(crate) const BLOCK_BACKSLASH: &str = "a block begins with a backslash, as \\problem { .. }";
 
-pub(crate) const BLOCK_BRACE: &str = "behind {before} its block stands in braces: {before} { .. }";
+pub(crate) const BLOCK_BRACE: &str = "after {before} its block stands in braces: {before} { .. }";
 
 pub(crate) const EQUALS_TWICE: &str = "equal is written = once";
 
@@ -89,7 +89,7 @@ pub(crate) const CHAIN: &str = "a relation has two sides; a chain is written as 
 pub(crate) const MISSING_SEMICOLON: &str = "a declaration ends with ;";
 
 pub(crate) const TYPE_AGAIN: &str =
-    "one type stands before all names of a declaration, which ends with ; or, inside the parentheses of a quantifier, begins anew behind ;";
+    "one type stands before all names of a declaration, which ends with ; or, inside the parentheses of a quantifier, begins anew after ;";
 
 pub(crate) const DECLARATION_TYPE: &str = "a declaration begins with its type, as int {token};";
 
@@ -129,12 +129,12 @@ pub(crate) const IF_WORD: &str =
     "a choice between two terms is written \\if (condition) \\then (term) \\else (term)";
 
 pub(crate) const IF_PAREN: &str =
-    "behind {before} a ( stands, as in \\if (condition) \\then (term) \\else (term)";
+    "after {before} a ( stands, as in \\if (condition) \\then (term) \\else (term)";
 
 pub(crate) const PART_BRACKET: &str = "a part is written \\part[name] and its formula";
 
 pub(crate) const QUANTIFIER_FORM: &str =
-    "a quantifier is written \\forall int x; or \\exists int x; and one formula behind it";
+    "a quantifier is written \\forall int x; or \\exists int x; and one formula after it";
 
 pub(crate) const COMMA: &str =
     "formulas are joined by & (and) or | (or); a comma stands between arguments and between names";
@@ -143,7 +143,7 @@ pub(crate) const GROUP: &str = "a group stands in parentheses, as (x = 1)";
 
 pub(crate) const ABSOLUTE: &str = "| is or; an absolute value is written \\abs(x)";
 
-pub(crate) const FULL_STOP: &str = "no . stands behind a formula";
+pub(crate) const FULL_STOP: &str = "no . stands after a formula";
 
 pub(crate) const MEMBER: &str =
     "there are no sets; x is one of some values where 1 <= x & x <= 3, or where x = 1 | x = 4";
@@ -160,10 +160,10 @@ pub(crate) const TIMES_MISSING: &str = "a product is written with *, as 2*x";
 
 pub(crate) const SEMICOLON_IN_PROBLEM: &str = "the formula of \\problem ends without ;";
 
-pub(crate) const OPERAND_MISSING: &str = "behind {before} something has to stand";
+pub(crate) const OPERAND_MISSING: &str = "after {before} something has to stand";
 
 pub(crate) const OPERAND_BEFORE: &str =
-    "{token} cannot stand behind {before}; what stands between them is missing";
+    "{token} cannot stand after {before}; what stands between them is missing";
 
 pub(crate) const INTERPOLANT_SETS: &str =
     "the sets of \\interpolant are names of parts, as { a, b; c }";
@@ -171,7 +171,7 @@ pub(crate) const INTERPOLANT_SETS: &str =
 pub(crate) const END_EXPECTED: &str =
     "a formula or a term has ended before {token}; a connective may be missing, or a parenthesis";
 
-pub(crate) const OTHER: &str = "{token} cannot stand behind {before}";
+pub(crate) const OTHER: &str = "{token} cannot stand after {before}";
 
 pub(crate) const FIRST: &str =
     "a file is a row of blocks, as \\problem { .. }; {token} begins none";

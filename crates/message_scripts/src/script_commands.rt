@@ -3,6 +3,7 @@
 use crate::script_sentences as say;
 use crate::scripts::{READ, has_operator, is_read_command};
 use message_lines::{Hole, Phrase, Script, Slip, find_near, in_front, is_among};
+use smt_tokens::Terminal;
 
 /// The slip at the command that token k opens.
 pub(crate) fn command_slip<'a>(script: Script<'a>, k: usize) -> Slip<'a> {
@@ -14,13 +15,17 @@ pub(crate) fn command_slip<'a>(script: Script<'a>, k: usize) -> Slip<'a> {
         return Slip::new(sentence).with_name(Hole::Token(name));
     }
     match name {
-        b"define-const" => {
-            Slip::new(say::CONSTANT).with_name(Hole::Phrase(Phrase::Definition(script, k)))
-        }
         b"declare-const" | b"declare-var" => Slip::new(say::FORM_DECLARE_CONST),
         b"declare-fun" => Slip::new(say::FORM_DECLARE_FUN),
         b"define-fun" => Slip::new(say::FORM_DEFINE_FUN),
+        b"define-const" => Slip::new(say::FORM_DEFINE_CONST),
         b"check-sat" => Slip::new(say::FORM_CHECK_SAT),
+        b"check-sat-assuming" => Slip::new(say::FORM_ASSUMING),
+        b"push" => Slip::new(say::FORM_PUSH),
+        b"pop" => pop_slip(script, k),
+        b"reset" | b"reset-assertions" => {
+            Slip::new(say::FORM_RESET).with_name(Hole::Token(name))
+        }
         b"exit" => Slip::new(say::FORM_EXIT),
         b"assert" => assert_slip(script, k),
         _ => other_slip(name),
@@ -41,19 +46,14 @@ fn hyphen_slip<'a>(name: &'a [u8], next: &'a [u8]) -> Option<Slip<'a>> {
         }
         (b"declare", b"fun") => Some(Slip::new(say::HYPHEN).with_other(Hole::Text(b"declare-fun"))),
         (b"define", b"fun") => Some(Slip::new(say::HYPHEN).with_other(Hole::Text(b"define-fun"))),
+        (b"define", b"const") => {
+            Some(Slip::new(say::HYPHEN).with_other(Hole::Text(b"define-const")))
+        }
         _ => None,
     }
 }
 
-/// Commands that change the assertions that stand, and commands that declare sorts.
-const OF_THE_STACK: [&str; 5] = [
-    "push",
-    "pop",
-    "reset",
-    "reset-assertions",
-    "check-sat-assuming",
-];
-
+/// Commands that declare sorts.
 const OF_SORTS: [&str; 5] = [
     "declare-sort",
     "define-sort",
@@ -64,9 +64,6 @@ const OF_SORTS: [&str; 5] = [
 
 /// The sentence of a command that is not read.
 fn unread_sentence(name: &[u8]) -> Option<&'static str> {
-    if is_among(name, &OF_THE_STACK) {
-        return Some(say::STACK);
-    }
     if is_among(name, &["get-model", "get-value", "get-assignment"]) {
         return Some(say::NO_MODEL);
     }
@@ -86,6 +83,16 @@ fn unread_sentence(name: &[u8]) -> Option<&'static str> {
         return Some(say::RECURSION);
     }
     None
+}
+
+/// The slip at a `pop`: it leaves more levels than are open, or is not in its form.
+fn pop_slip<'a>(script: Script<'a>, k: usize) -> Slip<'a> {
+    let is_counted = script.terminal(k.saturating_add(2)) == Some(Terminal::Numeral);
+    match script.count(k) {
+        1 => Slip::new(say::LEVELS_LEFT),
+        2 if is_counted => Slip::new(say::LEVELS_LEFT),
+        _ => Slip::new(say::FORM_POP),
+    }
 }
 
 fn assert_slip<'a>(script: Script<'a>, k: usize) -> Slip<'a> {

@@ -113,6 +113,7 @@ fn put_command<'x>(
     let body = match name {
         b"assert" => script.member(k, 1),
         b"define-fun" => script.member(k, 4),
+        b"define-const" => script.member(k, 3),
         _ => None,
     };
     match body {
@@ -129,8 +130,11 @@ fn put_again<'x>(
     k: usize,
 ) -> Result<(), Memory> {
     let name = k.saturating_add(2);
-    match refused.script.declaration(refused.script.text(name)) {
-        Some(found) if found < k && found != refused.command => {
+    match refused
+        .script
+        .declaration_before(refused.script.text(name), k)
+    {
+        Some(found) if found != refused.command => {
             put_error(messages, file, refused, b"Redeclared", name)
         }
         _ => Ok(()),
@@ -202,10 +206,11 @@ fn name_fault(refused: &Refused, i: usize) -> Option<&'static [u8]> {
     if found > i {
         return Some(b"Undeclared");
     }
-    if found != refused.command && has_other_arguments(script, found, i) {
-        Some(b"Arity")
-    } else {
-        None
+    match script.declaration_before(name, i) {
+        Some(found) if found != refused.command && has_other_arguments(script, found, i) => {
+            Some(b"Arity")
+        }
+        _ => None,
     }
 }
 

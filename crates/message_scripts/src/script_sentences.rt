@@ -54,7 +54,10 @@ pub(crate) const NEAR: &str =
 
 pub(crate) const CASE: &str = "{token} is declared nowhere before; {name} is, in line {line}";
 
-pub(crate) const LATER: &str = "{token} is declared in line {line}, behind this";
+pub(crate) const LATER: &str = "{token} is declared in line {line}, after this";
+
+pub(crate) const GONE: &str =
+    "{token} is declared in line {line}, in a level that is left by pop, or before a reset";
 
 pub(crate) const REDECLARED: &str =
     "{token} is declared or defined before, or is the name of an operator";
@@ -84,7 +87,7 @@ pub(crate) const KIND_INT: &str = "this is an Int, and a Bool has to stand here,
 
 pub(crate) const KIND_BOOL: &str = "this is a Bool, and an Int has to stand here, as (ite .. 1 0)";
 
-pub(crate) const COLON: &str = "a sort stands behind its name without a colon, as (x Int)";
+pub(crate) const COLON: &str = "a sort stands after its name, without a colon, as (x Int)";
 
 pub(crate) const NONLINEAR: &str =
     "neither side of this product is built of numerals alone, so it is not linear; where one side has few values, write a case for each";
@@ -101,8 +104,9 @@ pub(crate) const DIVISION: &str =
 pub(crate) const DIVISIBLE: &str =
     "there is no divisible; x is a multiple of 4 where (exists ((q Int)) (= x (* 4 q)))";
 
-pub(crate) const STACK: &str =
-    "there is no {name}; write a script for each question, or let the assertions grow from one check-sat to the next";
+pub(crate) const LEVELS: &str = "this push opens the 10,001st level, and 10,000 is the limit";
+
+pub(crate) const LEVELS_LEFT: &str = "this pop leaves more levels than are open";
 
 pub(crate) const NO_MODEL: &str =
     "{name} is not read: `sat` prints no model; leave the command out";
@@ -116,8 +120,6 @@ pub(crate) const OPTIMISE: &str =
     "{name} is not read; `princess least` gives least values for a .pri file";
 
 pub(crate) const SORTS: &str = "there is no {name}; the sorts are Int and Bool";
-
-pub(crate) const CONSTANT: &str = "there is no define-const; write (define-fun {name})";
 
 pub(crate) const RECURSION: &str =
     "there is no {name}; declare the function and assert its equations, with forall";
@@ -145,6 +147,15 @@ pub(crate) const FORM_ASSERT: &str =
 
 pub(crate) const FORM_CHECK_SAT: &str = "a check is written (check-sat), without more";
 
+pub(crate) const FORM_ASSUMING: &str =
+    "a check of assumptions is written (check-sat-assuming (a (< x 3)))";
+
+pub(crate) const FORM_PUSH: &str = "a level is opened by (push 1); several by their number";
+
+pub(crate) const FORM_POP: &str = "a level is left by (pop 1); several by their number";
+
+pub(crate) const FORM_RESET: &str = "a new beginning is written ({name}), without more";
+
 pub(crate) const FORM_EXIT: &str = "the end is written (exit), without more";
 
 pub(crate) const FORM_DECLARE_CONST: &str = "a constant is declared as (declare-const x Int)";
@@ -154,6 +165,9 @@ pub(crate) const FORM_DECLARE_FUN: &str =
 
 pub(crate) const FORM_DEFINE_FUN: &str =
     "a definition is written (define-fun f ((x Int) (y Int)) Int t), a constant's (define-fun c () Int t), and t does not use what it defines";
+
+pub(crate) const FORM_DEFINE_CONST: &str =
+    "a constant is defined as (define-const c Int t), and t does not use what it defines";
 
 pub(crate) const FORM: &str = "this {name} is not of its form; docs/SMTLIB.md has the forms";
 

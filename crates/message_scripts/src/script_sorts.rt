@@ -37,18 +37,15 @@ pub(crate) fn find_sort(script: Script, k: usize) -> Option<Sort> {
 
 /// The sort that a declaration before token k gives a name, unless the command around that token may bind it.
 fn declared_sort(script: Script, k: usize, name: &[u8]) -> Option<Sort> {
-    let found = script.declaration(name)?;
     let command = script.outermost(k)?;
-    if found >= command {
-        return None;
-    }
+    let found = script.declaration_before(name, k)?;
     for i in command..k {
         if script.follows_open(i) && i.saturating_add(1) < k && script.text(i) == name {
             return None;
         }
     }
     let place = match script.text_behind(found, 1) {
-        b"declare-const" => 2,
+        b"declare-const" | b"define-const" => 2,
         _ => 3,
     };
     match script.member_text(found, place) {

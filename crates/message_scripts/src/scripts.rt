@@ -28,6 +28,7 @@ pub(crate) fn script_slip<'a>(script: Script<'a>, name: &[u8], k: usize) -> Slip
         },
         b"NonLinear" => Slip::new(say::NONLINEAR),
         b"Literal" => Slip::new(say::NUMERAL),
+        b"Deep" if script.outermost(k).is_none() => Slip::new(say::LEVELS),
         b"Deep" => Slip::new(say::DEEP),
         b"Many" => Slip::new(say::MANY),
         _ => Slip::new(say::LARGE),
@@ -83,15 +84,21 @@ fn end_slip<'a>(script: Script<'a>) -> Slip<'a> {
 }
 
 /// The commands that are read.
-pub(crate) const READ: [&str; 9] = [
+pub(crate) const READ: [&str; 15] = [
     "set-logic",
     "set-info",
     "set-option",
     "declare-const",
     "declare-fun",
     "define-fun",
+    "define-const",
     "assert",
     "check-sat",
+    "check-sat-assuming",
+    "push",
+    "pop",
+    "reset",
+    "reset-assertions",
     "exit",
 ];
 
@@ -207,6 +214,11 @@ fn undeclared_slip<'a>(script: Script<'a>, k: usize) -> Slip<'a> {
     if joins_members(name) {
         return Slip::new(say::NO_BLANK);
     }
+    if let Some(found) = script.declaration(name)
+        && found < k
+    {
+        return Slip::new(say::GONE).with_line(script.line(found.saturating_add(2)));
+    }
     let Some(found) = script.declaration_in_any_case(name) else {
         return near_slip(script, name);
     };
@@ -266,7 +278,7 @@ fn arity_slip<'a>(script: Script<'a>, k: usize) -> Slip<'a> {
     if is_infix(name) && !follows_open {
         return Slip::new(say::CHAIN);
     }
-    let Some(found) = script.declaration(name) else {
+    let Some(found) = script.declaration_before(name, k) else {
         return Slip::new(say::ARITY);
     };
     let used = match k.checked_sub(1) {
@@ -286,11 +298,9 @@ pub(crate) fn declared_arguments(script: Script, k: usize) -> usize {
 }
 
 fn redeclared_slip<'a>(script: Script<'a>, k: usize) -> Slip<'a> {
-    match script.declaration(script.text(k)) {
-        Some(found) if found.saturating_add(2) < k => {
-            Slip::new(say::AGAIN).with_line(script.line(found))
-        }
-        _ => Slip::new(say::REDECLARED),
+    match script.declaration_before(script.text(k), k) {
+        Some(found) => Slip::new(say::AGAIN).with_line(script.line(found)),
+        None => Slip::new(say::REDECLARED),
     }
 }
 

@@ -46,18 +46,18 @@ pub(crate) enum Request {
 }
 
 /// What these words ask for. `--quiet`, `--json`, `--stats` and `--progress` stand before the command, in any order, and all but the
-/// first also after it; `--vacuous` and `--proof-to FILE` stand after `solve`, and `--unused` after `smt`. They are taken out, so the
-/// top call sees the other words, and `--proof` where a proof goes to a file and no form of it is asked for.
+/// first also after it; `--vacuous` stands after `solve`, `--proof-to FILE` after `solve` or `find`, and `--unused` after `smt`. They are
+/// taken out, so the top call sees the other words, and `--proof` where a proof goes to a file and no form of it is asked for.
 pub(crate) fn read_request(alloc: Global, words: Vec<String>) -> Result<Request, AllocError> {
     let mut manner = Manner::USUAL;
     let mut left = Vec::new(alloc);
     let mut place = Place::Front;
     for word in words {
-        if place == Place::ProofFile {
+        if let Place::ProofFile(command) = place {
             manner.proof_file = Some(word);
-            place = Place::Options(Command::Solve);
-        } else if takes_file(&manner, place, word.as_str()) {
-            place = Place::ProofFile;
+            place = Place::Options(command);
+        } else if let Some(command) = takes_file(&manner, place, word.as_str()) {
+            place = Place::ProofFile(command);
         } else if let Some(file) = file_behind(&manner, place, word.as_str()) {
             manner.proof_file = Some(String::from_str(alloc, file)?);
         } else if !takes(&mut manner, place, word.as_str()) {
@@ -65,7 +65,7 @@ pub(crate) fn read_request(alloc: Global, words: Vec<String>) -> Result<Request,
             left.push(word)?;
         }
     }
-    if place == Place::ProofFile {
+    if let Place::ProofFile(_) = place {
         left.push(String::from_str(alloc, WITHOUT_FILE)?)?;
     }
     if let Some(text) = asked_text(left.as_slice()) {
@@ -87,16 +87,24 @@ const PROOF_FILE: &str = "--proof-to";
 
 const WITHOUT_FILE: &str = "--proof-to=";
 
-/// Whether a word is that option, where it stands for the first time.
-fn takes_file(manner: &Manner, place: Place, word: &str) -> bool {
-    let is_solve = place == Place::Options(Command::Solve);
-    is_solve && word == PROOF_FILE && manner.proof_file.is_none()
+/// The command after which a word is that option, where it stands for the first time.
+fn takes_file(manner: &Manner, place: Place, word: &str) -> Option<Command> {
+    match place {
+        Place::Options(command) if command.has_proof() => {
+            let is_first = word == PROOF_FILE && manner.proof_file.is_none();
+            if is_first { Some(command) } else { None }
+        }
+        _ => None,
+    }
 }
 
 /// The name of that file, where it stands after the option and a sign =.
 fn file_behind<'a>(manner: &Manner, place: Place, word: &'a str) -> Option<&'a str> {
-    let is_solve = place == Place::Options(Command::Solve);
-    if !is_solve || manner.proof_file.is_some() {
+    let has_proof = match place {
+        Place::Options(command) => command.has_proof(),
+        _ => false,
+    };
+    if !has_proof || manner.proof_file.is_some() {
         return None;
     }
     match word.strip_prefix(WITHOUT_FILE) {
@@ -126,8 +134,25 @@ fn with_proof(alloc: Global, words: Vec<String>) -> Result<Vec<String>, AllocErr
 #[derive(Clone, Copy, PartialEq, Eq)]
 enum Command {
     Solve,
+    Find,
     Smt,
     Other,
+}
+
+impl Command {
+    fn of(word: &str) -> Command {
+        match word {
+            "solve" => Command::Solve,
+            "find" => Command::Find,
+            "smt" => Command::Smt,
+            _ => Command::Other,
+        }
+    }
+
+    /// Whether it prints proofs.
+    fn has_proof(self) -> bool {
+        self == Command::Solve || self == Command::Find
+    }
 }
 
 /// Where a word stands.
@@ -140,7 +165,7 @@ enum Place {
     /// Where the value of an option stands.
     Value(Command),
     /// Where the name of the file stands to which a proof goes.
-    ProofFile,
+    ProofFile(Command),
     /// After a word `--`.
     Operands,
 }
@@ -149,13 +174,11 @@ impl Place {
     /// The place after this word, which stands here.
     fn behind(self, word: &str) -> Place {
         match (self, word) {
-            (Place::Front, "solve") => Place::Options(Command::Solve),
-            (Place::Front, "smt") => Place::Options(Command::Smt),
-            (Place::Front, _) => Place::Options(Command::Other),
+            (Place::Front, _) => Place::Options(Command::of(word)),
             (Place::Options(_), "--") | (Place::Operands, _) => Place::Operands,
             (Place::Options(command), "--budget") => Place::Value(command),
-            (Place::Options(command) | Place::Value(command), _) => Place::Options(command),
-            (Place::ProofFile, _) => Place::Options(Command::Solve),
+            (Place::Options(command) | Place::Value(command) | Place::ProofFile(command), _) =>
+                Place::Options(command),
         }
     }
 }
@@ -189,9 +212,8 @@ fn asked_text(words: &[String]) -> Option<Text> {
     match first.as_str() {
         "help" | "--help" | "-h" => Some(Text::Help),
         "version" | "--version" => Some(Text::Version),
-        "solve" | "check" | "elim" | "least" | "smt" | "drill" if asks_for_help(rest) => Some(
-            Text::Help,
-        ),
+        "solve" | "check" | "elim" | "find" | "least" | "smt" | "drill" if asks_for_help(rest) =>
+            Some(Text::Help),
         _ => None,
     }
 }

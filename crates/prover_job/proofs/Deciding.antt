@@ -5,7 +5,7 @@ use Rattle.base_answers.specs.Answer.{Answer, line}
 use Rattle.base_answers.specs.declared.form.ProofForm.{ProofForm}
 use Rattle.job_check.specs.Checked.{IsChecked}
 use Rattle.job_check.specs.Exactly.{IsCutAnswer}
-use Rattle.job_decide.specs.Decided.{IsDecidedAs, canonical, proved as by_clauses, refuted as by_model}
+use Rattle.job_decide.specs.Decided.{IsDecidedAs, canonical, nowhere, proved as by_clauses, refuted as by_model}
 use Rattle.job_decide.specs.Shown.{AnswersShown, AreShownLines, nothing, values}
 use Rattle.job_decide.proofs.Showing.{invalid_plain, run_alone, unshown}
 use Rattle.job_solve.specs.Proved.{IsImpure, ProvesInvalid, extended}
@@ -54,3 +54,4 @@ decided_output form calculus shows budget bytes a b (posed p h (runs f (canonica
 decided_output form calculus shows budget bytes a b (posed p h (runs f (by_clauses off k))) good is = so_or_cut off (proved_accepted form budget bytes p a b h f k is)
 decided_output form calculus shows budget bytes a b (posed p h (runs f (by_model off k))) good is =
     absurd (refuted_by_model calculus budget bytes a off (ap status_of k.whole) (p, h, (f, k.left_open, (k.model, k.universals, k.is))) good)
+decided_output form calculus shows budget bytes a b (posed p h (runs f (nowhere off none k))) good is = absurd cc

@@ -7,3 +7,4 @@ mod Opening
 mod Accepting
 mod ValueLines
 mod Deciding
+mod Finding

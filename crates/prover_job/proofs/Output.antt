@@ -57,7 +57,7 @@ constraint_passed p x d h t = record {
   other = refl;
 }
 
-solution_passed : (p : Problem) (vs : List ℤ) → HasIdentifiers p → IsPassed (codes "solution: " ++ solution_text p vs)
+pub solution_passed : (p : Problem) (vs : List ℤ) → HasIdentifiers p → IsPassed (codes "solution: " ++ solution_text p vs)
 solution_passed p vs h = record { inner = inner_append (codes "solution: ") (solution_text p vs) (inner_word (codes "solution: ") refl) (solution_inner p vs h); other = refl }
 
 -- the lines of causes

@@ -10,7 +10,7 @@ use Rattle.base_answers.specs.declared.output.Output.{Output}
 use Rattle.base_answers.specs.Outside.{IsPutWhole, Meets, PutsAll}
 use Rattle.base_answers.specs.Files.{AnswersBytes, AnswersSource, most_of_file, most_of_proof, too_long, within}
 use Rattle.base_answers.proofs.Meeting.{long_answered, meets_more, whole_answered}
-use Rattle.job_words.specs.Jobs.{Task, solve, eliminate, run_script, minimise, check, drill, IsBudget, NamesJob}
+use Rattle.job_words.specs.Jobs.{Task, solve, eliminate, find_values, run_script, minimise, check, drill, IsBudget, NamesJob}
 use Rattle.problem_gen.specs.Drills.{drill_text}
 use Rattle.job_decide.specs.Causes.{IsCausedAs}
 use Rattle.job_solve.specs.Proved.{PrintsProofOf}
@@ -26,6 +26,11 @@ use Rattle.job_check.specs.Checked.{IsChecked}
 use Rattle.job_check.specs.Meaning.{CheckMeans}
 use Rattle.job_check.specs.Causes as check_causes
 use Rattle.job_check.proofs.Causing as check_causing
+use Rattle.job_find.specs.Causes.{IsFindCaused}
+use Rattle.job_find.specs.Found.{IsFoundIn}
+use Rattle.job_find.specs.Meaning.{FindMeans}
+use Rattle.job_find.proofs.Means.{find_status}
+use Rattle.job_find.proofs.Means as find_meaning
 use Rattle.job_smt.specs.Causes.{SmtCauses}
 use Rattle.job_smt.proofs.Causing as smt_causing
 use Rattle.job_check.proofs.Exactly.{accepted_text}
@@ -47,7 +52,7 @@ use Rattle.job_least.proofs.Deciding as least_deciding
 use Rattle.job_least.proofs.Exactly.{least_status}
 use Rattle.job_least.proofs.Meaning as least_meaning
 use Rattle.prover_job.specs.declared.tasks.Stop.{Stop}
-use Rattle.prover_job.specs.Runs.{AnswersTask, AnswersWithProof, IsSmallTask, SaysChecked, SaysConstraint, SaysLeast, SaysNowhere, SaysScript, SaysValid, SaysRefuted, IsElimCaused, IsLeastCaused, IsCheckCaused, IsDrillCaused}
+use Rattle.prover_job.specs.Runs.{AnswersTask, AnswersWithProof, IsSmallTask, SaysChecked, SaysConstraint, SaysFound, SaysLeast, SaysNowhere, SaysScript, SaysUnfound, SaysValid, SaysRefuted, IsElimCaused, IsLeastCaused, IsCheckCaused, IsDrillCaused}
 
 -- ---- files
 
@@ -88,6 +93,7 @@ with_proof_status told bytes a h = bytes_status most_of_proof (λ proof. IsCheck
 pub task_status : (bytes_of : List ℕ → Option (List ℕ)) (task : Task) (a : Answer) → AnswersTask bytes_of task a → IsAnswerStatus a.status
 task_status bytes_of (solve file budget asked calculus shows) a h = bytes_status most_of_file (IsDecidedAs calculus shows asked budget) (decided_status calculus shows asked budget) h.bytes a h.is
 task_status bytes_of (eliminate file budget) a h = bytes_status most_of_file (IsEliminated budget) (eliminated_status budget) h.bytes a h.is
+task_status bytes_of (find_values file budget proves) a h = bytes_status most_of_file (IsFoundIn proves budget) (find_status proves budget) h.bytes a h.is
 task_status bytes_of (run_script file budget) a h = bytes_status most_of_file (IsSmtAnswer budget) (smt_status budget) h.bytes a h.is
 task_status bytes_of (minimise file term budget) a h = bytes_status most_of_file (IsLeastAnswer term budget) (least_status term budget) h.bytes a h.is
 task_status bytes_of (check file proof) a h = bytes_status most_of_file (AnswersWithProof (bytes_of proof)) (with_proof_status (bytes_of proof)) h.bytes a h.is
@@ -215,6 +221,54 @@ says_constraint w budget told ends before after met z =
       constrained = bytes_means w budget (given.is).bytes given.answer (given.is).is (sym given.status ∙ z);
     }
 
+-- an answer of `find` to the bytes of a file means what it does, where a long file's means nothing
+bytes_found : (w : Meaning) (proves : Bool) (budget : ℕ) (bytes : List ℕ) (a : Answer) → AnswersBytes most_of_file (IsFoundIn proves budget) bytes a → FindMeans w proves bytes a
+bytes_found w proves budget bytes a (too_long l e) = record {
+  text = a.text;
+  part = [];
+  whole = sym (append-nil a.text);
+  none = λ off. refl;
+  found = λ z. let bad = sym z ∙ ap (λ b. b.status) e in absurd cc;
+  refuted = λ z. let bad = sym z ∙ ap (λ b. b.status) e in absurd cc;
+  disproved = λ z. let bad = sym z ∙ ap (λ b. b.status) e in absurd cc;
+}
+bytes_found w proves budget bytes a (within l is) = find_meaning.means w proves budget bytes a is
+
+pub says_found : (w : Meaning) (proves : Bool) (budget : ℕ) (told : Option (List ℕ)) (ends : ℕ) (before after : Option (List ℕ)) → Meets (AnswersSource most_of_file (IsFoundIn proves budget) told) ends before after → ends ≡ 0
+    → SaysFound w proves told before after
+says_found w proves budget told ends before after met z =
+    let given = given_to _ ends 0 before after met z (λ e. cc) (λ e. cc) (λ e. cc) in
+    let m = bytes_found w proves budget (given.is).bytes given.answer (given.is).is in
+    record {
+      bytes = (given.is).bytes;
+      whole = (given.is).whole;
+      text = m.text;
+      part = m.part;
+      put = subst (PutsAll before after) m.whole given.put;
+      found = m.found (sym given.status ∙ z);
+      none = m.none;
+    }
+
+pub says_unfound : (proves : Bool) (budget : ℕ) (told : Option (List ℕ)) (ends : ℕ) (before after : Option (List ℕ)) → Meets (AnswersSource most_of_file (IsFoundIn proves budget) told) ends before after → ends ≡ 1
+    → SaysUnfound proves told before after
+says_unfound proves budget told ends before after met z =
+    let given = given_to _ ends 1 before after met z (λ e. cc) (λ e. cc) (λ e. cc) in
+    let m = bytes_found (meaning_of no_table) proves budget (given.is).bytes given.answer (given.is).is in
+    record {
+      bytes = (given.is).bytes;
+      whole = (given.is).whole;
+      text = m.text;
+      part = m.part;
+      put = subst (PutsAll before after) m.whole given.put;
+      refuted = m.refuted (sym given.status ∙ z);
+      none = m.none;
+      disproved = m.disproved (sym given.status ∙ z);
+    }
+
+pub find_caused : (proves : Bool) (budget : ℕ) (told : Option (List ℕ)) (ends : ℕ) (before after : Option (List ℕ)) → Meets (AnswersSource most_of_file (IsFoundIn proves budget) told) ends before after
+    → Meets (AnswersSource most_of_file (IsFindCaused proves budget) told) ends before after
+find_caused proves budget told ends before after met = meets_more _ _ ends before after (source_more most_of_file (IsFoundIn proves budget) (IsFindCaused proves budget) (find_meaning.causes proves budget) told) met
+
 -- an answer of `smt` to the bytes of a file means what it does, where a long file's means nothing
 bytes_script : (w : Meaning) (budget : ℕ) (bytes : List ℕ) (a : Answer) → AnswersBytes most_of_file (IsSmtAnswer budget) bytes a → (a.status ≡ 0) ⊎ (a.status ≡ 2) → Scripted w bytes a.text
 bytes_script w budget bytes a (too_long l e) (inl z) = let bad = sym z ∙ ap (λ b. b.status) e in absurd cc
@@ -320,6 +374,7 @@ pub named_within : (words : List (List ℕ)) (task : Task) → NamesJob words ta
 named_within [] task h = absurd h
 named_within (command ∷ line) (solve file budget asked calculus shows) h = budget_small _ budget h.1.budget_is
 named_within (command ∷ line) (eliminate file budget) h = let small = budget_small _ budget h.1.budget_is in omega (arith, small)
+named_within (command ∷ line) (find_values file budget proves) h = budget_small _ budget h.1.budget_is
 named_within (command ∷ line) (run_script file budget) h = budget_small _ budget h.1.budget_is
 named_within (command ∷ line) (minimise file term budget) h = let small = budget_small _ budget h.1.budget_is in omega (arith, small)
 named_within (command ∷ line) (check file proof) h = tt

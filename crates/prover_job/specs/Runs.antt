@@ -9,18 +9,21 @@ use Rattle.prover_io.specs.Outside.{Broke, IsLonger, IsWhole}
 use Rattle.base_answers.specs.Answer.{Answer}
 use Rattle.base_answers.specs.Files.{AnswersSource, most_of_file, most_of_proof}
 use Rattle.base_answers.specs.Outside.{Meets, PutsAll}
-use Rattle.job_words.specs.Jobs.{Task, solve, eliminate, run_script, minimise, check, drill, files_of, NamesJob}
+use Rattle.job_words.specs.Jobs.{Task, solve, eliminate, find_values, run_script, minimise, check, drill, files_of, NamesJob}
 use Rattle.job_decide.specs.Causes.{IsCausedAs, IsRefutedByModel}
-use Rattle.job_solve.specs.Proved.{IsImpure}
+use Rattle.job_solve.specs.Proved.{IsImpure, ProvesInvalid}
 use Rattle.pri_problem.specs.Answers.{PosesOne}
 use Rattle.job_decide.specs.Decided.{IsDecidedAs}
 use Rattle.job_decide.specs.Meaning.{Means, ProvesInvalidBy, ProvesValidBy, RefutesBy}
 use Rattle.base_answers.specs.declared.form.ProofForm.{ProofForm}
+use Rattle.base_answers.specs.declared.form.ProofForm.TheVariants.{Whole}
 use Rattle.job_check.specs.Checked.{IsChecked}
 use Rattle.job_check.specs.Meaning.{Confirms}
 use Rattle.job_check.specs.Causes as check_causes
 use Rattle.problem_gen.specs.Drills.{drill_text}
-use Rattle.job_solve.specs.Headline.{Validates}
+use Rattle.job_find.specs.Found.{IsFoundIn}
+use Rattle.job_find.specs.Meaning.{Solves, SolvesByRun}
+use Rattle.job_solve.specs.Headline.{Refutes, Validates}
 use Rattle.job_decide.specs.Drilled.{IsDrilled, drill_answer}
 use Rattle.job_elim.specs.Eliminated.{IsEliminated}
 use Rattle.job_elim.specs.Causes as elim_causes
@@ -52,6 +55,7 @@ MeetsFile P told = Meets (AnswersSource most_of_file P told)
 abbrev pub IsSmallTask : Task → Type 0
 IsSmallTask (solve file budget asked calculus shows) = budget ≤ most_budget
 IsSmallTask (eliminate file budget) = budget < 2 ^ 32
+IsSmallTask (find_values file budget proves) = budget ≤ most_budget
 IsSmallTask (run_script file budget) = budget ≤ most_budget
 IsSmallTask (minimise file term budget) = budget < 2 ^ 32
 IsSmallTask (check file proof) = Unit {0}
@@ -65,6 +69,7 @@ AnswersWithProof told bytes = AnswersSource most_of_proof (λ proof. IsChecked p
 abbrev pub AnswersTask : (List ℕ → Option (List ℕ)) → Task → Answer → Type 0
 AnswersTask bytes_of (solve file budget asked calculus shows) = AnswersSource most_of_file (IsDecidedAs calculus shows asked budget) (bytes_of file)
 AnswersTask bytes_of (eliminate file budget) = AnswersSource most_of_file (IsEliminated budget) (bytes_of file)
+AnswersTask bytes_of (find_values file budget proves) = AnswersSource most_of_file (IsFoundIn proves budget) (bytes_of file)
 AnswersTask bytes_of (run_script file budget) = AnswersSource most_of_file (IsSmtAnswer budget) (bytes_of file)
 AnswersTask bytes_of (minimise file term budget) = AnswersSource most_of_file (IsLeastAnswer term budget) (bytes_of file)
 AnswersTask bytes_of (check file proof) = AnswersSource most_of_file (AnswersWithProof (bytes_of proof)) (bytes_of file)
@@ -78,6 +83,7 @@ IsJobFile task name = (file : List ℕ) × Contains (files_of task) file × (nam
 abbrev pub most_moved : Task → ℕ
 most_moved (solve file budget asked calculus shows) = most_of_file + 1
 most_moved (eliminate file budget) = most_of_file + 1
+most_moved (find_values file budget proves) = most_of_file + 1
 most_moved (run_script file budget) = most_of_file + 1
 most_moved (minimise file term budget) = most_of_file + 1
 most_moved (check file proof) = (most_of_file + 1) + (most_of_proof + 1)
@@ -152,6 +158,29 @@ pub record SaysNowhere (w : Meaning) (told : Option (List ℕ)) : Type 0 where
   pub bytes : List ℕ
   pub whole : IsWhole told bytes
   pub unsatisfied : Unsatisfied w bytes
+
+-- the bytes of a file, where they are told, read as a problem that holds at the values of the text put, in every interpretation, or that is
+-- valid as that says; after it comes nothing, or the part with a proof of that, where one is asked for
+pub record SaysFound (w : Meaning) (proves : Bool) (told before after : Option (List ℕ)) : Type 0 where
+  pub bytes : List ℕ
+  pub whole : IsWhole told bytes
+  pub text : List ℕ
+  pub part : List ℕ
+  pub put : PutsAll before after (text ++ part)
+  pub found : Solves proves bytes text part ⊎ SolvesByRun w proves bytes text part
+  pub none : proves ≡ false → part ≡ []
+
+-- the bytes of a file, where they are told, read as a problem that is refuted; the text put shows a counterexample where it has predicates
+-- or functions, and after it comes nothing, or the part with a proof tree
+pub record SaysUnfound (proves : Bool) (told before after : Option (List ℕ)) : Type 0 where
+  pub bytes : List ℕ
+  pub whole : IsWhole told bytes
+  pub text : List ℕ
+  pub part : List ℕ
+  pub put : PutsAll before after (text ++ part)
+  pub refuted : Refutes bytes text
+  pub none : proves ≡ false → part ≡ []
+  pub disproved : (part ≡ []) ⊎ ProvesInvalid Whole bytes part
 
 -- the bytes of a file, where they are told, are a script, and the text put has a line for each of its checks, which says what is so
 pub record SaysScript (w : Meaning) (told before after : Option (List ℕ)) : Type 0 where

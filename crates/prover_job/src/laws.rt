@@ -5,11 +5,12 @@ ghost use Rattle.base_answers.specs.Files.{AnswersSource, most_of_file, most_of_
 ghost use Rattle.job_check.specs.Checked.{IsChecked};
 ghost use Rattle.job_check.specs.Exactly.{IsCutAnswer};
 ghost use Rattle.job_decide.specs.Decided.{IsDecidedAs};
+ghost use Rattle.job_find.specs.Found.{IsFoundIn};
 ghost use Rattle.proof_tree.specs.declared.run.Verdict.{Verdict};
 ghost use Rattle.job_solve.specs.Proved.{PrintsProofOf};
 ghost use Rattle.base_answers.specs.declared.form.ProofForm.{ProofForm};
 ghost use Rattle.prover_job.specs.Runs.{AnswersWithProof, HasProof};
-ghost use Rattle.std.specs.Prelude.{◌≡◌, ◌≤◌, ◌⊎◌, Bool, List, Some, false, length, ℕ};
+ghost use Rattle.std.specs.Prelude.{◌≡◌, ◌≤◌, ◌⊎◌, Bool, List, Some, false, true, length, ℕ};
 
 /// The proof that `solve` prints after the line `proof:`, in whichever form, is accepted: `check` of the same file and of these
 /// bytes answers with status 0.
@@ -23,6 +24,12 @@ pub fn printed_law()
 pub fn output_law()
     ensures { (form : ProofForm) (calculus shows : Bool) (budget : ℕ) (bytes : List ℕ) (a b : Answer) → IsDecidedAs calculus shows (Some form) budget bytes a
         → HasProof calculus budget bytes a → IsChecked a.text bytes b → (b.status ≡ 0) ⊎ ((calculus ≡ false) × IsCutAnswer b) }
+{}
+
+/// What `find --proof` puts for a file at status 0 is accepted too: `check` of the same file and of these bytes answers with status 0, but for
+/// cuts of the check of a clause proof.
+pub fn found_law()
+    ensures { (budget : ℕ) (bytes : List ℕ) (a b : Answer) → IsFoundIn true budget bytes a → a.status ≡ 0 → IsChecked a.text bytes b → (b.status ≡ 0) ⊎ IsCutAnswer b }
 {}
 
 /// Both sides together: what `solve --proof` or `solve --short` puts for a file, with such an answer, `check` of the same file accepts as

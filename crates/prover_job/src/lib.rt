@@ -6,5 +6,5 @@ mod runs;
 mod tasks;
 
 pub use job_words::{Job, WordsFault, job, words_law};
-pub use laws::{accepted_law, output_law, printed_law};
+pub use laws::{accepted_law, found_law, output_law, printed_law};
 pub use runs::run;

@@ -3,11 +3,12 @@
 ghost use Rattle.base_answers.specs.Answer.{IsStatus, words_answer};
 ghost use Rattle.base_answers.specs.Outside.{Meets};
 ghost use Rattle.base_answers.specs.declared.form.ProofForm.{ProofForm};
-ghost use Rattle.job_words.specs.Jobs.{Task, check, drill, eliminate, files_of, minimise, run_script, solve, task_of};
+ghost use Rattle.job_words.specs.Jobs.{Task, check, drill, eliminate, files_of, find_values, minimise, run_script, solve, task_of};
 ghost use Rattle.job_decide.specs.Causes.{IsCausedAs};
+ghost use Rattle.job_find.specs.Causes.{IsFindCaused};
 ghost use Rattle.job_smt.specs.Causes.{SmtCauses};
 ghost use Rattle.prover_io.specs.Outside.{BeginsFront, GrowsAtMost, Rose};
-ghost use Rattle.prover_job.specs.Runs.{AnswersTask, AreBegun, AskFor, AskForNoFile, AskForNothing, BrokeAt, IsCheckCaused, IsDrillCaused, IsElimCaused, IsJobFile, IsLeastCaused, IsSmallTask, MeetsFile, SaysChecked, SaysConstraint, SaysLeast, SaysNowhere, SaysRefuted, SaysScript, SaysValid, most_moved};
+ghost use Rattle.prover_job.specs.Runs.{AnswersTask, AreBegun, AskFor, AskForNoFile, AskForNothing, BrokeAt, IsCheckCaused, IsDrillCaused, IsElimCaused, IsJobFile, IsLeastCaused, IsSmallTask, MeetsFile, SaysChecked, SaysConstraint, SaysFound, SaysLeast, SaysNowhere, SaysRefuted, SaysScript, SaysUnfound, SaysValid, most_moved};
 ghost use Rattle.std.specs.Prelude.{◌≡◌, ◌≢◌, ◌⊎◌, ℕ, Bool, List, [], Option};
 
 use crate::tasks::{Stop, job_output};
@@ -19,8 +20,8 @@ use job_words::{Job, WordsFault, job, words_law};
 use prover_io::{Sink, Source};
 use std::alloc::Global;
 
-/// Does the job that the words ask for, and answers the exit status: 0 valid, or the constraint is made, or the proof
-/// is accepted, or the least value is found or there is none, or each check of the script is answered; 1 invalid, or
+/// Does the job that the words ask for, and answers the exit status: 0 valid, or the constraint is made, or values are
+/// found, or the proof is accepted, or the least value is found or there is none, or each check of the script is answered; 1 invalid, or
 /// the problem holds nowhere; 2 unknown, or a check of the script is; 3 the file is refused; 4 the proof is refused;
 /// 5 the words ask for no job; 6 the source failed; 7 the sink failed; 8 no memory; 9 the file or the proof's file is
 /// too long. `drill` answers as `solve` does to the problem that it makes. The interpretation has no call, so what is promised in
@@ -52,6 +53,10 @@ pub fn run<S: Source, K: Sink, W: World, X: Watch>(
         → SaysChecked (W.meaning world.now) (S.bytes_of source.old file) (K.taken sink.old) (K.taken sink.new) }
     ensures constraint { (file : List ℕ) (budget : ℕ) → AskFor words.now (eliminate file budget) → result ≡ 0
         → SaysConstraint (W.meaning world.now) (S.bytes_of source.old file) (K.taken sink.old) (K.taken sink.new) }
+    ensures found { (file : List ℕ) (budget : ℕ) (proves : Bool) → AskFor words.now (find_values file budget proves) → result ≡ 0
+        → SaysFound (W.meaning world.now) proves (S.bytes_of source.old file) (K.taken sink.old) (K.taken sink.new) }
+    ensures unfound { (file : List ℕ) (budget : ℕ) (proves : Bool) → AskFor words.now (find_values file budget proves) → result ≡ 1
+        → SaysUnfound proves (S.bytes_of source.old file) (K.taken sink.old) (K.taken sink.new) }
     ensures scripted { (file : List ℕ) (budget : ℕ) → AskFor words.now (run_script file budget)
         → (result ≡ 0) ⊎ (result ≡ 2)
         → SaysScript (W.meaning world.now) (S.bytes_of source.old file) (K.taken sink.old) (K.taken sink.new) }
@@ -65,6 +70,9 @@ pub fn run<S: Source, K: Sink, W: World, X: Watch>(
         result (K.taken sink.old) (K.taken sink.new) }
     ensures elim_causes { (file : List ℕ) (budget : ℕ) → AskFor words.now (eliminate file budget)
         → MeetsFile (IsElimCaused budget) (S.bytes_of source.old file)
+        result (K.taken sink.old) (K.taken sink.new) }
+    ensures find_causes { (file : List ℕ) (budget : ℕ) (proves : Bool) → AskFor words.now (find_values file budget proves)
+        → MeetsFile (IsFindCaused proves budget) (S.bytes_of source.old file)
         result (K.taken sink.old) (K.taken sink.new) }
     ensures least_causes { (file term : List ℕ) (budget : ℕ) → AskFor words.now (minimise file term budget)
         → MeetsFile (IsLeastCaused (W.meaning world.now) term budget) (S.bytes_of source.old file)

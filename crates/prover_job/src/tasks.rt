@@ -10,6 +10,7 @@ ghost use Rattle.prover_io.specs.Outside.{BeginsFront, Broke, GrowsAtMost, Rose}
 ghost use Rattle.prover_io.specs.declared.whole.ReadFault.{ReadFault};
 ghost use Rattle.prover_job.specs.Runs.{AnswersTask, AnswersWithProof, AreBegun, BrokeAt, IsJobFile, IsSmallTask, most_moved};
 ghost use Rattle.prover_job.specs.declared.tasks.Stop.{Stop};
+ghost use Rattle.job_find.specs.Found.{IsFoundIn};
 ghost use Rattle.job_smt.specs.Answered.{IsSmtAnswer};
 ghost use Rattle.job_decide.specs.Decided.{IsDecidedAs};
 ghost use Rattle.std.specs.Prelude.{◌≡◌, ◌≢◌, ◌+◌, ◌<◌, ◌≤◌, ◌^◌, ◌++◌, length, IfOk, IsErrOf, OnOk, Some, [], ◌∷◌};
@@ -82,6 +83,11 @@ pub(crate) fn job_output<S: Source, X: Watch>(
         ),
         Job::Check { file, proof } => check_output(alloc, source, file.as_str(), proof.as_str()),
         Job::Elim { file, budget } => elim_output(alloc, source, file.as_str(), *budget, watch),
+        Job::Find {
+            file,
+            budget,
+            proves,
+        } => find_output(alloc, source, file.as_str(), *budget, *proves, watch),
         Job::Smt { file, budget } => smt_output(alloc, source, file.as_str(), *budget, watch),
         Job::Least { file, term, budget } => least_output(
             alloc,
@@ -148,6 +154,30 @@ fn elim_output<S: Source, X: Watch>(
 {
     match read_all(alloc, source, file, FILE) {
         Ok(bytes) => Ok(job_elim::answer(alloc, bytes.as_slice(), budget, watch)?),
+        Err(fault) => unread(alloc, fault),
+    }
+}
+
+// What `find` answers to a file, with the proof where one is asked for.
+fn find_output<S: Source, X: Watch>(
+    alloc: Global,
+    source: &mut S,
+    file: &str,
+    budget: u64,
+    proves: bool,
+    watch: &mut X,
+) -> Result<Output, Stop>
+    requires { budget ≤ most_budget }
+    ensures answered { IfOk result (λ output. AnswersSource most_of_file (IsFoundIn proves budget) (S.bytes_of source.old file.now) (answer_of output)) }
+    ensures rose { IsErrOf result Stop.Source → Rose (S.faults source.old) (S.faults source.new) }
+    ensures broke { IsErrOf result Stop.Source → Broke (Some file.now) (S.at source.new) (S.broken source.new) }
+    ensures begun { ¬ (IsErrOf result Stop.Memory) → S.at source.new ≡ Some file.now }
+    ensures listed { OnOk result (S.names source.new ≡ S.names source.old ++ file.now ∷ []) }
+    ensures front { BeginsFront (file.now ∷ []) (S.names source.old) (S.names source.new) }
+    ensures moved { GrowsAtMost (S.moved source.old) (S.moved source.new) (most_of_file + 1) }
+{
+    match read_all(alloc, source, file, FILE) {
+        Ok(bytes) => Ok(job_find::answer(alloc, bytes.as_slice(), budget, proves, watch)?),
         Err(fault) => unread(alloc, fault),
     }
 }

@@ -157,6 +157,7 @@ impl<'a> Named<'a> {
         match job {
             Job::Solve { file, budget, .. }
             | Job::Elim { file, budget }
+            | Job::Find { file, budget, .. }
             | Job::Least { file, budget, .. } => Named {
                 file: file.as_str(),
                 budget: *budget,

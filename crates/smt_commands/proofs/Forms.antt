@@ -67,3 +67,10 @@ define_too_long a b c d (x ∷ end) n = refl
 
 pub long_definition : (xs : List Sexp) (a b c d : Sexp) (end : List Sexp) → xs ≡ a ∷ b ∷ c ∷ d ∷ end → (end ≡ [] → ⊥) → None ≡ command_by w.DefineFun (map expr xs)
 long_definition xs a b c d end e n = sym (ap (λ z. command_by w.DefineFun (map expr z)) e ∙ define_too_long a b c d end n)
+
+const_too_long : (a b c : Sexp) (end : List Sexp) → (end ≡ [] → ⊥) → command_by w.DefineConst (map expr (a ∷ b ∷ c ∷ end)) ≡ None
+const_too_long a b c [] n = absurd (n refl)
+const_too_long a b c (d ∷ end) n = refl
+
+pub long_constant : (xs : List Sexp) (a b c : Sexp) (end : List Sexp) → xs ≡ a ∷ b ∷ c ∷ end → (end ≡ [] → ⊥) → None ≡ command_by w.DefineConst (map expr xs)
+long_constant xs a b c end e n = sym (ap (λ z. command_by w.DefineConst (map expr z)) e ∙ const_too_long a b c end n)

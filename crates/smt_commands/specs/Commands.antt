@@ -1,5 +1,5 @@
 -- Which lists are commands. Where a command has a sort or a term, any S-expression may stand for its form.
-use Rattle.std.specs.Prelude.{ℕ, Bool, true, false, List, [], ◌∷◌, Option, Some, None}
+use Rattle.std.specs.Prelude.{ℕ, Bool, true, false, List, [], ◌∷◌, Option, Some, None, unsigned_abs}
 use Rattle.std.specs.List.{list_all}
 use Rattle.smt_lists.specs.declared.tree.AtomKind.{AtomKind}
 use Rattle.smt_lists.specs.declared.tree.AtomKind.TheVariants as k
@@ -14,13 +14,17 @@ pub record Symbol : Type 0 where
   pub text : List ℕ
 
 -- a command: without effect; a symbol that is declared, with the sorts of its arguments and its sort; a symbol that is
--- defined, with its arguments, its sort and its term; an assertion; a check; the end
+-- defined, with its arguments, its sort and its term; an assertion; a check, with the terms that are assumed for it; this many
+-- assertion levels more, and fewer; a new beginning; the end
 pub data CommandForm : Type 0 where
   skip : CommandForm
   declare : Symbol → List Expr → Expr → CommandForm
   define : Symbol → List Expr → Expr → Expr → CommandForm
   assert : Expr → CommandForm
-  check_sat : CommandForm
+  check_sat : List Expr → CommandForm
+  push : ℕ → CommandForm
+  pop : ℕ → CommandForm
+  reset : CommandForm
   exit : CommandForm
 
 abbrev pub symbol_in : ℕ → AtomKind → Option Symbol
@@ -66,6 +70,15 @@ pair_of (Some es) = pair_in es
 abbrev pub is_argument : Expr → Bool
 is_argument e = pair_of (members_of e)
 
+abbrev pub levels_in : AtomKind → Option ℕ
+levels_in (k.Numeral n) = Some (unsigned_abs n)
+levels_in _ = None
+
+-- how many levels an S-expression says
+abbrev pub levels_of : Expr → Option ℕ
+levels_of (atom a) = levels_in a.kind
+levels_of (list at es) = None
+
 abbrev pub skips : Bool → Option CommandForm
 skips true = Some skip
 skips false = None
@@ -82,7 +95,20 @@ abbrev pub defines : Option Symbol → Option (List Expr) → Expr → Expr → 
 defines (Some f) (Some arguments) s t = defined f arguments s t (list_all is_argument arguments)
 defines _ _ s t = None
 
--- a command by its word and by what stands after it
+abbrev pub assumes : Option (List Expr) → Option CommandForm
+assumes None = None
+assumes (Some ts) = Some (check_sat ts)
+
+abbrev pub pushes : Option ℕ → Option CommandForm
+pushes None = None
+pushes (Some n) = Some (push n)
+
+abbrev pub pops : Option ℕ → Option CommandForm
+pops None = None
+pops (Some n) = Some (pop n)
+
+-- A command by its word and by what stands after it. `reset-assertions` takes all declarations and definitions back too, as the
+-- standard has it where :global-declarations is false. What `reset` sets back besides, the logic and the options, has no effect here.
 abbrev pub command_by : Word → List Expr → Option CommandForm
 command_by w.SetLogic (l ∷ []) = skips (is_some (symbol_of l))
 command_by w.SetInfo (k ∷ []) = skips (is_keyword k)
@@ -91,8 +117,16 @@ command_by w.SetOption (k ∷ v ∷ []) = skips (is_keyword k)
 command_by w.DeclareConst (x ∷ s ∷ []) = declares (symbol_of x) (Some []) s
 command_by w.DeclareFun (f ∷ sorts ∷ s ∷ []) = declares (symbol_of f) (members_of sorts) s
 command_by w.DefineFun (f ∷ arguments ∷ s ∷ t ∷ []) = defines (symbol_of f) (members_of arguments) s t
+command_by w.DefineConst (x ∷ s ∷ t ∷ []) = defines (symbol_of x) (Some []) s t
 command_by w.Assert (t ∷ []) = Some (assert t)
-command_by w.CheckSat [] = Some check_sat
+command_by w.CheckSat [] = Some (check_sat [])
+command_by w.CheckSatAssuming (ts ∷ []) = assumes (members_of ts)
+command_by w.Push [] = Some (push 1)
+command_by w.Push (n ∷ []) = pushes (levels_of n)
+command_by w.Pop [] = Some (pop 1)
+command_by w.Pop (n ∷ []) = pops (levels_of n)
+command_by w.Reset [] = Some reset
+command_by w.ResetAssertions [] = Some reset
 command_by w.Exit [] = Some exit
 command_by _ _ = None
 

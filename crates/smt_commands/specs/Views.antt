@@ -6,7 +6,7 @@ use Rattle.smt_lists.specs.Expressions.{Expr, expr}
 use Rattle.smt_commands.specs.declared.command.Name.{Name}
 use Rattle.smt_commands.specs.declared.command.Command.{Command}
 use Rattle.smt_commands.specs.declared.command.Command.TheVariants as c
-use Rattle.smt_commands.specs.Commands.{Symbol, CommandForm, skip, declare, define, assert, check_sat, exit}
+use Rattle.smt_commands.specs.Commands.{Symbol, CommandForm, skip, declare, define, assert, check_sat, push, pop, reset, exit}
 
 -- the symbol that a name is
 abbrev pub symbol_is : Name → Symbol
@@ -22,5 +22,8 @@ form_of c.Skip = skip
 form_of (c.Declare x sorts s) = declare (symbol_is x) (map expr sorts.now) (expr s.now)
 form_of (c.Define f arguments s t) = define (symbol_is f) (map expr arguments.now) (expr s.now) (expr t.now)
 form_of (c.Assert t) = assert (expr t.now)
-form_of c.CheckSat = check_sat
+form_of (c.CheckSat ts) = check_sat (map expr ts.now)
+form_of (c.Push n) = push n
+form_of (c.Pop n) = pop n
+form_of c.Reset = reset
 form_of c.Exit = exit

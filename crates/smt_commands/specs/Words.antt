@@ -13,7 +13,13 @@ word_of text =
     (if bytes_eq text (codes "declare-const") then Some w.DeclareConst else
     (if bytes_eq text (codes "declare-fun") then Some w.DeclareFun else
     (if bytes_eq text (codes "define-fun") then Some w.DefineFun else
+    (if bytes_eq text (codes "define-const") then Some w.DefineConst else
     (if bytes_eq text (codes "assert") then Some w.Assert else
     (if bytes_eq text (codes "check-sat") then Some w.CheckSat else
+    (if bytes_eq text (codes "check-sat-assuming") then Some w.CheckSatAssuming else
+    (if bytes_eq text (codes "push") then Some w.Push else
+    (if bytes_eq text (codes "pop") then Some w.Pop else
+    (if bytes_eq text (codes "reset") then Some w.Reset else
+    (if bytes_eq text (codes "reset-assertions") then Some w.ResetAssertions else
     (if bytes_eq text (codes "exit") then Some w.Exit else
-    None))))))))
+    None))))))))))))))

@@ -1,6 +1,6 @@
 // Which lists are commands. Where a command has a sort or a term, any S-expression may stand for its form.
 
-ghost use Rattle.smt_commands.specs.Commands.{command_by, command_of, declares, defines, is_argument, is_keyword, members_of, symbol_of};
+ghost use Rattle.smt_commands.specs.Commands.{command_by, command_of, declares, defines, is_argument, is_keyword, levels_of, members_of, symbol_of};
 ghost use Rattle.smt_commands.specs.Views.{form_of, items_of, symbol_is};
 ghost use Rattle.smt_lists.specs.Expressions.{expr};
 ghost use Rattle.std.specs.List.{list_all};
@@ -28,7 +28,14 @@ pub enum Command<'a> {
     /// A symbol is defined, with its arguments, its sort and its term.
     Define(Name<'a>, &'a [Sexp], &'a Sexp, &'a Sexp),
     Assert(&'a Sexp),
-    CheckSat,
+    /// A check, with the terms that are assumed for it.
+    CheckSat(&'a [Sexp]),
+    /// This many assertion levels more.
+    Push(u128),
+    /// This many assertion levels fewer.
+    Pop(u128),
+    /// Nothing before counts any longer.
+    Reset,
     Exit,
 }
 
@@ -59,8 +66,13 @@ fn by_word(word: Word, rest: &[Sexp]) -> Option<Command<'_>>
         Word::DeclareConst => declare_const(rest),
         Word::DeclareFun => declare_fun(rest),
         Word::DefineFun => define_fun(rest),
+        Word::DefineConst => define_const(rest),
         Word::Assert => assert(rest),
-        Word::CheckSat => alone(rest, Command::CheckSat),
+        Word::CheckSat => alone(rest, Command::CheckSat(&[])),
+        Word::CheckSatAssuming => check_assuming(rest),
+        Word::Push => push(rest),
+        Word::Pop => pop(rest),
+        Word::Reset | Word::ResetAssertions => alone(rest, Command::Reset),
         Word::Exit => alone(rest, Command::Exit),
     }
 }
@@ -139,6 +151,19 @@ fn define_fun(rest: &[Sexp]) -> Option<Command<'_>>
     defines(symbol(name), members(arguments), sort, term)
 }
 
+/// `define-const` with a symbol, its sort and its term: a definition without arguments (SMT-LIB 2.7, section 4.2.3).
+fn define_const(rest: &[Sexp]) -> Option<Command<'_>>
+    ensures exact { option_map form_of result ≡ command_by w.DefineConst (map expr rest.now) }
+{
+    let (name, behind) = rest.split_first()?;
+    let (sort, behind) = behind.split_first()?;
+    let (term, end) = behind.split_first()?;
+    if !end.is_empty() {
+        return None;
+    }
+    defines(symbol(name), Some(&[]), sort, term)
+}
+
 /// The declaration of a symbol with these sorts of its arguments; none where there is no symbol or no list.
 fn declares<'a>(
     name: Option<Name<'a>>,
@@ -173,6 +198,65 @@ fn assert(rest: &[Sexp]) -> Option<Command<'_>>
 {
     let (term, end) = rest.split_first()?;
     alone(end, Command::Assert(term))
+}
+
+/// `check-sat-assuming` with a list of terms.
+fn check_assuming(rest: &[Sexp]) -> Option<Command<'_>>
+    ensures exact { option_map form_of result ≡ command_by w.CheckSatAssuming (map expr rest.now) }
+{
+    let (list, end) = rest.split_first()?;
+    if !end.is_empty() {
+        return None;
+    }
+    let terms = members(list)?;
+    Some(Command::CheckSat(terms))
+}
+
+/// `push` with a numeral, or one level.
+fn push(rest: &[Sexp]) -> Option<Command<'_>>
+    ensures exact { option_map form_of result ≡ command_by w.Push (map expr rest.now) }
+{
+    let Some((count, end)) = rest.split_first() else {
+        return Some(Command::Push(1));
+    };
+    if !end.is_empty() {
+        return None;
+    }
+    let count = levels(count)?;
+    Some(Command::Push(count))
+}
+
+/// `pop` with a numeral, or one level.
+fn pop(rest: &[Sexp]) -> Option<Command<'_>>
+    ensures exact { option_map form_of result ≡ command_by w.Pop (map expr rest.now) }
+{
+    let Some((count, end)) = rest.split_first() else {
+        return Some(Command::Pop(1));
+    };
+    if !end.is_empty() {
+        return None;
+    }
+    let count = levels(count)?;
+    Some(Command::Pop(count))
+}
+
+/// How many levels an S-expression says.
+#[tactic(auto, using(crate::proofs::Forms::views))]
+fn levels(e: &Sexp) -> Option<u128>
+    ensures exact { result ≡ levels_of (expr e.now) }
+{
+    match e {
+        Sexp::Atom(a) => match &a.kind {
+            AtomKind::Numeral(count) => Some(count.unsigned_abs()),
+            AtomKind::Symbol(_)
+            | AtomKind::LargeNumeral
+            | AtomKind::Decimal
+            | AtomKind::Hash
+            | AtomKind::StringLiteral
+            | AtomKind::Keyword => None,
+        },
+        Sexp::List(_, _) => None,
+    }
 }
 
 /// The command, where nothing stands after it.

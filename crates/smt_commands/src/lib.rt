@@ -8,6 +8,7 @@ mod laws;
 mod operators;
 mod order;
 mod refusal;
+mod scopes;
 mod table;
 mod words;
 
@@ -19,4 +20,5 @@ pub use laws::least_law;
 pub use operators::{is_reserved, is_unlisted};
 pub use order::sooner;
 pub use refusal::ScriptRefusal;
+pub use scopes::Scopes;
 pub use table::{Entry, Table};

@@ -2,9 +2,9 @@
 
 ghost use Rattle.base_limits.specs.Limits.{most_symbols};
 ghost use Rattle.smt_commands.specs.Symbols.{declared_number, entry_of, is_known, texts_of};
-ghost use Rattle.std.specs.Prelude.{◌≡◌, ◌<◌, ◌∷◌, ◌++◌, [], false, true, IfOk, option_copied};
+ghost use Rattle.std.specs.Prelude.{◌≡◌, ◌<◌, ◌∷◌, ◌++◌, [], false, true, length, map, take, IfOk, option_copied};
 
-use base_texts::Texts;
+use indexmap::IndexSet;
 use linear_term::Memory;
 use smt_terms::Sort;
 use sqlite_items::Items;
@@ -20,13 +20,22 @@ pub struct Entry {
 }
 
 /// The symbols of a script, in the order of their declarations and definitions; their texts are different.
-#[derive(Drop)]
 pub struct Table {
     entries: Items<Entry>,
-    texts: Texts,
+    texts: IndexSet<Vec<u8>>,
     declared: u64,
-    ghost same_texts: { texts ≡ texts_of entries },
+    ghost same_texts: { map (λ t. t.items) texts.keys ≡ texts_of entries },
     ghost counted: { declared ≡ declared_number entries },
+}
+
+impl Drop for Table {
+    fn drop(self) {
+        let Table {
+            entries: _,
+            texts: _,
+            declared: _,
+        } = self;
+    }
 }
 
 #[tactic(auto, using(crate::proofs::Tables::tables))]
@@ -37,7 +46,7 @@ impl Table {
     {
         Table {
             entries: Items::new(alloc),
-            texts: Texts::new(alloc),
+            texts: IndexSet::new(alloc),
             declared: 0,
         }
     }
@@ -53,7 +62,7 @@ impl Table {
     pub fn entry(&self, text: &[u8]) -> Option<&Entry>
         ensures { option_copied result ≡ entry_of text.now self.now.entries }
     {
-        self.entries.get(self.texts.place(text)?)
+        self.entries.get(self.texts.get_index_of(text)?)
     }
 
     /// How many symbols are declared, defined ones not counted.
@@ -61,6 +70,37 @@ impl Table {
         ensures { result ≡ declared_number self.now.entries }
     {
         self.declared
+    }
+
+    /// How many symbols there are.
+    pub fn len(&self) -> usize
+        ensures { result ≡ length self.now.entries }
+    {
+        self.entries.len()
+    }
+
+    /// The first ones of the symbols, this many.
+    pub(crate) fn keep(self, count: usize) -> Table
+        ensures { result.entries ≡ take count self.entries }
+    {
+        let Table {
+            mut entries,
+            mut texts,
+            mut declared,
+        } = self;
+        texts.truncate(count);
+        while entries.len() > count {
+            if let Some(last) = entries.pop() {
+                if !last.defined {
+                    declared -= 1;
+                }
+            }
+        }
+        Table {
+            entries,
+            texts,
+            declared,
+        }
     }
 
     /// The symbols with one more that is declared.
@@ -80,7 +120,7 @@ impl Table {
             mut texts,
             declared,
         } = self;
-        texts.add(alloc, text)?;
+        texts.insert(Vec::from_slice(alloc, text)?)?;
         let text = Items::from_slice(alloc, text)?;
         entries.push(Entry {
             text,
@@ -105,7 +145,7 @@ impl Table {
             mut texts,
             declared,
         } = self;
-        texts.add(alloc, text)?;
+        texts.insert(Vec::from_slice(alloc, text)?)?;
         let text = Items::from_slice(alloc, text)?;
         entries.push(Entry {
             text,

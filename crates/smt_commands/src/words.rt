@@ -12,8 +12,14 @@ pub enum Word {
     DeclareConst,
     DeclareFun,
     DefineFun,
+    DefineConst,
     Assert,
     CheckSat,
+    CheckSatAssuming,
+    Push,
+    Pop,
+    Reset,
+    ResetAssertions,
     Exit,
 }
 
@@ -39,11 +45,29 @@ pub fn find_word(text: &[u8]) -> Option<Word>
     if text == b"define-fun".as_slice() {
         return Some(Word::DefineFun);
     }
+    if text == b"define-const".as_slice() {
+        return Some(Word::DefineConst);
+    }
     if text == b"assert".as_slice() {
         return Some(Word::Assert);
     }
     if text == b"check-sat".as_slice() {
         return Some(Word::CheckSat);
+    }
+    if text == b"check-sat-assuming".as_slice() {
+        return Some(Word::CheckSatAssuming);
+    }
+    if text == b"push".as_slice() {
+        return Some(Word::Push);
+    }
+    if text == b"pop".as_slice() {
+        return Some(Word::Pop);
+    }
+    if text == b"reset".as_slice() {
+        return Some(Word::Reset);
+    }
+    if text == b"reset-assertions".as_slice() {
+        return Some(Word::ResetAssertions);
     }
     if text == b"exit".as_slice() {
         return Some(Word::Exit);

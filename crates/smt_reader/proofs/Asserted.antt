@@ -1,7 +1,7 @@
 -- The assertions of a check, one more.
 use Rattle.std.proofs.Common.{ℕ, zero, suc, ◌≡◌, ◌+◌, ◌<◌, ◌≤◌, List, [], ◌∷◌, ◌++◌, length, map, take, get_or, refl, sym, ap, ap₂, subst, ◌∙◌, arith}
 use Rattle.std.proofs.lemmas.List.{map-append, take_all, take_more}
-use Rattle.form_typed.specs.Formula.{Formula, every, formula, formulas, negation}
+use Rattle.form_typed.specs.Formula.{Formula, formula}
 use Rattle.form_typed.specs.declared.typed.Typed.{Typed}
 use Rattle.smt_terms.specs.Scripts as scripts
 use Rattle.smt_terms.specs.Translation.{asserted, formula_in}

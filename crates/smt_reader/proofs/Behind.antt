@@ -1,6 +1,6 @@
 -- What is held after one command more.
-use Rattle.std.proofs.Common.{ℕ, zero, suc, ◌+◌, ◌-◌, ap₂, ◌≡◌, ◌≢◌, ◌≤◌, false, List, [], ◌∷◌, ◌++◌, length, take, map, refl, sym, ap, subst, ◌∙◌, arith}
-use Rattle.std.proofs.lemmas.List.{map-append, take_all}
+use Rattle.std.proofs.Common.{ℕ, zero, suc, ◌+◌, ◌-◌, ap₂, ◌≡◌, ◌≢◌, false, List, [], ◌∷◌, ◌++◌, length, take, map, refl, sym, ap, subst, ◌∙◌, arith}
+use Rattle.std.proofs.lemmas.List.{map-append}
 use Rattle.base_texts.specs.Texts.{is_among}
 use Rattle.pri_typing.specs.declared.problem.Symbol.{Symbol}
 use Rattle.smt_terms.specs.declared.operator.Sort.TheVariants as sort

@@ -1,7 +1,7 @@
--- What the commands of a script without refusal come to.
-use Rattle.std.proofs.Common.{ℕ, zero, suc, ◌≡◌, ◌≤◌, ◌<◌, ◌+◌, true, false, not, List, [], ◌∷◌, ◌++◌, length, map, refl, sym, ap, subst, ◌∙◌, arith, Option, Some, None, add-zero, zero-add, cond}
+-- What the commands of each question of a script without refusal come to.
+use Rattle.std.proofs.Common.{ℕ, zero, suc, ◌≡◌, ◌≤◌, ◌<◌, ◌+◌, true, false, not, List, [], ◌∷◌, ◌++◌, length, map, refl, sym, ap, subst, ◌∙◌, arith, Option, Some, None, add-zero, zero-add, cond, append_assoc, append-nil}
 use Rattle.std.specs.List.{All, AllByRecursion, flat_map}
-use Rattle.std.proofs.lemmas.List.Elements.{All-cons}
+use Rattle.std.proofs.lemmas.List.Elements.{All-cons, All-head, All-tail}
 use Rattle.std.proofs.lemmas.List.Sums.{sum_by-append}
 use Rattle.pri_typing.specs.declared.problem.Symbol.{Symbol}
 use Rattle.pri_typing.specs.Everywhere.{Everywhere}
@@ -11,23 +11,28 @@ use Rattle.smt_commands.specs.declared.refusal.ScriptRefusal.{ScriptRefusal}
 use Rattle.smt_commands.specs.declared.table.Entry.{Entry}
 use Rattle.smt_commands.specs.Commands as form
 use Rattle.smt_commands.specs.Commands.{CommandForm, Symbol as Named}
-use Rattle.smt_commands.specs.Symbols.{declared_number, is_known, or_int, sort_of}
+use Rattle.smt_commands.specs.Levels.{Levels, left_from, level_fewer, level_more, lowest, popped, pushed}
+use Rattle.smt_commands.specs.Symbols.{declared_number, entry, is_known, or_int, sort_of, texts_of}
+use Rattle.smt_commands.specs.Symbols as tables
 use Rattle.smt_commands.specs.Faults as faults
-use Rattle.smt_commands.specs.Faults.{argument_faults, behind, body_faults, command_faults, declaration_faults, definition_faults, name_faults, or_later, refusal_from, refusal_of, sort_fault, sort_faults, unless_exit, use_faults}
+use Rattle.smt_commands.specs.Faults.{argument_faults, behind, body_faults, claim_faults, command_faults, declaration_faults, definition_faults, name_faults, or_later, refusal_from, refusal_of, sort_fault, sort_faults, unless_exit, use_faults}
 use Rattle.smt_commands.specs.Least.{least}
 use Rattle.smt_commands.proofs.Least.{none_found}
+use Rattle.smt_commands.proofs.Tables.{texts-more}
 use Rattle.smt_commands.proofs.Fitting.{declarable, definable}
 use Rattle.smt_terms.specs.declared.operator.Sort.{Sort}
 use Rattle.smt_terms.specs.declared.operator.Sort.TheVariants as sort
 use Rattle.smt_terms.specs.Term.{PlacedTerm, first_byte}
 use Rattle.smt_terms.specs.Evaluation.{constant_of, function_of, predicate_of, defined_by}
 use Rattle.smt_terms.specs.Translation.{asserted, said, symbol_said}
-use Rattle.smt_terms.specs.Scripts.{Claim, Declared, State, after_declaration, checks, checks_from, claims_said, start}
+use Rattle.smt_terms.specs.Scripts as scripts
+use Rattle.smt_terms.specs.Scripts.{Claim, Command, Declared, State, after_declaration, claims_said, start}
 use Rattle.smt_typing.specs.Sorts.{term_sort, variables}
 use Rattle.smt_typing.specs.Faults as typing
 use Rattle.smt_typing.specs.Faults.{kind_faults, names_in, term_faults}
 use Rattle.smt_typing.specs.Reading.{phrase_of}
-use Rattle.smt_reader.specs.Commands.{commands_of, script_terms, with_form}
+use Rattle.smt_reader.specs.Commands.{acts_of, all_after, questions, questions_from, script_terms, state_of, with_form}
+use Rattle.smt_reader.specs.Following.{AreNew, IsNewSymbol, texts_behind, texts_behind_all}
 use Rattle.smt_reader.specs.Formed.{IsFormedCheck, IsRangedExpr, Sound, symbol, symbols}
 use Rattle.smt_reader.proofs.Sound.{AllSound, IsSaid, all_everywhere, formula_of}
 use Rattle.smt_reader.proofs.Faultless.{needed_is, none_both}
@@ -189,56 +194,150 @@ later_none : (a later : Option ScriptRefusal) → or_later a later ≡ None → 
 later_none None later e = e
 later_none (Some x) later e = absurd (cc)
 
--- what the commands after come to
-abbrev Goes : List Expr → Type 0
-Goes es = (g : List Entry) (s : State) → StateFormed g s → refusal_from script_terms g es ≡ None → All IsFormedCheck (checks_from s (commands_of es))
+-- One command more in force.
 
-no_checks : All IsFormedCheck []
-no_checks i d h = absurd (omega (arith, h))
+after_more : (s : State) (cs : List Command) (c : Command) → all_after s (cs ++ c ∷ []) ≡ scripts.after (all_after s cs) c
+after_more s [] c = refl
+after_more s (d ∷ cs) c = after_more (scripts.after s d) cs c
 
-definition_on : (es : List Expr) → Goes es → (g : List Entry) (s : State) (at : ℕ) (f : Named) (arguments : List Expr) (st t : Expr) → StateFormed g s → IsRangedExpr t → length arguments ≡ length (names_in arguments)
-    → least (definition_faults g f arguments st ++ body_faults script_terms g at f.text arguments (sort_of st) t) ≡ None
-    → refusal_from script_terms (behind g (Some (form.define f arguments st t))) es ≡ None
-    → All IsFormedCheck (checks_from (record s { globals = (f.text, defined_by (names_in arguments) (phrase_of t)) ∷ s.globals }) (commands_of es))
-definition_on es go g s at f arguments st t h ranged many fits later =
-    let own = definition_faults g f arguments st in
-    let body = body_faults script_terms g at f.text arguments (sort_of st) t in
-    let both = none_both own body (none_found (own ++ body) fits) in
-    let new = definable body g f arguments st (sym fits) in
-    let sorted = sorted_by (sort_of st) (place_of st) (none_both (name_faults g f ++ flat_map argument_faults arguments) (sort_faults true st) both.0).1 in
-    let fine = (none_both (use_faults script_terms at f.text arguments t) (typing.script_faults g arguments (sort_of st) t) both.1).1 in
-    go _ _ (defined_formed g s f.text (length arguments) (or_int (sort_of st)) (names_in arguments) (phrase_of t) h new many (phrase_ranged t ranged)
-    (subst (λ z. term_faults g (variables (names_in arguments) []) z (phrase_of t) ≡ []) sorted fine)) later
+texts_more : (texts : List (List ℕ)) (cs : List Command) (c : Command) → texts_behind_all texts (cs ++ c ∷ []) ≡ texts_behind (texts_behind_all texts cs) c
+texts_more texts [] c = refl
+texts_more texts (d ∷ cs) c = texts_more (texts_behind texts d) cs c
 
-command_on : (es : List Expr) → Goes es → (g : List Entry) (s : State) (at : ℕ) (f : Option CommandForm) → StateFormed g s → IsRangedForm f → least (command_faults script_terms g at f) ≡ None
-    → unless_exit f (refusal_from script_terms (behind g f) es) ≡ None → All IsFormedCheck (checks_from s (with_form f (commands_of es)))
-command_on es go g s at None h r e later = absurd (cc)
-command_on es go g s at (Some form.skip) h r e later = go g s h later
-command_on es go g s at (Some (form.declare x sorts st)) h r e later =
+new_more : (texts : List (List ℕ)) (cs : List Command) (c : Command) → AreNew texts cs → IsNewSymbol (texts_behind_all texts cs) c → AreNew texts (cs ++ c ∷ [])
+new_more texts [] c h k = (k, tt)
+new_more texts (d ∷ cs) c h k = (h.0, new_more (texts_behind texts d) cs c h.1 k)
+
+-- what commands that are in force come to, over the symbols in force
+record IsFit (g : List Entry) (cs : List Command) : Type 0 where
+  formed : StateFormed g (state_of cs)
+  texts : texts_behind_all [] cs ≡ texts_of g
+  new : AreNew [] cs
+
+fit_more : (g h : List Entry) (cs : List Command) (c : Command) → IsFit g cs → StateFormed h (scripts.after (state_of cs) c) → texts_behind (texts_of g) c ≡ texts_of h → IsNewSymbol (texts_of g) c → IsFit h (cs ++ c ∷ [])
+fit_more g h cs c f formed texts new = record {
+  formed = subst (StateFormed h) (sym (after_more start cs c)) formed;
+  texts = texts_more [] cs c ∙ ap (λ z. texts_behind z c) f.texts ∙ texts;
+  new = new_more [] cs c f.new (subst (λ z. IsNewSymbol z c) (sym f.texts) new);
+}
+
+-- the same at each level
+abbrev AllFit : List (List Entry) → List (List Command) → Type 0
+AllFit [] [] = Unit {0}
+AllFit [] (cs ∷ ls) = ⊥
+AllFit (g ∷ gs) [] = ⊥
+AllFit (g ∷ gs) (cs ∷ ls) = IsFit g cs × AllFit gs ls
+
+record AreLevelsFit (g : Levels (List Entry)) (l : Levels (List Command)) : Type 0 where
+  now : IsFit g.now l.now
+  below : AllFit g.below l.below
+
+pushed_fit : (n : ℕ) (g : Levels (List Entry)) (l : Levels (List Command)) → AreLevelsFit g l → AreLevelsFit (pushed n g) (pushed n l)
+pushed_fit zero g l h = h
+pushed_fit (suc n) g l h = pushed_fit n (level_more g) (level_more l) (record { now = h.now; below = (h.now, h.below) })
+
+fewer_fit : (a : List Entry) (gs : List (List Entry)) (b : List Command) (bs : List (List Command)) → IsFit a b → AllFit gs bs → AreLevelsFit (left_from a gs) (left_from b bs)
+fewer_fit a [] b [] h k = record { now = h; below = tt }
+fewer_fit a [] b (y ∷ bs) h k = absurd k
+fewer_fit a (x ∷ gs) b [] h k = absurd k
+fewer_fit a (x ∷ gs) b (y ∷ bs) h k = record { now = k.0; below = k.1 }
+
+popped_fit : (n : ℕ) (g : Levels (List Entry)) (l : Levels (List Command)) → AreLevelsFit g l → AreLevelsFit (popped n g) (popped n l)
+popped_fit zero g l h = h
+popped_fit (suc n) g l h = popped_fit n (level_fewer g) (level_fewer l) (fewer_fit g.now g.below l.now l.below h.now h.below)
+
+start_fit : IsFit [] []
+start_fit = record { formed = record { linked = nothing refl refl; counted = refl; few = omega arith; claims = tt }; texts = refl; new = tt }
+
+-- an assertion more
+claim_fit : (g : List Entry) (cs : List Command) (t : Expr) → IsFit g cs → IsRangedExpr t → typing.script_faults g [] (Some sort.Bool) t ≡ [] → IsFit g (cs ++ scripts.claim (phrase_of t) ∷ [])
+claim_fit g cs t f ranged fine =
+    let s : State = state_of cs in
+    let one : Claim = record { globals = s.globals; term = phrase_of t } in
+    fit_more g g cs (scripts.claim (phrase_of t)) f (record {
+      linked = f.formed.linked;
+      counted = f.formed.counted;
+      few = f.formed.few;
+      claims = one_claim_more _ _ _ s.claims one f.formed.claims (record { table = g; linked = f.formed.linked; ranged = phrase_ranged t ranged; none = fine });
+    }) refl tt
+
+claims_fit : (g : List Entry) (cs : List Command) (ts : List Expr) → IsFit g cs → AllByRecursion IsRangedExpr ts → claim_faults script_terms g ts ≡ [] → IsFit g (cs ++ map scripts.claim (map phrase_of ts))
+claims_fit g cs [] f r e = subst (IsFit g) (sym (append-nil cs)) f
+claims_fit g cs (t ∷ ts) f r e =
+    let both = none_both (typing.script_faults g [] (Some sort.Bool) t) (claim_faults script_terms g ts) e in
+    subst (IsFit g) (append_assoc cs (scripts.claim (phrase_of t) ∷ []) (map scripts.claim (map phrase_of ts))) (claims_fit g (cs ++ scripts.claim (phrase_of t) ∷ []) ts (claim_fit g cs t f r.0 both.0) r.1 both.1)
+
+declare_fit : (g : List Entry) (cs : List Command) (x : Named) (sorts : List Expr) (st : Expr) → IsFit g cs → least (declaration_faults g x sorts st) ≡ None
+    → IsFit (tables.after g (form.declare x sorts st)) (cs ++ scripts.declare x.text (length sorts) (or_int (sort_of st)) ∷ [])
+declare_fit g cs x sorts st f e =
     let fits = declarable g x sorts st (sym e) in
-    go _ _ (declared_formed g s x.text (length sorts) (or_int (sort_of st)) h fits.0 fits.1) later
-command_on es go g s at (Some (form.define f arguments st t)) h r e later = definition_on es go g s at f arguments st t h r.0 r.1 e later
-command_on es go g s at (Some (form.assert t)) h r e later =
-    let claim : Claim = record { globals = s.globals; term = phrase_of t } in
-    let fine = none_found (typing.script_faults g [] (Some sort.Bool) t) e in
-    go g (record s { claims = s.claims ++ claim ∷ [] }) (record {
-      linked = h.linked;
-      counted = h.counted;
-      few = h.few;
-      claims = one_claim_more _ _ _ s.claims claim h.claims (record { table = g; linked = h.linked; ranged = phrase_ranged t r; none = fine });
-    }) later
-command_on es go g s at (Some form.check_sat) h r e later = All-cons IsFormedCheck s (checks_from s (commands_of es)) (check_formed g s h) (go g s h later)
-command_on es go g s at (Some form.exit) h r e later = no_checks
+    fit_more g _ cs _ f (declared_formed g (state_of cs) x.text (length sorts) (or_int (sort_of st)) f.formed fits.0 fits.1) (sym (texts-more g (entry x sorts st false))) fits.0
 
-checks_on : (es : List Expr) → AllByRecursion IsRangedExpr es → Goes es
-checks_on [] r g s h e = no_checks
-checks_on (x ∷ es) r g s h e =
+define_fit : (g : List Entry) (cs : List Command) (at : ℕ) (x : Named) (arguments : List Expr) (st t : Expr) → IsFit g cs → IsRangedExpr t → length arguments ≡ length (names_in arguments)
+    → least (definition_faults g x arguments st ++ body_faults script_terms g at x.text arguments (sort_of st) t) ≡ None
+    → IsFit (tables.after g (form.define x arguments st t)) (cs ++ scripts.define x.text (names_in arguments) (or_int (sort_of st)) (phrase_of t) ∷ [])
+define_fit g cs at x arguments st t f ranged many fits =
+    let own = definition_faults g x arguments st in
+    let body = body_faults script_terms g at x.text arguments (sort_of st) t in
+    let both = none_both own body (none_found (own ++ body) fits) in
+    let new = definable body g x arguments st (sym fits) in
+    let sorted = sorted_by (sort_of st) (place_of st) (none_both (name_faults g x ++ flat_map argument_faults arguments) (sort_faults true st) both.0).1 in
+    let fine = (none_both (use_faults script_terms at x.text arguments t) (typing.script_faults g arguments (sort_of st) t) both.1).1 in
+    fit_more g _ cs _ f (defined_formed g (state_of cs) x.text (length arguments) (or_int (sort_of st)) (names_in arguments) (phrase_of t) f.formed new many (phrase_ranged t ranged)
+    (subst (λ z. term_faults g (variables (names_in arguments) []) z (phrase_of t) ≡ []) sorted fine)) (sym (texts-more g (entry x arguments st true))) new
+
+-- The questions of the commands after.
+
+-- there are symbols over which the commands of a question are so
+record IsFitQuestion (cs : List Command) : Type 0 where
+  over : List Entry
+  fit : IsFit over cs
+
+abbrev Goes : List Expr → Type 0
+Goes es = (g : Levels (List Entry)) (l : Levels (List Command)) → AreLevelsFit g l → refusal_from script_terms g es ≡ None → All IsFitQuestion (questions_from l (acts_of es))
+
+no_questions : All IsFitQuestion []
+no_questions i d h = absurd (omega (arith, h))
+
+command_on : (es : List Expr) → Goes es → (g : Levels (List Entry)) (l : Levels (List Command)) (at : ℕ) (f : Option CommandForm) → AreLevelsFit g l → IsRangedForm f
+    → least (command_faults script_terms g at f) ≡ None → unless_exit f (refusal_from script_terms (behind g f) es) ≡ None → All IsFitQuestion (questions_from l (with_form f (acts_of es)))
+command_on es go g l at None h r e later = absurd (cc)
+command_on es go g l at (Some form.skip) h r e later = go g l h later
+command_on es go g l at (Some (form.declare x sorts st)) h r e later = go _ _ (record { now = declare_fit g.now l.now x sorts st h.now e; below = h.below }) later
+command_on es go g l at (Some (form.define x arguments st t)) h r e later = go _ _ (record { now = define_fit g.now l.now at x arguments st t h.now r.0 r.1 e; below = h.below }) later
+command_on es go g l at (Some (form.assert t)) h r e later =
+    go g _ (record { now = claim_fit g.now l.now t h.now r (none_found (typing.script_faults g.now [] (Some sort.Bool) t) e); below = h.below }) later
+command_on es go g l at (Some (form.check_sat ts)) h r e later =
+    All-cons IsFitQuestion (l.now ++ map scripts.claim (map phrase_of ts)) (questions_from l (acts_of es))
+    (record { over = g.now; fit = claims_fit g.now l.now ts h.now r (none_found (claim_faults script_terms g.now ts) e) }) (go g l h later)
+command_on es go g l at (Some (form.push n)) h r e later = go _ _ (pushed_fit n g l h) later
+command_on es go g l at (Some (form.pop n)) h r e later = go _ _ (popped_fit n g l h) later
+command_on es go g l at (Some form.reset) h r e later = go _ _ (record { now = start_fit; below = tt }) later
+command_on es go g l at (Some form.exit) h r e later = no_questions
+
+questions_on : (es : List Expr) → AllByRecursion IsRangedExpr es → Goes es
+questions_on [] r g l h e = no_questions
+questions_on (x ∷ es) r g l h e =
     let own = least (command_faults script_terms g (place_of x) (faults.form x)) in
     let later = unless_exit (faults.form x) (refusal_from script_terms (behind g (faults.form x)) es) in
-    command_on es (checks_on es r.1) g s (place_of x) (faults.form x) h (form_ranged x r.0) (here_none own later e) (later_none own later e)
+    command_on es (questions_on es r.1) g l (place_of x) (faults.form x) h (form_ranged x r.0) (here_none own later e) (later_none own later e)
 
-start_formed : StateFormed [] start
-start_formed = record { linked = nothing refl refl; counted = refl; few = omega arith; claims = tt }
+questions_fit : (es : List Expr) → AllByRecursion IsRangedExpr es → refusal_of script_terms es ≡ None → All IsFitQuestion (questions (acts_of es))
+questions_fit es r e = questions_on es r (lowest []) (lowest []) (record { now = start_fit; below = tt }) e
 
-pub checks_formed : (es : List Expr) → AllByRecursion IsRangedExpr es → refusal_of script_terms es ≡ None → All IsFormedCheck (checks (commands_of es))
-checks_formed es r e = checks_on es r [] start start_formed e
+all_formed : (qs : List (List Command)) → All IsFitQuestion qs → All IsFormedCheck (map state_of qs)
+all_formed [] h = λ i d k. absurd (omega (arith, k))
+all_formed (cs ∷ qs) h =
+    let one = All-head IsFitQuestion cs qs h in
+    All-cons IsFormedCheck (state_of cs) (map state_of qs) (check_formed one.over (state_of cs) one.fit.formed) (all_formed qs (All-tail IsFitQuestion cs qs h))
+
+all_new : (qs : List (List Command)) → All IsFitQuestion qs → All (AreNew []) qs
+all_new [] h = λ i d k. absurd (omega (arith, k))
+all_new (cs ∷ qs) h = All-cons (AreNew []) cs qs (All-head IsFitQuestion cs qs h).fit.new (all_new qs (All-tail IsFitQuestion cs qs h))
+
+pub checks_formed : (es : List Expr) → AllByRecursion IsRangedExpr es → refusal_of script_terms es ≡ None → All IsFormedCheck (map state_of (questions (acts_of es)))
+checks_formed es r e = all_formed (questions (acts_of es)) (questions_fit es r e)
+
+-- no symbol of a question is declared or defined twice
+pub questions_new : (es : List Expr) → AllByRecursion IsRangedExpr es → refusal_of script_terms es ≡ None → All (AreNew []) (questions (acts_of es))
+questions_new es r e = all_new (questions (acts_of es)) (questions_fit es r e)

@@ -1,8 +1,7 @@
 -- What is held of assertions stays so after further definitions.
-use Rattle.std.proofs.Common.{ℕ, ◌≡◌, ◌≤◌, List, [], ◌∷◌, ◌++◌, length, take, refl, sym, ap, subst, ◌∙◌, arith}
+use Rattle.std.proofs.Common.{◌≡◌, ◌≤◌, List, [], ◌∷◌, ◌++◌, length, take, sym, ap, ◌∙◌, arith}
 use Rattle.std.proofs.lemmas.List.{length-take, take-take}
 use Rattle.smt_terms.specs.Scripts as scripts
-use Rattle.smt_terms.specs.Translation.{said, symbol_said}
 use Rattle.smt_names.specs.declared.body.Body.{Body}
 use Rattle.smt_names.specs.Body.{shape}
 use Rattle.smt_names.specs.Saying.{calls_of, shape_said}

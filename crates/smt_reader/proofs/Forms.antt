@@ -1,5 +1,5 @@
 -- The offsets of the faults of a command are those of its S-expression.
-use Rattle.std.proofs.Common.{ℕ, ◌++◌, Bool, true, false, List, [], ◌∷◌, Option, Some, None, if◌then◌else◌, nat_le}
+use Rattle.std.proofs.Common.{ℕ, ◌+◌, ◌++◌, length, Bool, true, false, List, [], ◌∷◌, Option, Some, None, if◌then◌else◌, nat_le}
 use Rattle.std.specs.List.{AllByRecursion, flat_map, list_all}
 use Rattle.smt_lists.specs.Expressions.{Expr, atom, list, place_of}
 use Rattle.smt_commands.specs.declared.refusal.ScriptRefusal.{ScriptRefusal}
@@ -8,10 +8,11 @@ use Rattle.smt_commands.specs.declared.table.Entry.{Entry}
 use Rattle.smt_commands.specs.declared.words.Word.{Word}
 use Rattle.smt_commands.specs.declared.words.Word.TheVariants as w
 use Rattle.smt_commands.specs.Commands as form
-use Rattle.smt_commands.specs.Commands.{CommandForm, Symbol, command_behind, command_by, command_of, declares, defined, defines, is_argument, is_keyword, is_some, items, members_of, skips, symbol_of}
+use Rattle.smt_commands.specs.Commands.{CommandForm, Symbol, command_behind, command_by, command_of, declares, defined, defines, is_argument, is_keyword, is_some, items, members_of, skips, symbol_of, assumes, levels_of, pops, pushes}
+use Rattle.smt_commands.specs.Levels.{Levels}
 use Rattle.smt_commands.specs.Words.{word_of}
 use Rattle.smt_commands.specs.Faults as faults
-use Rattle.smt_commands.specs.Faults.{argument_faults, body_faults, command_faults, declaration_faults, definition_faults, many_faults, name_faults, sort_fault, sort_faults, use_faults}
+use Rattle.smt_commands.specs.Faults.{argument_faults, body_faults, claim_faults, command_faults, declaration_faults, definition_faults, many_faults, most_levels, name_faults, sort_fault, sort_faults, use_faults}
 use Rattle.smt_commands.specs.Symbols.{declared_number, is_taken, sort_of}
 use Rattle.smt_commands.specs.Least.{place_in}
 use Rattle.smt_terms.specs.declared.operator.Sort.{Sort}
@@ -34,6 +35,7 @@ module _ (P : ℕ → Type 0) where
   FormAt (Some (form.declare x sorts s)) = P x.at × ListAt sorts × ExprAt P s
   FormAt (Some (form.define f arguments s t)) = P f.at × ListAt arguments × ExprAt P s × ExprAt P t
   FormAt (Some (form.assert t)) = ExprAt P t
+  FormAt (Some (form.check_sat ts)) = ListAt ts
   FormAt _ = Unit {0}
 
   members_at : (e : Expr) → ExprAt P e → MembersAt (members_of e)
@@ -57,6 +59,18 @@ module _ (P : ℕ → Type 0) where
   defines_at None arguments s t h k l m = tt
   defines_at (Some f) None s t h k l m = tt
   defines_at (Some f) (Some arguments) s t h k l m = defined_at f arguments s t (list_all is_argument arguments) (h, k, l, m)
+
+  assumes_at : (ts : Option (List Expr)) → MembersAt ts → FormAt (assumes ts)
+  assumes_at None h = tt
+  assumes_at (Some ts) h = h
+
+  pushes_at : (n : Option ℕ) → FormAt (pushes n)
+  pushes_at None = tt
+  pushes_at (Some n) = tt
+
+  pops_at : (n : Option ℕ) → FormAt (pops n)
+  pops_at None = tt
+  pops_at (Some n) = tt
 
   by_at : (v : Word) (es : List Expr) → ListAt es → FormAt (command_by v es)
   by_at w.SetLogic [] h = tt
@@ -85,11 +99,29 @@ module _ (P : ℕ → Type 0) where
   by_at w.DefineFun (a ∷ (b ∷ (d ∷ []))) h = tt
   by_at w.DefineFun (a ∷ (b ∷ (d ∷ (e ∷ [])))) h = defines_at (symbol_of a) (members_of b) d e (symbol_at P a h.0) (members_at b h.1.0) h.1.1.0 h.1.1.1.0
   by_at w.DefineFun (a ∷ (b ∷ (d ∷ (e ∷ (f ∷ es))))) h = tt
+  by_at w.DefineConst [] h = tt
+  by_at w.DefineConst (a ∷ []) h = tt
+  by_at w.DefineConst (a ∷ (b ∷ [])) h = tt
+  by_at w.DefineConst (a ∷ (b ∷ (d ∷ []))) h = defines_at (symbol_of a) (Some []) b d (symbol_at P a h.0) tt h.1.0 h.1.1.0
+  by_at w.DefineConst (a ∷ (b ∷ (d ∷ (e ∷ es)))) h = tt
   by_at w.Assert [] h = tt
   by_at w.Assert (a ∷ []) h = h.0
   by_at w.Assert (a ∷ (b ∷ es)) h = tt
   by_at w.CheckSat [] h = tt
   by_at w.CheckSat (a ∷ es) h = tt
+  by_at w.CheckSatAssuming [] h = tt
+  by_at w.CheckSatAssuming (a ∷ []) h = assumes_at (members_of a) (members_at a h.0)
+  by_at w.CheckSatAssuming (a ∷ (b ∷ es)) h = tt
+  by_at w.Push [] h = tt
+  by_at w.Push (a ∷ []) h = pushes_at (levels_of a)
+  by_at w.Push (a ∷ (b ∷ es)) h = tt
+  by_at w.Pop [] h = tt
+  by_at w.Pop (a ∷ []) h = pops_at (levels_of a)
+  by_at w.Pop (a ∷ (b ∷ es)) h = tt
+  by_at w.Reset [] h = tt
+  by_at w.Reset (a ∷ es) h = tt
+  by_at w.ResetAssertions [] h = tt
+  by_at w.ResetAssertions (a ∷ es) h = tt
   by_at w.Exit [] h = tt
   by_at w.Exit (a ∷ es) h = tt
 
@@ -114,6 +146,10 @@ module _ (P : ℕ → Type 0) where
   perhaps : (b : Bool) (f : ScriptRefusal) → P (place_in f) → FaultsAt P (if b then f ∷ [] else [])
   perhaps true f h = (h, tt)
   perhaps false f h = tt
+
+  unless : (b : Bool) (f : ScriptRefusal) → P (place_in f) → FaultsAt P (if b then [] else f ∷ [])
+  unless true f h = tt
+  unless false f h = (h, tt)
 
   sort_by : (at : ℕ) (b : Bool) (s : Option Sort) → P at → FaultsAt P (sort_fault at b s)
   sort_by at b (Some sort.Int) h = tt
@@ -158,17 +194,25 @@ module _ (P : ℕ → Type 0) where
       both_at P (use_faults script_terms at text arguments t) (script_terms.faults table arguments want t) (perhaps (script_uses text arguments t) (r.Profile at) h)
       (term_at P table (variables (names_in arguments) []) want t k)
 
-  form_faults_at : (table : List Entry) (at : ℕ) (f : Option CommandForm) → P at → FormAt f → FaultsAt P (command_faults script_terms table at f)
-  form_faults_at table at None h k = (h, tt)
-  form_faults_at table at (Some (form.declare x sorts s)) h k = declaration_at table x sorts s k.0 k.1 k.2
-  form_faults_at table at (Some (form.define f arguments s t)) h k =
-      both_at P (definition_faults table f arguments s) (body_faults script_terms table at f.text arguments (sort_of s) t) (definition_at table f arguments s k.0 k.1 k.2)
-      (body_at table at f.text arguments (sort_of s) t h k.3)
-  form_faults_at table at (Some (form.assert t)) h k = term_at P table (variables (names_in []) []) (Some sort.Bool) t k
-  form_faults_at table at (Some form.skip) h k = tt
-  form_faults_at table at (Some form.check_sat) h k = tt
-  form_faults_at table at (Some form.exit) h k = tt
+  claims_at : (table : List Entry) (ts : List Expr) → ListAt ts → FaultsAt P (claim_faults script_terms table ts)
+  claims_at table [] h = tt
+  claims_at table (t ∷ ts) h =
+      both_at P (script_terms.faults table [] (Some sort.Bool) t) (claim_faults script_terms table ts) (term_at P table (variables (names_in []) []) (Some sort.Bool) t h.0) (claims_at table ts h.1)
+
+  form_faults_at : (l : Levels (List Entry)) (at : ℕ) (f : Option CommandForm) → P at → FormAt f → FaultsAt P (command_faults script_terms l at f)
+  form_faults_at l at None h k = (h, tt)
+  form_faults_at l at (Some (form.declare x sorts s)) h k = declaration_at l.now x sorts s k.0 k.1 k.2
+  form_faults_at l at (Some (form.define f arguments s t)) h k =
+      both_at P (definition_faults l.now f arguments s) (body_faults script_terms l.now at f.text arguments (sort_of s) t) (definition_at l.now f arguments s k.0 k.1 k.2)
+      (body_at l.now at f.text arguments (sort_of s) t h k.3)
+  form_faults_at l at (Some (form.assert t)) h k = term_at P l.now (variables (names_in []) []) (Some sort.Bool) t k
+  form_faults_at l at (Some (form.check_sat ts)) h k = claims_at l.now ts k
+  form_faults_at l at (Some (form.push n)) h k = unless (nat_le (length l.below + n) most_levels) (r.Deep at) h
+  form_faults_at l at (Some (form.pop n)) h k = unless (nat_le n (length l.below)) (r.Profile at) h
+  form_faults_at l at (Some form.reset) h k = tt
+  form_faults_at l at (Some form.skip) h k = tt
+  form_faults_at l at (Some form.exit) h k = tt
 
   -- the faults of what may be a command
-  pub command_faults_at : (table : List Entry) (e : Expr) → ExprAt P e → FaultsAt P (command_faults script_terms table (place_of e) (faults.form e))
-  command_faults_at table e h = form_faults_at table (place_of e) (faults.form e) (expr_place P e h) (form_at e h)
+  pub command_faults_at : (l : Levels (List Entry)) (e : Expr) → ExprAt P e → FaultsAt P (command_faults script_terms l (place_of e) (faults.form e))
+  command_faults_at l e h = form_faults_at l (place_of e) (faults.form e) (expr_place P e h) (form_at e h)

@@ -12,10 +12,11 @@ pub mod Sizes
 pub mod Offsets
 pub mod Forms
 pub mod Rising
-pub mod New
 pub mod Behind
 pub mod Asserted
 pub mod Claims
 pub mod Taking
 pub mod Single
 pub mod Together
+pub mod Replaying
+pub mod Stepping

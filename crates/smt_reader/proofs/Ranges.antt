@@ -8,7 +8,7 @@ use Rattle.smt_lists.specs.Expressions.{Expr, Exprs, atom, list, no_expr, and_ex
 use Rattle.smt_commands.specs.declared.words.Word.{Word}
 use Rattle.smt_commands.specs.declared.words.Word.TheVariants as w
 use Rattle.smt_commands.specs.Commands as form
-use Rattle.smt_commands.specs.Commands.{CommandForm, Symbol, command_behind, command_by, command_of, declares, defined, defines, is_argument, is_keyword, is_some, items, members_of, skips, symbol_of}
+use Rattle.smt_commands.specs.Commands.{CommandForm, Symbol, command_behind, command_by, command_of, declares, defined, defines, is_argument, is_keyword, is_some, items, members_of, skips, symbol_of, assumes, levels_of, pops, pushes}
 use Rattle.smt_commands.specs.Words.{word_of}
 use Rattle.smt_commands.specs.Faults as faults
 use Rattle.smt_commands.specs.Faults.{form_in}
@@ -133,6 +133,7 @@ mutual
 abbrev pub IsRangedForm : Option CommandForm → Type 0
 IsRangedForm (Some (form.assert t)) = IsRangedExpr t
 IsRangedForm (Some (form.define f arguments s t)) = IsRangedExpr t × (length arguments ≡ length (names_in arguments))
+IsRangedForm (Some (form.check_sat ts)) = AllByRecursion IsRangedExpr ts
 IsRangedForm _ = Unit {0}
 
 variable_made : (e : Expr) → is_argument e ≡ true → (x : Variable) × (variable_of e ≡ Some x)
@@ -184,6 +185,31 @@ defines_ranged None arguments s t h = tt
 defines_ranged (Some f) None s t h = tt
 defines_ranged (Some f) (Some arguments) s t h = defined_ranged f arguments s t (list_all is_argument arguments) refl h
 
+items_ranged : (es : Exprs) → AreRangedExprs es → AllByRecursion IsRangedExpr (items es)
+items_ranged no_expr h = tt
+items_ranged (and_expr e es) h = (h.0, items_ranged es h.1)
+
+-- so are the members of a list
+abbrev AreRangedMembers : Option (List Expr) → Type 0
+AreRangedMembers None = Unit {0}
+AreRangedMembers (Some es) = AllByRecursion IsRangedExpr es
+
+members_ranged : (e : Expr) → IsRangedExpr e → AreRangedMembers (members_of e)
+members_ranged (atom a) h = tt
+members_ranged (list at es) h = items_ranged es h
+
+assumes_ranged : (ts : Option (List Expr)) → AreRangedMembers ts → IsRangedForm (assumes ts)
+assumes_ranged None h = tt
+assumes_ranged (Some ts) h = h
+
+pushes_ranged : (n : Option ℕ) → IsRangedForm (pushes n)
+pushes_ranged None = tt
+pushes_ranged (Some n) = tt
+
+pops_ranged : (n : Option ℕ) → IsRangedForm (pops n)
+pops_ranged None = tt
+pops_ranged (Some n) = tt
+
 by_ranged : (v : Word) (es : List Expr) → AllByRecursion IsRangedExpr es → IsRangedForm (command_by v es)
 by_ranged w.SetLogic [] h = tt
 by_ranged w.SetLogic (a ∷ []) h = skips_ranged (is_some (symbol_of a))
@@ -211,11 +237,29 @@ by_ranged w.DefineFun (a ∷ (b ∷ [])) h = tt
 by_ranged w.DefineFun (a ∷ (b ∷ (d ∷ []))) h = tt
 by_ranged w.DefineFun (a ∷ (b ∷ (d ∷ (e ∷ [])))) h = defines_ranged (symbol_of a) (members_of b) d e h.1.1.1.0
 by_ranged w.DefineFun (a ∷ (b ∷ (d ∷ (e ∷ (f ∷ es))))) h = tt
+by_ranged w.DefineConst [] h = tt
+by_ranged w.DefineConst (a ∷ []) h = tt
+by_ranged w.DefineConst (a ∷ (b ∷ [])) h = tt
+by_ranged w.DefineConst (a ∷ (b ∷ (d ∷ []))) h = defines_ranged (symbol_of a) (Some []) b d h.1.1.0
+by_ranged w.DefineConst (a ∷ (b ∷ (d ∷ (e ∷ es)))) h = tt
 by_ranged w.Assert [] h = tt
 by_ranged w.Assert (a ∷ []) h = h.0
 by_ranged w.Assert (a ∷ (b ∷ es)) h = tt
 by_ranged w.CheckSat [] h = tt
 by_ranged w.CheckSat (a ∷ es) h = tt
+by_ranged w.CheckSatAssuming [] h = tt
+by_ranged w.CheckSatAssuming (a ∷ []) h = assumes_ranged (members_of a) (members_ranged a h.0)
+by_ranged w.CheckSatAssuming (a ∷ (b ∷ es)) h = tt
+by_ranged w.Push [] h = tt
+by_ranged w.Push (a ∷ []) h = pushes_ranged (levels_of a)
+by_ranged w.Push (a ∷ (b ∷ es)) h = tt
+by_ranged w.Pop [] h = tt
+by_ranged w.Pop (a ∷ []) h = pops_ranged (levels_of a)
+by_ranged w.Pop (a ∷ (b ∷ es)) h = tt
+by_ranged w.Reset [] h = tt
+by_ranged w.Reset (a ∷ es) h = tt
+by_ranged w.ResetAssertions [] h = tt
+by_ranged w.ResetAssertions (a ∷ es) h = tt
 by_ranged w.Exit [] h = tt
 by_ranged w.Exit (a ∷ es) h = tt
 
@@ -230,10 +274,6 @@ behind_ranged (Some x) es h = word_ranged (word_of x.text) es h
 command_ranged : (es : List Expr) → AllByRecursion IsRangedExpr es → IsRangedForm (command_of es)
 command_ranged [] h = tt
 command_ranged (e ∷ es) h = behind_ranged (symbol_of e) es h.1
-
-items_ranged : (es : Exprs) → AreRangedExprs es → AllByRecursion IsRangedExpr (items es)
-items_ranged no_expr h = tt
-items_ranged (and_expr e es) h = (h.0, items_ranged es h.1)
 
 pub form_ranged : (e : Expr) → IsRangedExpr e → IsRangedForm (faults.form e)
 form_ranged (atom a) h = tt

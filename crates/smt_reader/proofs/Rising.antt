@@ -13,6 +13,7 @@ use Rattle.smt_commands.specs.declared.refusal.ScriptRefusal.{ScriptRefusal}
 use Rattle.smt_commands.specs.declared.table.Entry.{Entry}
 use Rattle.smt_commands.specs.Commands as form
 use Rattle.smt_commands.specs.Commands.{CommandForm}
+use Rattle.smt_commands.specs.Levels.{Levels, lowest}
 use Rattle.smt_commands.specs.Faults as faults
 use Rattle.smt_commands.specs.Faults.{behind, command_faults, or_later, refusal_from, refusal_of, unless_exit}
 use Rattle.smt_commands.specs.Least.{is_before, least, least_from, number_of, place_in, sooner}
@@ -171,7 +172,10 @@ end_behind (Some form.skip) low ys h = h
 end_behind (Some (form.declare x sorts s)) low ys h = h
 end_behind (Some (form.define g arguments s t)) low ys h = h
 end_behind (Some (form.assert t)) low ys h = h
-end_behind (Some form.check_sat) low ys h = h
+end_behind (Some (form.check_sat ts)) low ys h = h
+end_behind (Some (form.push n)) low ys h = h
+end_behind (Some (form.pop n)) low ys h = h
+end_behind (Some form.reset) low ys h = h
 end_behind (Some form.exit) low ys h = tt
 
 end_least : (f : Option CommandForm) (ys : List ScriptRefusal) → least (unless_end f ys) ≡ unless_exit f (least ys)
@@ -180,10 +184,13 @@ end_least (Some form.skip) ys = refl
 end_least (Some (form.declare x sorts s)) ys = refl
 end_least (Some (form.define g arguments s t)) ys = refl
 end_least (Some (form.assert t)) ys = refl
-end_least (Some form.check_sat) ys = refl
+end_least (Some (form.check_sat ts)) ys = refl
+end_least (Some (form.push n)) ys = refl
+end_least (Some (form.pop n)) ys = refl
+end_least (Some form.reset) ys = refl
 end_least (Some form.exit) ys = refl
 
-all_behind : (table : List Entry) (low : ℕ) (es : List Expr) (high : ℕ) → Rows low es high → FaultsAt (Behind low) (all_faults script_terms table es)
+all_behind : (table : Levels (List Entry)) (low : ℕ) (es : List Expr) (high : ℕ) → Rows low es high → FaultsAt (Behind low) (all_faults script_terms table es)
 all_behind table low [] high h = tt
 all_behind table low (e ∷ es) high h =
     let here = command_faults script_terms table (place_of e) (faults.form e) in
@@ -192,7 +199,7 @@ all_behind table low (e ∷ es) high h =
     (faults_weaker low h.0 here (command_faults_at (In low h.0) table e h.2))
     (end_behind (faults.form e) low later (faults_from low h.0 later h.1 (all_behind (behind table (faults.form e)) h.0 es high h.3)))
 
-least_of_all : (table : List Entry) (low : ℕ) (es : List Expr) (high : ℕ) → Rows low es high → refusal_from script_terms table es ≡ least (all_faults script_terms table es)
+least_of_all : (table : Levels (List Entry)) (low : ℕ) (es : List Expr) (high : ℕ) → Rows low es high → refusal_from script_terms table es ≡ least (all_faults script_terms table es)
 least_of_all table low [] high h = refl
 least_of_all table low (e ∷ es) high h =
     let f = faults.form e in
@@ -202,6 +209,6 @@ least_of_all table low (e ∷ es) high h =
     ∙ ap (λ z. or_later (least here) z) (sym (end_least f later))
     ∙ sym (least_both low h.0 here (unless_end f later) (command_faults_at (In low h.0) table e h.2) (end_behind f h.0 later (all_behind (behind table f) h.0 es high h.3)))
 
-pub refusal_least : (bytes : List ℕ) (lists : List Sexp) → IsScriptText bytes lists → refusal_of script_terms (map expr lists) ≡ least (all_faults script_terms [] (map expr lists))
+pub refusal_least : (bytes : List ℕ) (lists : List Sexp) → IsScriptText bytes lists → refusal_of script_terms (map expr lists) ≡ least (all_faults script_terms (lowest []) (map expr lists))
 refusal_least bytes lists h =
-    least_of_all [] 0 (map expr lists) (length bytes) (all_in bytes 200 lists (lexemes_of bytes) h.said 0 (length bytes) (tokens_rising 0 0 bytes (length bytes) (omega arith)))
+    least_of_all (lowest []) 0 (map expr lists) (length bytes) (all_in bytes 200 lists (lexemes_of bytes) h.said 0 (length bytes) (tokens_rising 0 0 bytes (length bytes) (omega arith)))

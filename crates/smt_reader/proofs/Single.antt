@@ -1,5 +1,5 @@
 -- A text is a script or is refused, and in one way.
-use Rattle.std.proofs.Common.{ℕ, ◌≡◌, ◌≢◌, ◌⊎◌, inl, inr, List, [], ◌∷◌, ◌++◌, length, map, refl, sym, ap, ap₂, subst, ◌∙◌, append_assoc, Option, Some, None}
+use Rattle.std.proofs.Common.{ℕ, ◌≡◌, ◌≢◌, inl, inr, List, [], ◌∷◌, ◌++◌, length, map, refl, sym, ap, ap₂, subst, ◌∙◌, append_assoc, Option, Some, None}
 use Rattle.smt_lists.specs.declared.tree.Sexp.{Sexp}
 use Rattle.smt_lists.specs.Expressions.{expr}
 use Rattle.smt_tokens.specs.declared.terminals.Lexeme.{Lexeme}
@@ -13,7 +13,7 @@ use Rattle.smt_commands.specs.declared.refusal.ScriptRefusal.{ScriptRefusal}
 use Rattle.smt_commands.specs.declared.refusal.ScriptRefusal.TheVariants as r
 use Rattle.smt_commands.specs.Faults.{refusal_of}
 use Rattle.smt_commands.specs.Least.{IsScriptRefused}
-use Rattle.smt_reader.specs.Scripts.{RefusesCommands, RefusesScript, RefusesTokens, as_script}
+use Rattle.smt_reader.specs.Scripts.{RefusesScript, RefusesTokens, as_script}
 use Rattle.pri_typing.specs.declared.problem.Problem.{Problem}
 use Rattle.smt_reader.specs.Commands.{script_terms}
 use Rattle.smt_reader.specs.Poses.{AreLarge, IsLargeScript, IsScriptOf, checks_in}

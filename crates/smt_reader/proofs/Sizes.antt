@@ -15,14 +15,13 @@ use Rattle.smt_lists.specs.Grammar.{IsScriptText, SayAll, SaysSexp, more, nothin
 use Rattle.smt_commands.specs.declared.words.Word.{Word}
 use Rattle.smt_commands.specs.declared.words.Word.TheVariants as w
 use Rattle.smt_commands.specs.Commands as form
-use Rattle.smt_commands.specs.Commands.{CommandForm, Symbol, command_behind, command_by, command_of, declares, defined, defines, is_argument, is_keyword, is_some, items, members_of, skips, symbol_of}
+use Rattle.smt_commands.specs.Commands.{CommandForm, Symbol, command_behind, command_by, command_of, declares, defined, defines, is_argument, is_keyword, is_some, items, members_of, skips, symbol_of, assumes, levels_of, pops, pushes}
 use Rattle.smt_commands.specs.Words.{word_of}
 use Rattle.smt_commands.specs.Faults as faults
 use Rattle.smt_terms.specs.declared.term.Variable.{Variable}
-use Rattle.smt_terms.specs.Scripts.{Command}
 use Rattle.smt_typing.specs.Faults.{names_by, names_in}
 use Rattle.smt_typing.specs.Reading.{before, variable_of, variables_of}
-use Rattle.smt_reader.specs.Commands.{HasFew, commands_of, with_form}
+use Rattle.smt_reader.specs.Commands.{Act, DoesFew, acts_of, with_form}
 use Rattle.smt_reader.specs.Formed.{AreNarrow, IsNarrow, members}
 
 -- Tokens.
@@ -117,6 +116,18 @@ defines_few n None arguments s t h = tt
 defines_few n (Some f) None s t h = tt
 defines_few n (Some f) (Some arguments) s t h = defined_few n f arguments s t (list_all is_argument arguments) h
 
+assumes_few : (n : ℕ) (ts : Option (List Expr)) → FewArguments n (assumes ts)
+assumes_few n None = tt
+assumes_few n (Some ts) = tt
+
+pushes_few : (n : ℕ) (k : Option ℕ) → FewArguments n (pushes k)
+pushes_few n None = tt
+pushes_few n (Some k) = tt
+
+pops_few : (n : ℕ) (k : Option ℕ) → FewArguments n (pops k)
+pops_few n None = tt
+pops_few n (Some k) = tt
+
 by_few : (n : ℕ) (v : Word) (es : List Expr) → AllByRecursion (IsNarrow n) es → FewArguments n (command_by v es)
 by_few n w.SetLogic [] h = tt
 by_few n w.SetLogic (a ∷ []) h = skips_few n (is_some (symbol_of a))
@@ -144,11 +155,29 @@ by_few n w.DefineFun (a ∷ (b ∷ [])) h = tt
 by_few n w.DefineFun (a ∷ (b ∷ (d ∷ []))) h = tt
 by_few n w.DefineFun (a ∷ (b ∷ (d ∷ (e ∷ [])))) h = defines_few n (symbol_of a) (members_of b) d e (members_few n b h.1.0)
 by_few n w.DefineFun (a ∷ (b ∷ (d ∷ (e ∷ (f ∷ es))))) h = tt
+by_few n w.DefineConst [] h = tt
+by_few n w.DefineConst (a ∷ []) h = tt
+by_few n w.DefineConst (a ∷ (b ∷ [])) h = tt
+by_few n w.DefineConst (a ∷ (b ∷ (d ∷ []))) h = defines_few n (symbol_of a) (Some []) b d (omega arith)
+by_few n w.DefineConst (a ∷ (b ∷ (d ∷ (e ∷ es)))) h = tt
 by_few n w.Assert [] h = tt
 by_few n w.Assert (a ∷ []) h = tt
 by_few n w.Assert (a ∷ (b ∷ es)) h = tt
 by_few n w.CheckSat [] h = tt
 by_few n w.CheckSat (a ∷ es) h = tt
+by_few n w.CheckSatAssuming [] h = tt
+by_few n w.CheckSatAssuming (a ∷ []) h = assumes_few n (members_of a)
+by_few n w.CheckSatAssuming (a ∷ (b ∷ es)) h = tt
+by_few n w.Push [] h = tt
+by_few n w.Push (a ∷ []) h = pushes_few n (levels_of a)
+by_few n w.Push (a ∷ (b ∷ es)) h = tt
+by_few n w.Pop [] h = tt
+by_few n w.Pop (a ∷ []) h = pops_few n (levels_of a)
+by_few n w.Pop (a ∷ (b ∷ es)) h = tt
+by_few n w.Reset [] h = tt
+by_few n w.Reset (a ∷ es) h = tt
+by_few n w.ResetAssertions [] h = tt
+by_few n w.ResetAssertions (a ∷ es) h = tt
 by_few n w.Exit [] h = tt
 by_few n w.Exit (a ∷ es) h = tt
 
@@ -182,21 +211,24 @@ names_few : (es : List Expr) → length (names_in es) ≤ length es
 names_few [] = omega arith
 names_few (e ∷ es) = before_few (variable_of e) (variables_of es) (length es) (names_few es)
 
-no_commands : (n : ℕ) → All (HasFew n) []
-no_commands n i d h = absurd (omega (arith, h))
+no_acts : (n : ℕ) → All (DoesFew n) []
+no_acts n i d h = absurd (omega (arith, h))
 
-form_on : (n : ℕ) (f : Option CommandForm) (cs : List Command) → FewArguments n f → All (HasFew n) cs → All (HasFew n) (with_form f cs)
-form_on n None cs h k = k
-form_on n (Some form.skip) cs h k = k
-form_on n (Some (form.declare x sorts s)) cs h k = All-cons (HasFew n) _ cs h k
-form_on n (Some (form.define f arguments s t)) cs h k = All-cons (HasFew n) _ cs (omega (arith, h, names_few arguments)) k
-form_on n (Some (form.assert t)) cs h k = All-cons (HasFew n) _ cs tt k
-form_on n (Some form.check_sat) cs h k = All-cons (HasFew n) _ cs tt k
-form_on n (Some form.exit) cs h k = no_commands n
+form_on : (n : ℕ) (f : Option CommandForm) (rest : List Act) → FewArguments n f → All (DoesFew n) rest → All (DoesFew n) (with_form f rest)
+form_on n None rest h k = k
+form_on n (Some form.skip) rest h k = k
+form_on n (Some (form.declare x sorts s)) rest h k = All-cons (DoesFew n) _ rest h k
+form_on n (Some (form.define f arguments s t)) rest h k = All-cons (DoesFew n) _ rest (omega (arith, h, names_few arguments)) k
+form_on n (Some (form.assert t)) rest h k = All-cons (DoesFew n) _ rest tt k
+form_on n (Some (form.check_sat ts)) rest h k = All-cons (DoesFew n) _ rest tt k
+form_on n (Some (form.push j)) rest h k = All-cons (DoesFew n) _ rest tt k
+form_on n (Some (form.pop j)) rest h k = All-cons (DoesFew n) _ rest tt k
+form_on n (Some form.reset) rest h k = All-cons (DoesFew n) _ rest tt k
+form_on n (Some form.exit) rest h k = no_acts n
 
-pub commands_few : (n : ℕ) (es : List Expr) → AllByRecursion (IsNarrow n) es → All (HasFew n) (commands_of es)
-commands_few n [] h = no_commands n
-commands_few n (e ∷ es) h = form_on n (faults.form e) (commands_of es) (form_few n e h.0) (commands_few n es h.1)
+acts_few : (n : ℕ) (es : List Expr) → AllByRecursion (IsNarrow n) es → All (DoesFew n) (acts_of es)
+acts_few n [] h = no_acts n
+acts_few n (e ∷ es) h = form_on n (faults.form e) (acts_of es) (form_few n e h.0) (acts_few n es h.1)
 
-pub text_few : (bytes : List ℕ) (lists : List Sexp) → IsScriptText bytes lists → All (HasFew (length bytes)) (commands_of (map expr lists))
-text_few bytes lists h = commands_few (length bytes) (map expr lists) (text_narrow bytes lists h)
+pub text_few : (bytes : List ℕ) (lists : List Sexp) → IsScriptText bytes lists → All (DoesFew (length bytes)) (acts_of (map expr lists))
+text_few bytes lists h = acts_few (length bytes) (map expr lists) (text_narrow bytes lists h)

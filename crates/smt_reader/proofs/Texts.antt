@@ -13,9 +13,10 @@ use Rattle.base_numerals.specs.Numerals.{decimal_value}
 use Rattle.smt_lists.specs.Atoms.{atom_of, kind_of, span}
 use Rattle.smt_lists.specs.Grammar.{IsScriptText, SayAll, SaysSexp, atom, list, more, nothing}
 use Rattle.smt_commands.specs.Faults.{refusal_of}
-use Rattle.smt_terms.specs.Scripts.{checks}
-use Rattle.smt_reader.specs.Commands.{commands_of, script_terms}
-use Rattle.smt_reader.proofs.Checks.{checks_formed}
+use Rattle.smt_reader.specs.Commands.{acts_of, questions, script_terms}
+use Rattle.smt_reader.specs.Following.{AreNew}
+use Rattle.smt_reader.specs.Poses.{checks_in}
+use Rattle.smt_reader.proofs.Checks.{checks_formed, questions_new}
 use Rattle.smt_reader.specs.Formed.{AreRangedExprs, IsFormedCheck, IsRangedExpr, IsRangedAtom}
 
 numeral_by : (n : ℕ) (b : Bool) → nat_lt n (2 ^ 127) ≡ b → IsRangedAtom (if b then k.Numeral (pos n) else k.LargeNumeral)
@@ -60,5 +61,8 @@ mutual
 pub text_ranged : (bytes : List ℕ) (lists : List Sexp) → IsScriptText bytes lists → AllByRecursion IsRangedExpr (map expr lists)
 text_ranged bytes lists h = all_ranged bytes 200 lists _ h.said
 
-pub text_checks : (bytes : List ℕ) (lists : List Sexp) → IsScriptText bytes lists → refusal_of script_terms (map expr lists) ≡ None → All IsFormedCheck (checks (commands_of (map expr lists)))
+pub text_checks : (bytes : List ℕ) (lists : List Sexp) → IsScriptText bytes lists → refusal_of script_terms (map expr lists) ≡ None → All IsFormedCheck (checks_in lists)
 text_checks bytes lists h e = checks_formed (map expr lists) (text_ranged bytes lists h) e
+
+pub text_new : (bytes : List ℕ) (lists : List Sexp) → IsScriptText bytes lists → refusal_of script_terms (map expr lists) ≡ None → All (AreNew []) (questions (acts_of (map expr lists)))
+text_new bytes lists h e = questions_new (map expr lists) (text_ranged bytes lists h) e

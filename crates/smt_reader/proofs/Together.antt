@@ -1,5 +1,5 @@
 -- Sizes of several formulas together.
-use Rattle.std.proofs.Common.{ℕ, ◌≡◌, ◌+◌, ◌≤◌, ◌<◌, max, Bool, true, false, refl, sym, ap, ap₂, ◌∙◌, arith, nat_le, if◌then◌else◌, List, [], ◌∷◌, ◌++◌, append_assoc}
+use Rattle.std.proofs.Common.{ℕ, ◌≡◌, ◌+◌, max, Bool, true, false, refl, sym, ap, ap₂, ◌∙◌, arith, nat_le, if◌then◌else◌, List, [], ◌∷◌, ◌++◌, append_assoc}
 use Rattle.form_typed.specs.Formula.{Formula, formulas}
 use Rattle.smt_sizes.specs.declared.size.Size.{Size}
 use Rattle.smt_sizes.specs.declared.size.Size.TheVariants.{Large, Fits}

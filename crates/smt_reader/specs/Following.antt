@@ -55,3 +55,8 @@ texts_behind texts check = texts
 abbrev pub AreNew : List (List ℕ) → List Command → Type 0
 AreNew texts [] = Unit {0}
 AreNew texts (c ∷ cs) = IsNewSymbol texts c × AreNew (texts_behind texts c) cs
+
+-- the symbols after several commands
+abbrev pub texts_behind_all : List (List ℕ) → List Command → List (List ℕ)
+texts_behind_all texts [] = texts
+texts_behind_all texts (c ∷ cs) = texts_behind_all (texts_behind texts c) cs

@@ -3,6 +3,7 @@ pub mod Commands
 pub mod Formed
 pub mod Posed
 pub mod Effects
+pub mod Forces
 pub mod Order
 pub mod Following
 pub mod Poses

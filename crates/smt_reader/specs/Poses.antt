@@ -11,8 +11,8 @@ use Rattle.smt_commands.specs.Faults.{refusal_of}
 use Rattle.smt_commands.specs.Least.{IsScriptRefused}
 use Rattle.smt_reader.specs.Scripts.{RefusesScript}
 use Rattle.smt_sizes.specs.Extent.{IsTooLarge, all_extent}
-use Rattle.smt_terms.specs.Scripts.{State, checks, refutation}
-use Rattle.smt_reader.specs.Commands.{commands_of, script_terms}
+use Rattle.smt_terms.specs.Scripts.{State, refutation}
+use Rattle.smt_reader.specs.Commands.{acts_of, questions, script_terms, state_of}
 use Rattle.smt_reader.specs.Posed.{IsCheckPosed}
 
 -- one problem for each check, in order
@@ -30,9 +30,9 @@ refutations ss = formulas (map refutation ss)
 abbrev pub AreLarge : List State → Type 0
 AreLarge ss = IsTooLarge (all_extent (refutations ss))
 
--- the checks of a script of these lists
+-- the checks of a script of these lists: what the commands of each question come to
 abbrev pub checks_in : List Sexp → List State
-checks_in lists = checks (commands_of (map expr lists))
+checks_in lists = map state_of (questions (acts_of (map expr lists)))
 
 -- neither a command nor a term of the lists has a fault, the checks have these problems, and they are not too large
 pub record IsPosedBy (lists : List Sexp) (problems : List Problem) : Type 0 where

@@ -2,14 +2,16 @@
 
 ghost use Rattle.pri_typing.specs.WellFormed.{IsWellFormed};
 ghost use Rattle.pri_typing.specs.declared.problem.Problem.{Problem};
-ghost use Rattle.smt_reader.specs.Commands.{HasFew, commands_of, script_terms};
+ghost use Rattle.smt_reader.specs.Commands.{DoesFew, acts_of, script_terms};
 ghost use Rattle.smt_reader.specs.Formed.{IsFormedCheck};
 ghost use Rattle.smt_reader.specs.Order.{all_faults};
+ghost use Rattle.smt_reader.specs.Poses.{checks_in};
 ghost use Rattle.smt_reader.specs.Posed.{IsCheckPosed, MeansSatisfiable, MeansUnsatisfiable};
 ghost use Rattle.smt_commands.specs.Faults.{refusal_of};
 ghost use Rattle.smt_commands.specs.Least.{least};
+ghost use Rattle.smt_commands.specs.Levels.{lowest};
 ghost use Rattle.smt_lists.specs.Grammar.{IsScriptText};
-ghost use Rattle.smt_terms.specs.Scripts.{Command, State, checks};
+ghost use Rattle.smt_terms.specs.Scripts.{Command, State};
 ghost use Rattle.smt_lists.specs.Expressions.{expr};
 ghost use Rattle.smt_lists.specs.declared.tree.Sexp.{Sexp};
 ghost use Rattle.std.specs.Prelude.{◌≡◌, List, [], ℕ, None, All, length, map};
@@ -20,20 +22,20 @@ ghost use Rattle.std.specs.Prelude.{◌≡◌, List, [], ℕ, None, All, length,
 #[tactic(auto, using(crate::proofs::Texts::text_checks))]
 pub fn checks_law()
     ensures { (bytes : List ℕ) (lists : List Sexp) → IsScriptText bytes lists → refusal_of script_terms (map expr lists) ≡ None
-        → All IsFormedCheck (checks (commands_of (map expr lists))) }
+        → All IsFormedCheck (checks_in lists) }
 {}
 
 /// A declared or defined symbol of a script has no more arguments than the text has bytes.
 #[tactic(auto, using(crate::proofs::Sizes::text_few))]
 pub fn sizes_law()
-    ensures { (bytes : List ℕ) (lists : List Sexp) → IsScriptText bytes lists → All (HasFew (length bytes)) (commands_of (map expr lists)) }
+    ensures { (bytes : List ℕ) (lists : List Sexp) → IsScriptText bytes lists → All (DoesFew (length bytes)) (acts_of (map expr lists)) }
 {}
 
 /// The refusal of a script of lists is the least of all faults of its commands up to an `exit`, though only those of the first
 /// command that has any are looked at: the offsets of lists rise.
 #[tactic(auto, using(crate::proofs::Rising::refusal_least))]
 pub fn refusal_law()
-    ensures { (bytes : List ℕ) (lists : List Sexp) → IsScriptText bytes lists → refusal_of script_terms (map expr lists) ≡ least (all_faults script_terms [] (map expr lists)) }
+    ensures { (bytes : List ℕ) (lists : List Sexp) → IsScriptText bytes lists → refusal_of script_terms (map expr lists) ≡ least (all_faults script_terms (lowest []) (map expr lists)) }
 {}
 
 /// The problem of a check with few symbols and a sound formula is well formed.
@@ -41,7 +43,7 @@ pub fn problem_law()
     ensures { (s : State) (p : Problem) → IsFormedCheck s → IsCheckPosed s p → IsWellFormed p }
 {}
 
-/// Where the problem of a check holds in an interpretation, no integers of the Int constants satisfy its assertions there;
+/// Where the problem of a question holds in an interpretation, no integers of the Int constants satisfy its assertions there;
 /// where it is refuted, some finite interpretation and some integers satisfy them.
 pub fn answers_law()
     ensures unsatisfiable { (cs : List Command) (p : Problem) → MeansUnsatisfiable cs p }

@@ -1,9 +1,10 @@
-// The commands of a script that have an effect, with their terms read.
+// What the commands of a script do, with their terms read.
 
-ghost use Rattle.smt_reader.specs.Commands.{before, commands_of, with_form};
-ghost use Rattle.smt_reader.specs.Effects.{command_is};
+ghost use Rattle.smt_reader.specs.Commands.{Act, before, with_form};
+ghost use Rattle.smt_reader.specs.Effects.{act_is};
 ghost use Rattle.smt_commands.specs.Views.{form_of};
-ghost use Rattle.smt_terms.specs.Scripts as scripts;
+ghost use Rattle.smt_terms.specs.Term.{phrase};
+ghost use Rattle.smt_typing.specs.Reading.{phrase_of};
 ghost use Rattle.smt_typing.specs.Steps.{is_exit};
 ghost use Rattle.smt_lists.specs.Expressions.{expr};
 ghost use Rattle.std.specs.Option.{option_map};
@@ -13,11 +14,11 @@ use linear_term::Memory;
 use smt_commands::{Command, sort_or_int};
 use smt_lists::Sexp;
 use smt_terms::{Sort, Term, Variable};
-use smt_typing::{argument_variables, command_in, is_exit, read_term};
+use smt_typing::{argument_variables, read_term};
 use sqlite_items::Items;
 use std::alloc::Global;
 
-/// A command with an effect.
+/// A command that declares, defines or asserts.
 #[derive(Drop)]
 pub enum Effect {
     /// A symbol is declared, with the number of its arguments and its sort.
@@ -26,48 +27,56 @@ pub enum Effect {
     Define(Items<u8>, Items<Variable>, Sort, Term),
     /// A term is asserted.
     Claim(Term),
-    /// `check-sat`
-    Check,
 }
 
-/// The commands of a script with an effect, in order, up to an `exit`. What is no command has none.
-pub fn read_effects(alloc: Global, lists: &[Sexp]) -> Result<Items<Effect>, Memory>
-    ensures { IfOk result (λ es. map command_is es ≡ commands_of (map expr lists.now)) }
-{
-    let mut effects = Items::new(alloc);
-    let mut rest = lists;
-    while let Some((list, behind)) = rest.split_first() {
-        rest = behind;
-        let Some(command) = command_in(list) else {
-            continue;
-        };
-        if is_exit(command) {
-            return Ok(effects);
-        }
-        if let Some(effect) = read_effect(alloc, command)? {
-            effects.push(effect)?;
-        }
-    }
-    Ok(effects)
+/// What a command does.
+#[derive(Drop)]
+pub enum Step {
+    /// It declares, defines or asserts.
+    Does(Effect),
+    /// It asks, with these terms assumed.
+    Asks(Items<Term>),
+    /// It opens this many levels.
+    Opens(u128),
+    /// It leaves this many levels.
+    Leaves(u128),
+    /// Nothing before it counts any longer.
+    Restarts,
 }
 
 /// What a command does that does not end the script.
-fn read_effect(alloc: Global, command: Command<'_>) -> Result<Option<Effect>, Memory>
-    ensures { IfOk result (λ e. (cs : List scripts.Command) → is_exit (Some (form_of command.entry)) ≡ false → with_form (Some (form_of command.entry)) cs ≡ before (option_map command_is e) cs) }
+pub fn read_step(alloc: Global, command: Command<'_>) -> Result<Option<Step>, Memory>
+    ensures { IfOk result (λ s. (rest : List Act) → is_exit (Some (form_of command.entry)) ≡ false → with_form (Some (form_of command.entry)) rest ≡ before (option_map act_is s) rest) }
 {
     match command {
         Command::Skip | Command::Exit => Ok(None),
         Command::Declare(name, sorts, sort) => {
             let text = Items::from_slice(alloc, name.text)?;
-            Ok(Some(Effect::Declare(text, sorts.len() as u64, sort_or_int(sort))))
+            let declared = Effect::Declare(text, sorts.len() as u64, sort_or_int(sort));
+            Ok(Some(Step::Does(declared)))
         }
         Command::Define(name, arguments, sort, term) => {
             let text = Items::from_slice(alloc, name.text)?;
             let variables = argument_variables(alloc, arguments)?;
             let term = read_term(alloc, term)?;
-            Ok(Some(Effect::Define(text, variables, sort_or_int(sort), term)))
+            let defined = Effect::Define(text, variables, sort_or_int(sort), term);
+            Ok(Some(Step::Does(defined)))
         }
-        Command::Assert(term) => Ok(Some(Effect::Claim(read_term(alloc, term)?))),
-        Command::CheckSat => Ok(Some(Effect::Check)),
+        Command::Assert(term) => Ok(Some(Step::Does(Effect::Claim(read_term(alloc, term)?)))),
+        Command::CheckSat(assumed) => Ok(Some(Step::Asks(read_terms(alloc, assumed)?))),
+        Command::Push(count) => Ok(Some(Step::Opens(count))),
+        Command::Pop(count) => Ok(Some(Step::Leaves(count))),
+        Command::Reset => Ok(Some(Step::Restarts)),
     }
+}
+
+// The terms that S-expressions are.
+fn read_terms(alloc: Global, terms: &[Sexp]) -> Result<Items<Term>, Memory>
+    ensures { IfOk result (λ ts. map phrase ts ≡ map phrase_of (map expr terms.now)) }
+{
+    let mut read = Items::new(alloc);
+    for term in terms {
+        read.push(read_term(alloc, term)?)?;
+    }
+    Ok(read)
 }

@@ -1,14 +1,15 @@
 // What the commands of a script come to, one after another.
 
-ghost use Rattle.std.specs.Prelude.{◌≡◌, ◌≢◌, ◌++◌, ◌∷◌, [], IfOk, false};
+ghost use Rattle.std.specs.Prelude.{◌≡◌, ◌≢◌, ◌++◌, ◌∷◌, [], IfOk, List, false, map};
 ghost use Rattle.base_texts.specs.Texts.{is_among};
 ghost use Rattle.smt_terms.specs.declared.operator.Sort.TheVariants as sort;
 ghost use Rattle.smt_terms.specs.Evaluation as evaluation;
 ghost use Rattle.smt_terms.specs.Scripts as scripts;
-ghost use Rattle.smt_terms.specs.Scripts.{State, after, after_declaration};
+ghost use Rattle.smt_terms.specs.Scripts.{Command, State, after, after_declaration, claim};
 ghost use Rattle.smt_terms.specs.Term.{phrase};
 ghost use Rattle.smt_reader.specs.Effects.{command_is};
-ghost use Rattle.smt_reader.specs.Following.{FollowsState, IsNewSymbol, texts_behind};
+ghost use Rattle.smt_reader.specs.Commands.{state_of};
+ghost use Rattle.smt_reader.specs.Following.{AreNew, FollowsState, IsNewSymbol, texts_behind};
 
 use crate::effects::Effect;
 use linear_term::Memory;
@@ -288,6 +289,33 @@ pub(crate) fn follow(alloc: Global, reading: Reading, effect: &Effect) -> Result
             define(alloc, reading, text.as_slice(), arguments.as_slice(), term)
         }
         Effect::Claim(term) => claim(alloc, reading, term),
-        Effect::Check => Ok(reading),
     }
+}
+
+/// What comes of several commands, no symbol of which is declared or defined twice.
+#[tactic(auto, using(crate::proofs::Replaying::replayed_on, crate::proofs::Replaying::replayed_start, crate::proofs::Replaying::replayed_all))]
+pub(crate) fn follow_all(alloc: Global, effects: &[Effect]) -> Result<Reading, Memory>
+    requires new { AreNew [] (map command_is effects.now) }
+    ensures { IfOk result (λ r. FollowsState r (state_of (map command_is effects.now))) }
+{
+    let mut reading = start(alloc);
+    let mut rest = effects;
+    while let Some((effect, behind)) = rest.split_first() {
+        reading = follow(alloc, reading, effect)?;
+        rest = behind;
+    }
+    Ok(reading)
+}
+
+/// What comes of some assertions more.
+pub(crate) fn assume(alloc: Global, reading: Reading, terms: &[Term]) -> Result<Reading, Memory>
+    ensures { IfOk result (λ r. (cs : List Command) → FollowsState reading (state_of cs) → FollowsState r (state_of (cs ++ map claim (map phrase terms.now)))) }
+{
+    let mut reading = reading;
+    let mut rest = terms;
+    while let Some((term, behind)) = rest.split_first() {
+        reading = claim(alloc, reading, term)?;
+        rest = behind;
+    }
+    Ok(reading)
 }

@@ -5,13 +5,15 @@
 mod check_laws;
 mod effects;
 mod following;
+mod forces;
+mod forcing;
 mod laws;
 mod posing;
 mod reading;
 mod scripts;
 
 pub use check_laws::{answers_law, checks_law, problem_law, refusal_law, sizes_law};
-pub use effects::{Effect, read_effects};
+pub use effects::{Effect, Step, read_step};
 pub use laws::one_law;
 pub use posing::Script;
 pub use reading::read;

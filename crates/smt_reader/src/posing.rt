@@ -18,7 +18,7 @@ use smt_writing::write_formula;
 use sqlite_items::{Boxed, Items};
 use std::alloc::Global;
 
-/// A script, by the problem of each `check-sat` in order: nothing satisfies the assertions before it exactly where the problem
+/// A script, by the problem of each `check-sat` in order: nothing satisfies the assertions in force there exactly where the problem
 /// holds.
 #[derive(Drop)]
 pub struct Script {

@@ -1,17 +1,22 @@
 // A script from its bytes to the problems of its checks.
 
+ghost use Rattle.std.specs.List.{All, AllByRecursion};
 ghost use Rattle.std.specs.Prelude.{◌≡◌, ◌≢◌, ◌++◌, ◌∷◌, [], IfErr, IfOk, List, None, map};
 ghost use Rattle.smt_lists.specs.Expressions.{expr};
-ghost use Rattle.smt_terms.specs.Scripts.{State, checks};
-ghost use Rattle.smt_reader.specs.Effects.{command_is};
+ghost use Rattle.smt_terms.specs.Scripts.{State, claim};
+ghost use Rattle.smt_terms.specs.Term.{phrase};
+ghost use Rattle.smt_reader.specs.Effects.{act_is, command_is};
+ghost use Rattle.smt_reader.specs.Forces.{force};
 ghost use Rattle.smt_reader.specs.Following.{AreNew, FollowsState};
+ghost use Rattle.smt_reader.specs.Formed.{IsRangedExpr};
 ghost use Rattle.smt_reader.specs.Poses.{ArePosed, IsPosedBy, IsRefusedBy, IsScriptOf, IsScriptRefusal, checks_in};
-ghost use Rattle.smt_reader.specs.Commands.{script_terms};
+ghost use Rattle.smt_reader.specs.Commands.{Act, acts_of, questions, script_terms, state_of};
 ghost use Rattle.smt_commands.specs.Faults.{refusal_of};
-ghost use Rattle.smt_reader.specs.Taking.{ArePosedOrLarge, IsGathered, at_check, size_together};
+ghost use Rattle.smt_reader.specs.Taking.{ArePosedOrLarge, AreTaken, AreTakenOrLarge, IsGathered, MayAsk, size_together};
 
-use crate::effects::{Effect, read_effects};
-use crate::following::{Reading, follow, start};
+use crate::effects::{Effect, Step, read_step};
+use crate::following::{Reading, assume, follow_all};
+use crate::forces::Forces;
 use crate::posing::{Script, pose};
 use crate::reading::as_script;
 use linear_term::Memory;
@@ -19,7 +24,8 @@ use pri_typing::Problem;
 use smt_commands::ScriptRefusal;
 use smt_lists::{Sexp, lists};
 use smt_sizes::{NOTHING, Size, above, beside};
-use smt_typing::{Typing, walk};
+use smt_terms::Term;
+use smt_typing::{Typing, command_in, is_exit, walk};
 use sqlite_items::Items;
 use std::alloc::Global;
 
@@ -48,64 +54,108 @@ fn with_check(
     Ok(Some(Gathered { problems, size }))
 }
 
-// The checks after a command more.
-fn behind_effect(
-    alloc: Global,
-    reading: &Reading,
+// The commands in force, and the problems of the checks so far.
+#[derive(Drop)]
+struct Taken {
+    forces: Forces,
     checks: Gathered,
-    effect: &Effect,
-) -> Result<Option<Gathered>, Memory>
-    ensures { IfOk result (λ r. (s : State) (done : List State) → FollowsState reading.now s → ArePosed done checks.problems → checks.size ≡ size_together done → checks.size ≢ Size.Large
-        → IsGathered (done ++ at_check s (command_is effect.now)) r) }
+}
+
+// What commands without levels come to, with some terms assumed.
+fn question(alloc: Global, effects: &[Effect], assumed: &[Term]) -> Result<Reading, Memory>
+    requires new { AreNew [] (map command_is effects.now) }
+    ensures { IfOk result (λ r. FollowsState r (state_of (map command_is effects.now ++ map claim (map phrase assumed.now)))) }
 {
-    match effect {
-        Effect::Check => with_check(alloc, reading, checks),
-        Effect::Declare(_, _, _) | Effect::Define(_, _, _, _) | Effect::Claim(_) => Ok(Some(
-            checks,
-        )),
+    let reading = follow_all(alloc, effects)?;
+    assume(alloc, reading, assumed)
+}
+
+// The checks with one more, of these commands in force and with some terms assumed.
+fn ask(
+    alloc: Global,
+    effects: &[Effect],
+    checks: Gathered,
+    assumed: &[Term],
+) -> Result<Option<Gathered>, Memory>
+    requires new { AreNew [] (map command_is effects.now) }
+    ensures { IfOk result (λ r. (done : List State) → ArePosed done checks.problems → checks.size ≡ size_together done
+        → IsGathered (done ++ state_of (map command_is effects.now ++ map claim (map phrase assumed.now)) ∷ []) r) }
+{
+    let reading = question(alloc, effects, assumed)?;
+    with_check(alloc, &reading, checks)
+}
+
+// What comes of a command more; nothing where the formulas of the checks are too large together.
+fn take_step(alloc: Global, taken: Taken, step: Step) -> Result<Option<Taken>, Memory>
+    requires new { MayAsk (force taken.forces) (act_is step) }
+    ensures { IfOk result (λ r. (rest all : List Act) → AreTaken (force taken.forces) taken.checks (act_is step ∷ rest) all → AreTakenOrLarge rest all r) }
+{
+    let Taken { forces, checks } = taken;
+    match step {
+        Step::Does(effect) => {
+            let forces = forces.add(effect)?;
+            Ok(Some(Taken { forces, checks }))
+        }
+        Step::Asks(assumed) => match ask(alloc, forces.effects(), checks, assumed.as_slice())? {
+            Some(checks) => Ok(Some(Taken { forces, checks })),
+            None => Ok(None),
+        },
+        Step::Opens(count) => {
+            let forces = forces.push(count)?;
+            Ok(Some(Taken { forces, checks }))
+        }
+        Step::Leaves(count) => {
+            let forces = forces.pop(count);
+            Ok(Some(Taken { forces, checks }))
+        }
+        Step::Restarts => {
+            let forces = Forces::new(alloc);
+            Ok(Some(Taken { forces, checks }))
+        }
     }
 }
 
-// The problems of the checks among these commands, no symbol of which is declared or defined twice; none where their formulas are
-// too large together.
-#[tactic(auto, using(crate::proofs::Taking::taken_on, crate::proofs::Taking::taken_all, crate::proofs::Taking::taken_large))]
-fn problems(alloc: Global, effects: &[Effect]) -> Result<Option<Items<Problem>>, Memory>
-    requires new { AreNew [] (map command_is effects.now) }
-    ensures { IfOk result (λ r. ArePosedOrLarge (checks (map command_is effects.now)) r) }
+// The problems of the checks of these lists, no question of which declares or defines a symbol twice; none where their formulas
+// are too large together.
+fn problems(alloc: Global, lists: &[Sexp]) -> Result<Option<Items<Problem>>, Memory>
+    requires new { All (AreNew []) (questions (acts_of (map expr lists.now))) }
+    ensures { IfOk result (ArePosedOrLarge (checks_in lists.now)) }
 {
-    let mut reading = start(alloc);
-    let mut taken = Gathered {
-        problems: Items::new(alloc),
-        size: NOTHING,
+    let mut taken = Taken {
+        forces: Forces::new(alloc),
+        checks: Gathered {
+            problems: Items::new(alloc),
+            size: NOTHING,
+        },
     };
-    let mut rest = effects;
-    while let Some((effect, behind)) = rest.split_first() {
-        let Some(more) = behind_effect(alloc, &reading, taken, effect)? else {
+    let mut rest = lists;
+    while let Some((list, behind)) = rest.split_first() {
+        rest = behind;
+        let Some(command) = command_in(list) else {
+            continue;
+        };
+        if is_exit(command) {
+            return Ok(Some(taken.checks.problems));
+        }
+        let Some(step) = read_step(alloc, command)? else {
+            continue;
+        };
+        let Some(more) = take_step(alloc, taken, step)? else {
             return Ok(None);
         };
         taken = more;
-        reading = follow(alloc, reading, effect)?;
-        rest = behind;
     }
-    Ok(Some(taken.problems))
-}
-
-// The problems of the checks of a script of these lists, without faults; none where it is too large.
-fn checks(alloc: Global, lists: &[Sexp]) -> Result<Option<Items<Problem>>, Memory>
-    requires fits { refusal_of script_terms (map expr lists.now) ≡ None }
-    ensures { IfOk result (ArePosedOrLarge (checks_in lists.now)) }
-{
-    let effects = read_effects(alloc, lists)?;
-    problems(alloc, effects.as_slice())
+    Ok(Some(taken.checks.problems))
 }
 
 // The problems of a script of these lists, or its refusal.
 fn take_lists(alloc: Global, lists: &[Sexp]) -> Result<Script, ScriptRefusal>
+    requires ranged { AllByRecursion IsRangedExpr (map expr lists.now) }
     ensures read { IfOk result (λ s. IsPosedBy lists.now s.checks) }
     ensures refused { IfErr result (λ e. IsRefusedBy lists.now e) }
 {
     match walk(alloc, &Typing, lists) {
-        Ok(_table) => match checks(alloc, lists) {
+        Ok(_table) => match problems(alloc, lists) {
             Ok(Some(checks)) => Ok(Script { checks }),
             Ok(None) => Err(ScriptRefusal::Large),
             Err(Memory) => Err(ScriptRefusal::Memory),

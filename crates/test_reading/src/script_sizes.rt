@@ -3,9 +3,10 @@
 use linear_term::Memory;
 use smt_lists::lists;
 use smt_names::{Declared, Known};
-use smt_reader::{Effect, read_effects};
+use smt_reader::{Effect, Step, read_step};
 use smt_sizes::{Forms, Size, size_of};
 use smt_terms::{Term, Variable};
+use smt_typing::command_in;
 use smt_writing::write_formula;
 use sqlite_items::Items;
 use std::alloc::Global;
@@ -65,7 +66,7 @@ impl Script {
                 let names = names(alloc, variables.as_slice())?;
                 self.define(alloc, text.as_slice(), names.as_slice(), term)
             }
-            Effect::Claim(_) | Effect::Check => Ok(self),
+            Effect::Claim(_) => Ok(self),
         }
     }
 
@@ -91,14 +92,19 @@ fn sizes(alloc: Global, text: &str, written: bool) -> Result<Vec<Size>, Memory> 
     let Ok(read) = lists(alloc, text.as_bytes()) else {
         return Ok(all);
     };
-    let effects = read_effects(alloc, read.as_slice())?;
     let mut script = Script {
         known: Known::new(alloc),
         forms: Forms::new(alloc),
         constants: 0,
     };
-    for effect in effects.as_slice() {
-        if let Effect::Claim(term) = effect {
+    for list in read.as_slice() {
+        let Some(command) = command_in(list) else {
+            continue;
+        };
+        let Some(Step::Does(effect)) = read_step(alloc, command)? else {
+            continue;
+        };
+        if let Effect::Claim(term) = &effect {
             let size = if written {
                 script.written(alloc, term)?
             } else {
@@ -106,7 +112,7 @@ fn sizes(alloc: Global, text: &str, written: bool) -> Result<Vec<Size>, Memory> 
             };
             all.push(size)?;
         }
-        script = script.behind(alloc, effect)?;
+        script = script.behind(alloc, &effect)?;
     }
     Ok(all)
 }

@@ -32,6 +32,13 @@ fn named(alloc: Global, words: &[&str]) -> Result<String, Fail> {
             "least {file} {term} {budget}"
         )?),
         Ok(Job::Drill { count, budget }) => Ok(format!(in alloc; "drill {count} {budget}")?),
+        Ok(
+            Job::Find {
+                file,
+                budget,
+                proves,
+            },
+        ) => Ok(format!(in alloc; "find {file} {budget}{}", proof(proves))?),
         Ok(Job::Smt { file, budget }) => Ok(format!(in alloc; "smt {file} {budget}")?),
         Ok(Job::Check { file, proof }) => Ok(format!(in alloc; "check {file} {proof}")?),
         Err(WordsFault::Words) => Ok(String::from_str(alloc, "no job")?),
@@ -58,6 +65,11 @@ fn behind(shows: bool) -> &'static str {
     if shows { " counterexample" } else { "" }
 }
 
+// Whether the proof is asked for.
+fn proof(proves: bool) -> &'static str {
+    if proves { " proof" } else { "" }
+}
+
 fn check(rt: &impl Abort, alloc: Global, rows: &[(&[&str], &str)]) -> Result<(), Fail> {
     for (words, expected) in rows {
         let answer = named(alloc, words)?;
@@ -68,7 +80,7 @@ fn check(rt: &impl Abort, alloc: Global, rows: &[(&[&str], &str)]) -> Result<(),
 
 #[test]
 fn words_name_jobs(rt: HostRuntime) -> Result<(), Fail> {
-    let rows: [(&[&str], &str); 42] = [
+    let rows: [(&[&str], &str); 45] = [
         (&["solve", "f"], "solve f 50000000 plain"),
         (&["elim", "f"], "elim f 50000000"),
         (&["solve", "f", "--budget", "1"], "solve f 1 plain"),
@@ -128,6 +140,9 @@ fn words_name_jobs(rt: HostRuntime) -> Result<(), Fail> {
         (&["least", "--", "f", "-a"], "least f -a 50000000"),
         (&["least", "f", "--budget=9", "a"], "least f a 9"),
         (&["least", "--budget", "9", "f", ""], "least f  9"),
+        (&["find", "f"], "find f 50000000"),
+        (&["find", "--budget=3", "--", "-f"], "find -f 3"),
+        (&["find", "--proof", "f"], "find f 50000000 proof"),
         (&["smt", "f"], "smt f 50000000"),
         (&["smt", "-", "--budget", "5"], "smt - 5"),
         (
@@ -147,7 +162,7 @@ fn words_name_jobs(rt: HostRuntime) -> Result<(), Fail> {
 
 #[test]
 fn words_name_none(rt: HostRuntime) -> Result<(), Fail> {
-    let rows: [&[&str]; 72] = [
+    let rows: [&[&str]; 75] = [
         &[],
         &["f"],
         &["f", "solve"],
@@ -167,6 +182,9 @@ fn words_name_none(rt: HostRuntime) -> Result<(), Fail> {
         &["solve", "f", "--steps"],
         &["elim", "f", "--calculus"],
         &["solve", "f", "--calculus", "--calculus"],
+        &["find", "f", "--short"],
+        &["find", "f", "--proof", "--proof"],
+        &["find", "f", "g"],
         &["elim", "f", "--counterexample"],
         &["solve", "f", "--counterexample", "--counterexample"],
         &["solve", "f", "--budg", "1"],

@@ -1,6 +1,6 @@
 -- What is answered of the job that was read is answered of each job that the words name.
-use Rattle.job_words.specs.Jobs.{check, drill, eliminate, minimise, run_script, solve, task_of}
-use Rattle.prover_job.proofs.Telling.{named_within, met_as, says_checked, says_valid, says_refuted, says_constraint, says_script, smt_caused, says_least, says_nowhere, solve_caused, elim_caused, least_caused, check_caused, drill_caused}
+use Rattle.job_words.specs.Jobs.{check, drill, eliminate, find_values, minimise, run_script, solve, task_of}
+use Rattle.prover_job.proofs.Telling.{named_within, met_as, says_checked, says_valid, says_refuted, says_constraint, says_found, says_script, says_unfound, smt_caused, find_caused, says_least, says_nowhere, solve_caused, elim_caused, least_caused, check_caused, drill_caused}
 use Rattle.prover_job.proofs.runs.run.Goals as goal
 
 pub do_job-requires : goal.do_job-requires
@@ -21,6 +21,18 @@ returns-in-Ok-clause-checked g c = λ file proof names zero. says_checked _ (g.S
 pub returns-in-Ok-clause-constraint : goal.returns-in-Ok-clause-constraint
 returns-in-Ok-clause-constraint g c = λ file budget names zero. says_constraint _ budget (g.S.Source.bytes_of c.args.source.now file) _ _ _
     (met_as (g.S.Source.bytes_of c.args.source.now) _ (task_of c.in-Ok.job) (eliminate file budget) _ _ _ c.words_law.ensures c.in-Ok.ensures.named names c.do_job.ensures.answered) zero
+
+pub returns-in-Ok-clause-found : goal.returns-in-Ok-clause-found
+returns-in-Ok-clause-found g c = λ file budget proves names zero. says_found _ proves budget (g.S.Source.bytes_of c.args.source.now file) _ _ _
+    (met_as (g.S.Source.bytes_of c.args.source.now) _ (task_of c.in-Ok.job) (find_values file budget proves) _ _ _ c.words_law.ensures c.in-Ok.ensures.named names c.do_job.ensures.answered) zero
+
+pub returns-in-Ok-clause-unfound : goal.returns-in-Ok-clause-unfound
+returns-in-Ok-clause-unfound g c = λ file budget proves names one. says_unfound proves budget (g.S.Source.bytes_of c.args.source.now file) _ _ _
+    (met_as (g.S.Source.bytes_of c.args.source.now) _ (task_of c.in-Ok.job) (find_values file budget proves) _ _ _ c.words_law.ensures c.in-Ok.ensures.named names c.do_job.ensures.answered) one
+
+pub returns-in-Ok-clause-find_causes : goal.returns-in-Ok-clause-find_causes
+returns-in-Ok-clause-find_causes g c = λ file budget proves names. find_caused proves budget (g.S.Source.bytes_of c.args.source.now file) _ _ _
+    (met_as (g.S.Source.bytes_of c.args.source.now) _ (task_of c.in-Ok.job) (find_values file budget proves) _ _ _ c.words_law.ensures c.in-Ok.ensures.named names c.do_job.ensures.answered)
 
 pub returns-in-Ok-clause-scripted : goal.returns-in-Ok-clause-scripted
 returns-in-Ok-clause-scripted g c = λ file budget names known. says_script _ budget (g.S.Source.bytes_of c.args.source.now file) _ _ _

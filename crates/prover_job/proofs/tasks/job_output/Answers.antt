@@ -1,5 +1,5 @@
 use Rattle.std.proofs.Common.{◌≡◌, rules}
-use Rattle.job_words.specs.Jobs.{check, drill, eliminate, minimise, run_script, solve, task_of}
+use Rattle.job_words.specs.Jobs.{check, drill, eliminate, find_values, minimise, run_script, solve, task_of}
 use Rattle.prover_job.proofs.tasks.job_output.Goals as goal
 
 pub returns-in-Solve-clause-answered : goal.returns-in-Solve-clause-answered
@@ -7,6 +7,9 @@ returns-in-Solve-clause-answered g c = let is : task_of c.args.job.now ≡ solve
 
 pub returns-in-Elim-clause-answered : goal.returns-in-Elim-clause-answered
 returns-in-Elim-clause-answered g c = let is : task_of c.args.job.now ≡ eliminate c.as_str-in-Elim.result.now c.in-Elim.budget = search rules in rw is c.elim_output.ensures.answered
+
+pub returns-in-Find-clause-answered : goal.returns-in-Find-clause-answered
+returns-in-Find-clause-answered g c = let is : task_of c.args.job.now ≡ find_values c.as_str-in-Find.result.now c.in-Find.budget c.in-Find.proves = search rules in rw is c.find_output.ensures.answered
 
 pub returns-in-Smt-clause-answered : goal.returns-in-Smt-clause-answered
 returns-in-Smt-clause-answered g c = let is : task_of c.args.job.now ≡ run_script c.as_str-in-Smt.result.now c.in-Smt.budget = search rules in rw is c.smt_output.ensures.answered

@@ -1,4 +1,3 @@
-use Rattle.std.proofs.Common.{◌≡◌, ◌∙◌, ap, subst, ℕ}
 use Rattle.smt_terms.specs.Term.{phrase}
 use Rattle.smt_reader.proofs.Behind.{claim_on, sized_at}
 use Rattle.smt_reader.proofs.following.claim.Goals as goal

@@ -1,0 +1,15 @@
+use Rattle.std.proofs.Common.{◌-◌, arith, refl}
+use Rattle.smt_commands.specs.Levels.{popped}
+use Rattle.smt_commands.proofs.Marks.{popped_all, popped_on}
+use Rattle.smt_reader.specs.Forces.{force}
+use Rattle.smt_reader.proofs.forces.Forces.pop.Goals as goal
+
+pub loop-left-init : goal.loop-left-init
+loop-left-init c = refl
+
+pub loop-left-preserved : goal.loop-left-preserved
+loop-left-preserved c =
+    popped_on c.loop-left.left (c.loop-left.left - 1) (force c.loop-left.forces) (force c.pop_one-forces.result) (popped c.args.count (force c.args.self)) (omega (arith, c.loop-left-test.true)) c.pop_one-forces.ensures c.loop-left.invariant
+
+pub returns : goal.returns
+returns c = popped_all c.loop-left.left (force c.loop-left.forces) (popped c.args.count (force c.args.self)) (omega (arith, c.loop-left-test.false)) c.loop-left.invariant
