@@ -76,9 +76,9 @@ pub data AnswersDecided (calculus shows : Bool) (asked : Option ProofForm) (budg
   nowhere : calculus ≡ false → asked ≡ None → AnswersNowhere budget p answer → AnswersDecided calculus shows asked budget p answer
 
 -- the answer by what the clause search found, where it found something
-abbrev pub AnswersFound : Bool → Option ProofForm → ℕ → Problem → Option Output → Type 0
-AnswersFound shows asked budget p None = Unit {0}
-AnswersFound shows asked budget p (Some output) = AnswersDecided false shows asked budget p (answer_of output)
+abbrev pub AnswersBySearch : Bool → Option ProofForm → ℕ → Problem → Option Output → Type 0
+AnswersBySearch shows asked budget p None = Unit {0}
+AnswersBySearch shows asked budget p (Some output) = AnswersDecided false shows asked budget p (answer_of output)
 
 -- the answer of `solve` with this budget to the bytes of a file, with its proof or without
 abbrev pub IsDecidedAs : Bool → Bool → Option ProofForm → ℕ → List ℕ → Answer → Type 0

@@ -6,7 +6,7 @@ ghost use Rattle.pri_typing.specs.WellFormed.{HasDistinctNames, HasIdentifiers, 
 ghost use Rattle.pri_problem.specs.Encoded.{AnswersEncoded, IsEncoded};
 ghost use Rattle.job_clauses.specs.Judged.{IsJudged};
 ghost use Rattle.pri_problem.specs.Cuttable.{IsCuttable};
-ghost use Rattle.job_decide.specs.Decided.{AnswersDecided, AnswersFound, IsDecidedAs, IsLeftOpen};
+ghost use Rattle.job_decide.specs.Decided.{AnswersBySearch, AnswersDecided, IsDecidedAs, IsLeftOpen};
 ghost use Rattle.job_decide.specs.Shown.{AnswersShown};
 ghost use Rattle.job_parts.specs.Parts.{IsCut, first_part};
 ghost use Rattle.job_solve.specs.Proved.{AnswersRunAs};
@@ -334,7 +334,7 @@ fn found_answer(
     requires left_open { IsLeftOpen budget problem.now }
     requires judged { IsJudged problem.now judged }
     requires budget { budget ≤ most_budget }
-    ensures { IfOk result (AnswersFound shows asked budget problem.now) }
+    ensures { IfOk result (AnswersBySearch shows asked budget problem.now) }
 {
     match judged {
         Judged::Proof(text) => {

@@ -9,7 +9,7 @@ use job_messages::Message;
 use linear_term::Memory;
 use message_lines::cut;
 
-/// Writes the members for an answer with these lines, without those of a proof. What is known of a refusal stands in the messages.
+/// Writes the members for the lines of an answer to a problem, without those of a proof. What is known of a refusal stands in the messages.
 pub(crate) fn write_answer(
     object: &mut Object,
     answer: &[u8],
@@ -18,10 +18,6 @@ pub(crate) fn write_answer(
     let line = first_line(answer).0;
     if line.is_empty() {
         return object.text_or_null("answer", None);
-    }
-    if is_check(line) {
-        object.text_member("answer", b"checks")?;
-        return write_checks(object, answer);
     }
     if let Some(refusal) = line.strip_prefix(b"refused: ") {
         object.text_member("answer", b"refused")?;
@@ -33,26 +29,6 @@ pub(crate) fn write_answer(
     }
     write_verdict(object, line)?;
     write_lines(object, answer)
-}
-
-/// Whether a line is the answer to a check of a script.
-fn is_check(line: &[u8]) -> bool {
-    matches!(line, b"sat" | b"unsat" | b"unknown")
-}
-
-/// Writes a member for the checks of a script.
-fn write_checks(object: &mut Object, answer: &[u8]) -> Result<(), Memory> {
-    object.key("checks")?;
-    object.open_list()?;
-    let mut rest = answer;
-    for _ in 0..answer.len() {
-        let (line, behind) = first_line(rest);
-        if !line.is_empty() {
-            object.text(line)?;
-        }
-        rest = behind;
-    }
-    object.close_list()
 }
 
 /// Writes members for the first line: its verdict, and the count and the cause that it may have.

@@ -7,6 +7,7 @@ mod counterexample;
 mod message;
 mod object;
 mod refusal;
+mod script;
 mod sink;
 mod statistics;
 mod text;

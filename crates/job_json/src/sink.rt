@@ -5,9 +5,11 @@ ghost use Rattle.std.specs.Prelude.{◌≡◌, None};
 use crate::answer::write_answer;
 use crate::message::write_messages;
 use crate::object::Object;
+use crate::script::write_script;
 use crate::statistics::write_statistics;
 use crate::text::text_of;
 use base_answers::put_all;
+use base_answers::status::FILE_REFUSED;
 use job_counts::Statistics;
 use job_messages::Message;
 use linear_term::Memory;
@@ -66,7 +68,7 @@ impl<K: Sink> JsonSink<K> {
         if self.is_proof {
             put_all(&mut self.sink, b"\"")?;
         } else {
-            let front = self.front(messages)?;
+            let front = self.front(status == FILE_REFUSED, messages)?;
             put_all(&mut self.sink, front.as_slice())?;
         }
         let Ok(end) = end_of_object(self.alloc, status, messages, statistics) else {
@@ -77,9 +79,10 @@ impl<K: Sink> JsonSink<K> {
         put_all(&mut self.sink, b"\n")
     }
 
-    /// The object up to its members for the lines.
-    fn front(&self, messages: &[Message]) -> Result<Vec<u8>, Failed> {
-        match front_of_object(self.alloc, &self.head, self.lines.as_slice(), messages) {
+    /// The object up to its members for the lines of an answer, which is a refusal or not.
+    fn front(&self, is_refused: bool, messages: &[Message]) -> Result<Vec<u8>, Failed> {
+        let lines = self.lines.as_slice();
+        match front_of_object(self.alloc, &self.head, lines, is_refused, messages) {
             Ok(front) => Ok(front),
             Err(Memory) => Err(Failed),
         }
@@ -109,9 +112,9 @@ impl<K: Sink> JsonSink<K> {
         if self.lines.extend_from_slice(line).is_err() {
             return Err(Failed);
         }
-        if self.lines.ends_with(b"\nproof:\n") {
+        if self.lines.ends_with(b"\nproof:\n") && !is_script(&self.head) {
             self.is_proof = true;
-            let front = self.front(&[])?;
+            let front = self.front(false, &[])?;
             put_all(&mut self.sink, front.as_slice())?;
             put_all(&mut self.sink, b",\"proof\":\"")?;
         }
@@ -153,12 +156,17 @@ fn front_of_object(
     alloc: Global,
     head: &Head,
     lines: &[u8],
+    is_refused: bool,
     messages: &[Message],
 ) -> Result<Vec<u8>, Memory> {
     let mut object = Object::begin(alloc)?;
     object.text_or_null("command", bytes_of(&head.command))?;
     object.text_or_null("file", bytes_of(&head.file))?;
-    write_answer(&mut object, lines, messages)?;
+    if is_script(head) {
+        write_script(&mut object, lines, is_refused, messages)?;
+    } else {
+        write_answer(&mut object, lines, messages)?;
+    }
     Ok(object.into_bytes())
 }
 
@@ -177,6 +185,14 @@ fn end_of_object(
     }
     object.close()?;
     Ok(object.into_bytes())
+}
+
+/// Whether the command answers a script.
+fn is_script(head: &Head) -> bool {
+    match bytes_of(&head.command) {
+        Some(command) => command == b"smt".as_slice(),
+        None => false,
+    }
 }
 
 fn bytes_of(text: &Option<String>) -> Option<&[u8]> {

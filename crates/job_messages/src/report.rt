@@ -11,7 +11,9 @@ use crate::words::words_slip;
 use base_answers::status;
 use job_counts::Counts;
 use linear_term::Memory;
-use message_lines::{Hole, Message, Messages, Severity, Slip, find_refusal, put_placeless};
+use message_lines::{
+    Hole, Message, Messages, Severity, Slip, find_refusal, last_line, put_placeless,
+};
 use message_problems::put_problem_refusal;
 use std::alloc::Global;
 use std::string::String;
@@ -139,7 +141,7 @@ fn put_own(messages: &mut Messages, sentence: &'static str) -> Result<(), Memory
 }
 
 fn put_refusal(alloc: Global, messages: &mut Messages, run: &Run) -> Result<(), Memory> {
-    let Some(refusal) = find_refusal(run.answer, b"refused: ") else {
+    let Some(refusal) = find_refusal(last_line(run.answer), b"refused: ") else {
         return Ok(());
     };
     let name = run.file;

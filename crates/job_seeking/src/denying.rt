@@ -18,7 +18,7 @@ use pri_typing::Problem;
 use std::alloc::Global;
 
 // A short search has one step for this many of a budget: the canonical run may be done sooner.
-const SHARE: u64 = 5;
+const SHARE: u64 = 25;
 
 /// Whether a short clause search finds a clause proof that the problem holds at no values of its existential constants, which the check
 /// accepts. The one error is running out of memory.

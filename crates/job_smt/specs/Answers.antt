@@ -1,7 +1,7 @@
 -- The answer to a check: by the end of the canonical run on its problem, by a clause proof, or by a finite model (SMT-LIB 2.6, section
 -- 4.2.6).
-use Rattle.std.specs.Prelude.{◌≡◌, ◌⊎◌, ℕ, ℤ, Bool, true, false, cond, List, [], ◌∷◌, map, codes, Option, Some, None}
-use Rattle.std.specs.List.{Contains, concat, list_any}
+use Rattle.std.specs.Prelude.{◌≡◌, ◌⊎◌, ℕ, ℤ, Bool, true, false, cond, List, [], ◌∷◌, ◌++◌, codes, Option, Some, None}
+use Rattle.std.specs.List.{list_any}
 use Rattle.search.specs.declared.judge.Decided.{Decided}
 use Rattle.search.specs.declared.judge.Decided.TheVariants.{Valid, Invalid, Saturated}
 use Rattle.search.specs.declared.judge.Decided.TheVariants as decided
@@ -15,6 +15,8 @@ use Rattle.job_clauses.specs.Judged.{IsClauseFile}
 use Rattle.job_parts.specs.Parts.{IsCutEarly}
 use Rattle.model_refuting.specs.Refuting.{IsModelCounterexample}
 use Rattle.model_table.specs.declared.model.Model.{Model}
+use Rattle.smt_reader.specs.declared.replies.Reply.{Reply}
+use Rattle.smt_reader.specs.declared.replies.Reply.TheVariants as reply
 use Rattle.job_smt.specs.declared.checking.CheckAnswer.{CheckAnswer}
 use Rattle.job_smt.specs.declared.checking.CheckAnswer.TheVariants.{Unsat, Sat, Unknown}
 
@@ -68,9 +70,21 @@ is_unknown Unsat = false
 is_unknown Sat = false
 is_unknown Unknown = true
 
--- the lines in order; the status is 2 where one of them is `unknown`, and else 0
-abbrev pub lines_answer : List CheckAnswer → Answer
-lines_answer xs = record { status = cond (list_any is_unknown xs) 2 0; text = concat (map word xs) }
+-- What is told of these replies: the answers to the checks in their order, and what the other commands say; up to a check without an
+-- answer.
+abbrev pub replied : List Reply → List CheckAnswer → List ℕ
+replied [] xs = []
+replied (reply.Says text ∷ told) xs = text ++ replied told xs
+replied (reply.Check ∷ told) [] = []
+replied (reply.Check ∷ told) (a ∷ xs) = word a ++ replied told xs
+
+-- that, with the status 2 where an answer is `unknown`, and else 0
+abbrev pub lines_answer : List Reply → List CheckAnswer → Answer
+lines_answer told xs = record { status = cond (list_any is_unknown xs) 2 0; text = replied told xs }
+
+-- the line of a refusal after a text
+abbrev pub refused_after : List ℕ → List ℕ → Answer
+refused_after text name = record { status = 3; text = text ++ (refused_answer name).text }
 
 -- an answer to each check, each with this budget
 abbrev pub AreCheckAnswers : ℕ → List Problem → List CheckAnswer → Type 0
@@ -79,14 +93,17 @@ AreCheckAnswers budget [] (a ∷ xs) = ⊥
 AreCheckAnswers budget (p ∷ ps) [] = ⊥
 AreCheckAnswers budget (p ∷ ps) (a ∷ xs) = IsCheckAnswer budget p a × AreCheckAnswers budget ps xs
 
--- the answer to a script with checks of these problems: refused where the encoding of one is too large, or else a line for each
-pub data AnswersChecks (budget : ℕ) (ps : List Problem) (answer : Answer) : Type 0 where
-  large : (p : Problem) → Contains ps p → IsLarge p → answer ≡ refused_answer (codes "Large") → AnswersChecks budget ps answer
-  lines : (xs : List CheckAnswer) → AreCheckAnswers budget ps xs → answer ≡ lines_answer xs → AnswersChecks budget ps answer
+-- an answer to each check up to one whose encoding is too large
+abbrev pub AreFirstAnswers : ℕ → List Problem → List CheckAnswer → Type 0
+AreFirstAnswers budget [] xs = ⊥
+AreFirstAnswers budget (p ∷ ps) [] = IsLarge p
+AreFirstAnswers budget (p ∷ ps) (a ∷ xs) = IsCheckAnswer budget p a × AreFirstAnswers budget ps xs
 
--- two answers to a script are the same, or have a line for each check, and the lines of each check are alike
-abbrev pub AreOneAnswer : Answer → Answer → Type 0
-AreOneAnswer a b = (a ≡ b) ⊎ ((xs : List CheckAnswer) × (ys : List CheckAnswer) × (a ≡ lines_answer xs) × (b ≡ lines_answer ys) × AllAlike xs ys)
+-- two answers to a script tell of the same replies, with answers to the checks that are alike, to all of them or
+-- before the same refusal
+pub data AreOneAnswer (a b : Answer) : Type 0 where
+  whole : (told : List Reply) (xs ys : List CheckAnswer) → a ≡ lines_answer told xs → b ≡ lines_answer told ys → AllAlike xs ys → AreOneAnswer a b
+  before : (name : List ℕ) (told : List Reply) (xs ys : List CheckAnswer) → a ≡ refused_after (replied told xs) name → b ≡ refused_after (replied told ys) name → AllAlike xs ys → AreOneAnswer a b
 
 -- ---- as the code has it
 abbrev pub told_of : Decided → CheckAnswer

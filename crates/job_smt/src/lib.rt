@@ -1,4 +1,5 @@
-// The job `smt`: the answers to the checks of a script, each by the canonical run on its problem or the clause search, and their lines.
+// The job `smt`: the answers to the checks of a script, each by the canonical run on its problem or the clause search, up to the first
+// refusal.
 #![tactic(auto)]
 
 mod answering;
@@ -12,4 +13,3 @@ pub use answering::answer;
 pub use check_laws::answer_law;
 pub use checking::{CheckAnswer, check};
 pub use laws::{causes_law, meaning_law, one_answer_law};
-pub use lines::answer_checks;

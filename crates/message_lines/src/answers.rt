@@ -1,4 +1,4 @@
-// What the first line of an answer says of a refusal.
+// What a line of an answer says of a refusal.
 
 use crate::places::cut;
 
@@ -18,6 +18,18 @@ pub fn find_refusal<'a>(answer: &'a [u8], label: &[u8]) -> Option<Refusal<'a>> {
         None => None,
     };
     Some(Refusal { name, place })
+}
+
+/// The last line of an answer, without its line feed.
+pub fn last_line(answer: &[u8]) -> &[u8] {
+    let mut last = answer;
+    for _ in 0..answer.len() {
+        match cut(last, b'\n').1 {
+            Some(behind) if !behind.is_empty() => last = behind,
+            _ => return cut(last, b'\n').0,
+        }
+    }
+    last
 }
 
 /// The number that decimal digits write, where it has 64 bits at most.

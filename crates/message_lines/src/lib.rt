@@ -13,7 +13,7 @@ mod script_phrases;
 mod slip;
 mod spots;
 
-pub use answers::{Refusal, find_refusal, number};
+pub use answers::{Refusal, find_refusal, last_line, number};
 pub use foreign::{
     begins_with_one, is_among, is_assumption_block, is_block_word, is_foreign_block,
     is_foreign_type, is_quantifier_word, is_remainder, is_utf_16, paired, sign_for_symbol,

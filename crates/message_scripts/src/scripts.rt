@@ -84,7 +84,7 @@ fn end_slip<'a>(script: Script<'a>) -> Slip<'a> {
 }
 
 /// The commands that are read.
-pub(crate) const READ: [&str; 15] = [
+pub(crate) const READ: [&str; 28] = [
     "set-logic",
     "set-info",
     "set-option",
@@ -92,6 +92,9 @@ pub(crate) const READ: [&str; 15] = [
     "declare-fun",
     "define-fun",
     "define-const",
+    "define-sort",
+    "define-fun-rec",
+    "define-funs-rec",
     "assert",
     "check-sat",
     "check-sat-assuming",
@@ -99,6 +102,16 @@ pub(crate) const READ: [&str; 15] = [
     "pop",
     "reset",
     "reset-assertions",
+    "echo",
+    "get-info",
+    "get-option",
+    "get-model",
+    "get-value",
+    "get-assignment",
+    "get-assertions",
+    "get-unsat-core",
+    "get-unsat-assumptions",
+    "get-proof",
     "exit",
 ];
 

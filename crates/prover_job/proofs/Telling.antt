@@ -42,8 +42,8 @@ use Rattle.job_elim.specs.Meaning.{ElimMeans}
 use Rattle.job_elim.proofs.Causing as elim_causing
 use Rattle.job_elim.proofs.Exactly.{eliminated_status}
 use Rattle.job_smt.specs.Answered.{IsSmtAnswer}
-use Rattle.job_smt.specs.Meaning.{Scripted}
-use Rattle.job_smt.proofs.Meaning.{means_all, smt_status}
+use Rattle.job_smt.specs.Meaning.{Scripted, ScriptedBefore}
+use Rattle.job_smt.proofs.Meaning.{means_all, means_before, smt_status}
 use Rattle.job_elim.proofs.Meaning.{means}
 use Rattle.job_least.specs.Leasts.{IsLeastAnswer}
 use Rattle.job_least.specs.Meaning.{LeastAnswers}
@@ -52,7 +52,7 @@ use Rattle.job_least.proofs.Deciding as least_deciding
 use Rattle.job_least.proofs.Exactly.{least_status}
 use Rattle.job_least.proofs.Meaning as least_meaning
 use Rattle.prover_job.specs.declared.tasks.Stop.{Stop}
-use Rattle.prover_job.specs.Runs.{AnswersTask, AnswersWithProof, IsSmallTask, SaysChecked, SaysConstraint, SaysFound, SaysLeast, SaysNowhere, SaysScript, SaysUnfound, SaysValid, SaysRefuted, IsElimCaused, IsLeastCaused, IsCheckCaused, IsDrillCaused}
+use Rattle.prover_job.specs.Runs.{AnswersTask, AnswersWithProof, IsSmallTask, SaysChecked, SaysConstraint, SaysFound, SaysLeast, SaysNowhere, SaysScript, SaysScriptBefore, SaysUnfound, SaysValid, SaysRefuted, IsElimCaused, IsLeastCaused, IsCheckCaused, IsDrillCaused}
 
 -- ---- files
 
@@ -296,6 +296,23 @@ pub says_script : (w : Meaning) (budget : ℕ) (told : Option (List ℕ)) (ends 
     → (ends ≡ 0) ⊎ (ends ≡ 2) → SaysScript w told before after
 says_script w budget told ends before after met (inl z) = script_at w budget 0 told ends before after met z (inl refl) (λ e. cc) (λ e. cc) (λ e. cc)
 says_script w budget told ends before after met (inr z) = script_at w budget 2 told ends before after met z (inr refl) (λ e. cc) (λ e. cc) (λ e. cc)
+
+bytes_before : (w : Meaning) (budget : ℕ) (bytes : List ℕ) (a : Answer) → AnswersBytes most_of_file (IsSmtAnswer budget) bytes a → a.status ≡ 3 → ScriptedBefore w bytes a.text
+bytes_before w budget bytes a (too_long l e) z = let bad = sym z ∙ ap (λ b. b.status) e in absurd cc
+bytes_before w budget bytes a (within l is) z = means_before w budget bytes a is z
+
+-- at status 3 of `smt` the lines before the refusal say what is so
+pub says_before : (w : Meaning) (budget : ℕ) (told : Option (List ℕ)) (ends : ℕ) (before after : Option (List ℕ)) → Meets (AnswersSource most_of_file (IsSmtAnswer budget) told) ends before after
+    → ends ≡ 3 → SaysScriptBefore w told before after
+says_before w budget told ends before after met z =
+    let given = given_to _ ends 3 before after met z (λ e. cc) (λ e. cc) (λ e. cc) in
+    record {
+      bytes = (given.is).bytes;
+      whole = (given.is).whole;
+      text = (given.answer).text;
+      put = given.put;
+      scripted = bytes_before w budget (given.is).bytes given.answer (given.is).is (sym given.status ∙ z);
+    }
 
 -- an answer of `least` to the bytes of a file means what it does, where a long file's means nothing
 bytes_least : (w : Meaning) (term : List ℕ) (budget : ℕ) (bytes : List ℕ) (a : Answer) → AnswersBytes most_of_file (IsLeastAnswer term budget) bytes a → LeastAnswers w term bytes a

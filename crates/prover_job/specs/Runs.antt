@@ -29,7 +29,7 @@ use Rattle.job_elim.specs.Eliminated.{IsEliminated}
 use Rattle.job_elim.specs.Causes as elim_causes
 use Rattle.job_elim.specs.Meaning.{Constrained}
 use Rattle.job_smt.specs.Answered.{IsSmtAnswer}
-use Rattle.job_smt.specs.Meaning.{Scripted}
+use Rattle.job_smt.specs.Meaning.{Scripted, ScriptedBefore}
 use Rattle.job_least.specs.Causes as least_causes
 use Rattle.job_least.specs.Decides as least_decides
 use Rattle.job_least.specs.Leasts.{IsLeastAnswer}
@@ -182,13 +182,23 @@ pub record SaysUnfound (proves : Bool) (told before after : Option (List ℕ)) :
   pub none : proves ≡ false → part ≡ []
   pub disproved : (part ≡ []) ⊎ ProvesInvalid Whole bytes part
 
--- the bytes of a file, where they are told, are a script, and the text put has a line for each of its checks, which says what is so
+-- the bytes of a file, where they are told, are a script, and the text put has the lines of its checks and its other commands, which say
+-- what is so
 pub record SaysScript (w : Meaning) (told before after : Option (List ℕ)) : Type 0 where
   pub bytes : List ℕ
   pub whole : IsWhole told bytes
   pub text : List ℕ
   pub put : PutsAll before after text
   pub scripted : Scripted w bytes text
+
+-- the bytes of a file, where they are told, are refused as a script, or a check is too large; before that the text put has lines of the checks
+-- and the other commands of a beginning of it, which say what is so
+pub record SaysScriptBefore (w : Meaning) (told before after : Option (List ℕ)) : Type 0 where
+  pub bytes : List ℕ
+  pub whole : IsWhole told bytes
+  pub text : List ℕ
+  pub put : PutsAll before after text
+  pub scripted : ScriptedBefore w bytes text
 
 -- an answer of `elim` that comes exactly where its row says, and decides what it has to
 pub record IsElimCaused (budget : ℕ) (bytes : List ℕ) (answer : Answer) : Type 0 where

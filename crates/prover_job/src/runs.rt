@@ -8,7 +8,7 @@ ghost use Rattle.job_decide.specs.Causes.{IsCausedAs};
 ghost use Rattle.job_find.specs.Causes.{IsFindCaused};
 ghost use Rattle.job_smt.specs.Causes.{SmtCauses};
 ghost use Rattle.prover_io.specs.Outside.{BeginsFront, GrowsAtMost, Rose};
-ghost use Rattle.prover_job.specs.Runs.{AnswersTask, AreBegun, AskFor, AskForNoFile, AskForNothing, BrokeAt, IsCheckCaused, IsDrillCaused, IsElimCaused, IsJobFile, IsLeastCaused, IsSmallTask, MeetsFile, SaysChecked, SaysConstraint, SaysFound, SaysLeast, SaysNowhere, SaysRefuted, SaysScript, SaysUnfound, SaysValid, most_moved};
+ghost use Rattle.prover_job.specs.Runs.{AnswersTask, AreBegun, AskFor, AskForNoFile, AskForNothing, BrokeAt, IsCheckCaused, IsDrillCaused, IsElimCaused, IsJobFile, IsLeastCaused, IsSmallTask, MeetsFile, SaysChecked, SaysConstraint, SaysFound, SaysLeast, SaysNowhere, SaysRefuted, SaysScript, SaysScriptBefore, SaysUnfound, SaysValid, most_moved};
 ghost use Rattle.std.specs.Prelude.{◌≡◌, ◌≢◌, ◌⊎◌, ℕ, Bool, List, [], Option};
 
 use crate::tasks::{Stop, job_output};
@@ -60,6 +60,8 @@ pub fn run<S: Source, K: Sink, W: World, X: Watch>(
     ensures scripted { (file : List ℕ) (budget : ℕ) → AskFor words.now (run_script file budget)
         → (result ≡ 0) ⊎ (result ≡ 2)
         → SaysScript (W.meaning world.now) (S.bytes_of source.old file) (K.taken sink.old) (K.taken sink.new) }
+    ensures scripted_before { (file : List ℕ) (budget : ℕ) → AskFor words.now (run_script file budget) → result ≡ 3
+        → SaysScriptBefore (W.meaning world.now) (S.bytes_of source.old file) (K.taken sink.old) (K.taken sink.new) }
     ensures minimised { (file term : List ℕ) (budget : ℕ) → AskFor words.now (minimise file term budget) → result ≡ 0
         → SaysLeast (W.meaning world.now) term (S.bytes_of source.old file) (K.taken sink.old) (K.taken sink.new) }
     ensures nowhere { (file term : List ℕ) (budget : ℕ) → AskFor words.now (minimise file term budget) → result ≡ 1

@@ -6,7 +6,7 @@ use Rattle.smt_lists.specs.declared.tree.Sexp.{Sexp}
 use Rattle.smt_lists.specs.declared.tree.Sexp.TheVariants as s
 use Rattle.smt_lists.specs.Expressions.{Expr, exprs, expr, place_of}
 use Rattle.smt_lists.proofs.Folds.{expr-Atom, expr-List}
-use Rattle.smt_commands.specs.Commands.{symbol_in, symbol_of, is_keyword, keyword_in, items, members_of, command_by, is_argument}
+use Rattle.smt_commands.specs.Commands.{symbol_in, symbol_of, keyword_of, keyword_in, string_of, string_in, items, members_of, command_by, is_argument}
 use Rattle.smt_commands.specs.declared.words.Word.TheVariants as w
 
 items-exprs : (es : List Expr) → items (exprs es) ≡ es
@@ -19,11 +19,17 @@ symbol-Atom a = ap symbol_of (expr-Atom a)
 pub symbol-List : (at : ℕ) (es : List Sexp) → symbol_of (expr (s.List at es)) ≡ None
 symbol-List at es = ap symbol_of (expr-List at es)
 
-pub keyword-Atom : (a : Atom) → is_keyword (expr (s.Atom a)) ≡ keyword_in a.kind
-keyword-Atom a = ap is_keyword (expr-Atom a)
+pub keyword-Atom : (a : Atom) → keyword_of (expr (s.Atom a)) ≡ keyword_in a.kind
+keyword-Atom a = ap keyword_of (expr-Atom a)
 
-pub keyword-List : (at : ℕ) (es : List Sexp) → is_keyword (expr (s.List at es)) ≡ false
-keyword-List at es = ap is_keyword (expr-List at es)
+pub keyword-List : (at : ℕ) (es : List Sexp) → keyword_of (expr (s.List at es)) ≡ None
+keyword-List at es = ap keyword_of (expr-List at es)
+
+pub string-Atom : (a : Atom) → string_of (expr (s.Atom a)) ≡ string_in a.kind
+string-Atom a = ap string_of (expr-Atom a)
+
+pub string-List : (at : ℕ) (es : List Sexp) → string_of (expr (s.List at es)) ≡ None
+string-List at es = ap string_of (expr-List at es)
 
 pub members-Atom : (a : Atom) → members_of (expr (s.Atom a)) ≡ None
 members-Atom a = ap members_of (expr-Atom a)
@@ -37,7 +43,7 @@ place-Atom a = ap place_of (expr-Atom a)
 pub place-List : (at : ℕ) (es : List Sexp) → place_of (expr (s.List at es)) ≡ at
 place-List at es = ap place_of (expr-List at es)
 
-pub ruleset views = (place-Atom, place-List, symbol-Atom, symbol-List, keyword-Atom, keyword-List, members-Atom, members-List)
+pub ruleset views = (place-Atom, place-List, symbol-Atom, symbol-List, keyword-Atom, keyword-List, string-Atom, string-List, members-Atom, members-List)
 
 -- whether all are arguments, one further
 pub all_on : (xs : List Sexp) (x : Sexp) (more : List Sexp) (whole : Bool) → xs ≡ x ∷ more → is_argument (expr x) ≡ true

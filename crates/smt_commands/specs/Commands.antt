@@ -1,6 +1,7 @@
 -- Which lists are commands. Where a command has a sort or a term, any S-expression may stand for its form.
-use Rattle.std.specs.Prelude.{ℕ, Bool, true, false, List, [], ◌∷◌, Option, Some, None, unsigned_abs}
+use Rattle.std.specs.Prelude.{ℕ, Bool, true, false, List, [], ◌∷◌, Option, Some, None, unsigned_abs, codes, if◌then◌else◌}
 use Rattle.std.specs.List.{list_all}
+use Rattle.std.specs.Str.{bytes_eq}
 use Rattle.smt_lists.specs.declared.tree.AtomKind.{AtomKind}
 use Rattle.smt_lists.specs.declared.tree.AtomKind.TheVariants as k
 use Rattle.smt_lists.specs.Expressions.{Expr, Exprs, atom, list, no_expr, and_expr}
@@ -13,11 +14,21 @@ pub record Symbol : Type 0 where
   pub at : ℕ
   pub text : List ℕ
 
--- a command: without effect; a symbol that is declared, with the sorts of its arguments and its sort; a symbol that is
--- defined, with its arguments, its sort and its term; an assertion; a check, with the terms that are assumed for it; this many
--- assertion levels more, and fewer; a new beginning; the end
+-- what a command says, whatever comes before it: a string, by what stands between its quotes; the name of the program, its authors,
+-- and what it does after an error; or that it is not supported
+pub data Saying : Type 0 where
+  echoed : List ℕ → Saying
+  program : Saying
+  authors : Saying
+  after_error : Saying
+  unsupported : Saying
+
+-- a command: without effect; one that only says something; a symbol that is declared, with the sorts of its arguments and its sort; a
+-- symbol that is defined, with its arguments, its sort and its term; an assertion; a check, with the terms that are assumed for it; this
+-- many assertion levels more, and fewer; a new beginning; the end
 pub data CommandForm : Type 0 where
   skip : CommandForm
+  say : Saying → CommandForm
   declare : Symbol → List Expr → Expr → CommandForm
   define : Symbol → List Expr → Expr → Expr → CommandForm
   assert : Expr → CommandForm
@@ -36,18 +47,31 @@ abbrev pub symbol_of : Expr → Option Symbol
 symbol_of (atom a) = symbol_in a.at a.kind
 symbol_of (list at es) = None
 
-abbrev pub keyword_in : AtomKind → Bool
-keyword_in k.Keyword = true
-keyword_in _ = false
-
--- the S-expression is a keyword
-abbrev pub is_keyword : Expr → Bool
-is_keyword (atom a) = keyword_in a.kind
-is_keyword (list at es) = false
-
 abbrev pub is_some : {A : Type 0} → Option A → Bool
 is_some None = false
 is_some (Some x) = true
+
+abbrev pub keyword_in : AtomKind → Option (List ℕ)
+keyword_in (k.Keyword text) = Some text
+keyword_in _ = None
+
+-- the keyword that an S-expression is
+abbrev pub keyword_of : Expr → Option (List ℕ)
+keyword_of (atom a) = keyword_in a.kind
+keyword_of (list at es) = None
+
+-- the S-expression is a keyword
+abbrev pub is_keyword : Expr → Bool
+is_keyword e = is_some (keyword_of e)
+
+abbrev pub string_in : AtomKind → Option (List ℕ)
+string_in (k.StringLiteral text) = Some text
+string_in _ = None
+
+-- what stands between the quotes of a string
+abbrev pub string_of : Expr → Option (List ℕ)
+string_of (atom a) = string_in a.kind
+string_of (list at es) = None
 
 -- the members of a list; none where the S-expression is an atom
 abbrev pub items : Exprs → List Expr
@@ -78,6 +102,26 @@ levels_in _ = None
 abbrev pub levels_of : Expr → Option ℕ
 levels_of (atom a) = levels_in a.kind
 levels_of (list at es) = None
+
+abbrev pub echoes : Option (List ℕ) → Option CommandForm
+echoes None = None
+echoes (Some text) = Some (say (echoed text))
+
+-- what is said of a flag of `get-info`
+abbrev pub information : List ℕ → Saying
+information flag =
+    if bytes_eq flag (codes ":name") then program else
+    (if bytes_eq flag (codes ":authors") then authors else
+    (if bytes_eq flag (codes ":error-behavior") then after_error else unsupported))
+
+abbrev pub informs : Option (List ℕ) → Option CommandForm
+informs None = None
+informs (Some flag) = Some (say (information flag))
+
+-- a command that is known, and not supported
+abbrev pub declines : Bool → Option CommandForm
+declines true = Some (say unsupported)
+declines false = None
 
 abbrev pub skips : Bool → Option CommandForm
 skips true = Some skip
@@ -127,6 +171,16 @@ command_by w.Pop [] = Some (pop 1)
 command_by w.Pop (n ∷ []) = pops (levels_of n)
 command_by w.Reset [] = Some reset
 command_by w.ResetAssertions [] = Some reset
+command_by w.Echo (s ∷ []) = echoes (string_of s)
+command_by w.GetInfo (k ∷ []) = informs (keyword_of k)
+command_by w.GetOption (k ∷ []) = declines (is_keyword k)
+command_by w.GetModel [] = Some (say unsupported)
+command_by w.GetValue (ts ∷ []) = declines (is_some (members_of ts))
+command_by w.GetAssignment [] = Some (say unsupported)
+command_by w.GetAssertions [] = Some (say unsupported)
+command_by w.GetUnsatCore [] = Some (say unsupported)
+command_by w.GetUnsatAssumptions [] = Some (say unsupported)
+command_by w.GetProof [] = Some (say unsupported)
 command_by w.Exit [] = Some exit
 command_by _ _ = None
 

@@ -7,7 +7,7 @@ use Rattle.smt_commands.specs.declared.refusal.ScriptRefusal.{ScriptRefusal}
 use Rattle.smt_commands.specs.declared.refusal.ScriptRefusal.TheVariants as r
 use Rattle.smt_terms.specs.declared.operator.Sort.{Sort}
 use Rattle.smt_terms.specs.declared.operator.Sort.TheVariants as sort
-use Rattle.smt_commands.specs.Commands.{Symbol, CommandForm, skip, declare, define, assert, check_sat, push, pop, reset, exit, members_of, command_of}
+use Rattle.smt_commands.specs.Commands.{Symbol, CommandForm, skip, say, declare, define, assert, check_sat, push, pop, reset, exit, members_of, command_of}
 use Rattle.smt_commands.specs.Levels.{Levels, lowest, popped, pushed, with_now}
 use Rattle.smt_commands.specs.declared.table.Entry.{Entry}
 use Rattle.smt_commands.specs.Least.{least}
@@ -104,6 +104,7 @@ form e = form_in (members_of e)
 abbrev pub behind : Levels (List Entry) → Option CommandForm → Levels (List Entry)
 behind l None = l
 behind l (Some skip) = l
+behind l (Some (say x)) = l
 behind l (Some (declare x sorts s)) = with_now l (after l.now (declare x sorts s))
 behind l (Some (define f arguments s t)) = with_now l (after l.now (define f arguments s t))
 behind l (Some (assert t)) = l

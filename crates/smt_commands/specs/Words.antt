@@ -21,5 +21,15 @@ word_of text =
     (if bytes_eq text (codes "pop") then Some w.Pop else
     (if bytes_eq text (codes "reset") then Some w.Reset else
     (if bytes_eq text (codes "reset-assertions") then Some w.ResetAssertions else
+    (if bytes_eq text (codes "echo") then Some w.Echo else
+    (if bytes_eq text (codes "get-info") then Some w.GetInfo else
+    (if bytes_eq text (codes "get-option") then Some w.GetOption else
+    (if bytes_eq text (codes "get-model") then Some w.GetModel else
+    (if bytes_eq text (codes "get-value") then Some w.GetValue else
+    (if bytes_eq text (codes "get-assignment") then Some w.GetAssignment else
+    (if bytes_eq text (codes "get-assertions") then Some w.GetAssertions else
+    (if bytes_eq text (codes "get-unsat-core") then Some w.GetUnsatCore else
+    (if bytes_eq text (codes "get-unsat-assumptions") then Some w.GetUnsatAssumptions else
+    (if bytes_eq text (codes "get-proof") then Some w.GetProof else
     (if bytes_eq text (codes "exit") then Some w.Exit else
-    None))))))))))))))
+    None))))))))))))))))))))))))

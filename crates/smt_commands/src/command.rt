@@ -1,6 +1,6 @@
 // Which lists are commands. Where a command has a sort or a term, any S-expression may stand for its form.
 
-ghost use Rattle.smt_commands.specs.Commands.{command_by, command_of, declares, defines, is_argument, is_keyword, levels_of, members_of, symbol_of};
+ghost use Rattle.smt_commands.specs.Commands.{command_by, command_of, declares, defines, is_argument};
 ghost use Rattle.smt_commands.specs.Views.{form_of, items_of, symbol_is};
 ghost use Rattle.smt_lists.specs.Expressions.{expr};
 ghost use Rattle.std.specs.List.{list_all};
@@ -8,21 +8,18 @@ ghost use Rattle.std.specs.Option.{option_map};
 ghost use Rattle.std.specs.Prelude.{◌≡◌, [], map, MatchOption};
 ghost use Rattle.smt_commands.specs.declared.words.Word.TheVariants as w;
 
+use crate::expressions::{Name, is_keyword, levels, members, symbol};
+use crate::saying::{Saying, echo, get_info, get_option, get_value};
 use crate::words::{Word, find_word};
-use smt_lists::{AtomKind, Sexp};
-
-/// A symbol with the offset of its first byte.
-#[derive(Clone, Copy)]
-pub struct Name<'a> {
-    pub at: u64,
-    pub text: &'a [u8],
-}
+use smt_lists::Sexp;
 
 /// A command.
 #[derive(Clone, Copy)]
 pub enum Command<'a> {
     /// A command without effect.
     Skip,
+    /// A command that only says something.
+    Say(Saying<'a>),
     /// A symbol is declared, with the sorts of its arguments and its sort.
     Declare(Name<'a>, &'a [Sexp], &'a Sexp),
     /// A symbol is defined, with its arguments, its sort and its term.
@@ -73,6 +70,16 @@ fn by_word(word: Word, rest: &[Sexp]) -> Option<Command<'_>>
         Word::Push => push(rest),
         Word::Pop => pop(rest),
         Word::Reset | Word::ResetAssertions => alone(rest, Command::Reset),
+        Word::Echo => echo(rest),
+        Word::GetInfo => get_info(rest),
+        Word::GetOption => get_option(rest),
+        Word::GetValue => get_value(rest),
+        Word::GetModel
+        | Word::GetAssignment
+        | Word::GetAssertions
+        | Word::GetUnsatCore
+        | Word::GetUnsatAssumptions
+        | Word::GetProof => alone(rest, Command::Say(Saying::Unsupported)),
         Word::Exit => alone(rest, Command::Exit),
     }
 }
@@ -240,82 +247,11 @@ fn pop(rest: &[Sexp]) -> Option<Command<'_>>
     Some(Command::Pop(count))
 }
 
-/// How many levels an S-expression says.
-#[tactic(auto, using(crate::proofs::Forms::views))]
-fn levels(e: &Sexp) -> Option<u128>
-    ensures exact { result ≡ levels_of (expr e.now) }
-{
-    match e {
-        Sexp::Atom(a) => match &a.kind {
-            AtomKind::Numeral(count) => Some(count.unsigned_abs()),
-            AtomKind::Symbol(_)
-            | AtomKind::LargeNumeral
-            | AtomKind::Decimal
-            | AtomKind::Hash
-            | AtomKind::StringLiteral
-            | AtomKind::Keyword => None,
-        },
-        Sexp::List(_, _) => None,
-    }
-}
-
 /// The command, where nothing stands after it.
-fn alone<'a>(end: &[Sexp], command: Command<'a>) -> Option<Command<'a>>
+pub(crate) fn alone<'a>(end: &[Sexp], command: Command<'a>) -> Option<Command<'a>>
     ensures exact { MatchOption result (end.now ≡ [] → ⊥) (λ c. (end.now ≡ []) × (form_of c ≡ form_of command.entry)) }
 {
     if end.is_empty() { Some(command) } else { None }
-}
-
-/// The symbol that an S-expression is.
-#[tactic(auto, using(crate::proofs::Forms::views))]
-pub fn symbol(e: &Sexp) -> Option<Name<'_>>
-    ensures exact { option_map symbol_is result ≡ symbol_of (expr e.now) }
-{
-    match e {
-        Sexp::Atom(a) => match &a.kind {
-            AtomKind::Symbol(text) => Some(Name {
-                at: a.at,
-                text: text.as_slice(),
-            }),
-            AtomKind::Numeral(_)
-            | AtomKind::LargeNumeral
-            | AtomKind::Decimal
-            | AtomKind::Hash
-            | AtomKind::StringLiteral
-            | AtomKind::Keyword => None,
-        },
-        Sexp::List(_, _) => None,
-    }
-}
-
-/// Whether an S-expression is a keyword.
-#[tactic(auto, using(crate::proofs::Forms::views))]
-pub fn is_keyword(e: &Sexp) -> bool
-    ensures exact { result ≡ is_keyword (expr e.now) }
-{
-    match e {
-        Sexp::Atom(a) => match &a.kind {
-            AtomKind::Keyword => true,
-            AtomKind::Symbol(_)
-            | AtomKind::Numeral(_)
-            | AtomKind::LargeNumeral
-            | AtomKind::Decimal
-            | AtomKind::Hash
-            | AtomKind::StringLiteral => false,
-        },
-        Sexp::List(_, _) => false,
-    }
-}
-
-/// The members of a list.
-#[tactic(auto, using(crate::proofs::Forms::views))]
-pub fn members(e: &Sexp) -> Option<&[Sexp]>
-    ensures exact { option_map items_of result ≡ members_of (expr e.now) }
-{
-    match e {
-        Sexp::Atom(_) => None,
-        Sexp::List(_, items) => Some(items.as_slice()),
-    }
 }
 
 /// Whether each is a list of a symbol and of what stands for its sort.

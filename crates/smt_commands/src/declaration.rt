@@ -9,7 +9,7 @@ ghost use Rattle.std.specs.List.{flat_map};
 ghost use Rattle.smt_commands.specs.Commands.{Symbol, declare};
 ghost use Rattle.std.specs.Prelude.{◌≡◌, Some, None, IfOk, IfErr, false, map};
 
-use crate::command::{Name, members, symbol};
+use crate::expressions::{Name, members, symbol};
 use crate::operators::is_reserved;
 use crate::order::sooner;
 use crate::refusal::ScriptRefusal;

@@ -23,7 +23,7 @@ fn is_before(a: ScriptRefusal, b: ScriptRefusal) -> bool
 }
 
 /// The offset of a fault.
-fn place_in(e: ScriptRefusal) -> u64
+pub fn place_in(e: ScriptRefusal) -> u64
     ensures exact { result ≡ place_in e }
 {
     match e {

@@ -10,8 +10,8 @@ ghost use Rattle.smt_commands.specs.Views.{symbol_is};
 ghost use Rattle.smt_lists.specs.Expressions.{expr};
 ghost use Rattle.std.specs.Prelude.{◌≡◌, ◌++◌, ◌∷◌, [], IfErr, IfOk, None, false, length, map, reverse, true};
 
-use crate::command::Name;
 use crate::declaration::declare;
+use crate::expressions::Name;
 use crate::refusal::ScriptRefusal;
 use crate::table::Table;
 use linear_term::Memory;

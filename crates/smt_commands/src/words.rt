@@ -20,6 +20,16 @@ pub enum Word {
     Pop,
     Reset,
     ResetAssertions,
+    Echo,
+    GetInfo,
+    GetOption,
+    GetModel,
+    GetValue,
+    GetAssignment,
+    GetAssertions,
+    GetUnsatCore,
+    GetUnsatAssumptions,
+    GetProof,
     Exit,
 }
 
@@ -68,6 +78,36 @@ pub fn find_word(text: &[u8]) -> Option<Word>
     }
     if text == b"reset-assertions".as_slice() {
         return Some(Word::ResetAssertions);
+    }
+    if text == b"echo".as_slice() {
+        return Some(Word::Echo);
+    }
+    if text == b"get-info".as_slice() {
+        return Some(Word::GetInfo);
+    }
+    if text == b"get-option".as_slice() {
+        return Some(Word::GetOption);
+    }
+    if text == b"get-model".as_slice() {
+        return Some(Word::GetModel);
+    }
+    if text == b"get-value".as_slice() {
+        return Some(Word::GetValue);
+    }
+    if text == b"get-assignment".as_slice() {
+        return Some(Word::GetAssignment);
+    }
+    if text == b"get-assertions".as_slice() {
+        return Some(Word::GetAssertions);
+    }
+    if text == b"get-unsat-core".as_slice() {
+        return Some(Word::GetUnsatCore);
+    }
+    if text == b"get-unsat-assumptions".as_slice() {
+        return Some(Word::GetUnsatAssumptions);
+    }
+    if text == b"get-proof".as_slice() {
+        return Some(Word::GetProof);
     }
     if text == b"exit".as_slice() {
         return Some(Word::Exit);

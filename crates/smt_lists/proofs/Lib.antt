@@ -5,3 +5,4 @@ pub mod Reached
 pub mod Outcomes
 pub mod States
 pub mod Texts
+pub mod Cutting

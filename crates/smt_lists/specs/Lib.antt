@@ -3,3 +3,4 @@ pub mod Atoms
 pub mod Grammar
 pub mod First
 pub mod Machine
+pub mod Cuts

@@ -1,6 +1,6 @@
 // What a token that is no parenthesis says.
 
-ghost use Rattle.smt_lists.specs.Atoms.{atom_of, is_atom, span};
+ghost use Rattle.smt_lists.specs.Atoms.{atom_of, inner, is_atom, span, whole};
 ghost use Rattle.std.specs.Prelude.{◌≡◌, ◌≤◌, ◌+◌, true, length, IfOk};
 
 use crate::tree::{Atom, AtomKind};
@@ -20,23 +20,31 @@ pub fn atom(alloc: Global, bytes: &[u8], x: Lexeme) -> Result<Atom, AllocError>
         },
         Terminal::Decimal => AtomKind::Decimal,
         Terminal::Hash => AtomKind::Hash,
-        Terminal::StringLiteral => AtomKind::StringLiteral,
-        Terminal::Keyword => AtomKind::Keyword,
-        Terminal::Quoted => {
-            AtomKind::Symbol(Items::from_slice(
-                alloc,
-                span(bytes, x.at.saturating_add(1), x.len.saturating_sub(2)),
-            )?)
-        }
+        Terminal::StringLiteral => AtomKind::StringLiteral(inner(alloc, bytes, x)?),
+        Terminal::Keyword => AtomKind::Keyword(whole(alloc, bytes, x)?),
+        Terminal::Quoted => AtomKind::Symbol(inner(alloc, bytes, x)?),
         Terminal::Symbol
         | Terminal::Open
         | Terminal::Close
         | Terminal::Bad
-        | Terminal::Unfinished => {
-            AtomKind::Symbol(Items::from_slice(alloc, span(bytes, x.at, x.len))?)
-        }
+        | Terminal::Unfinished => AtomKind::Symbol(whole(alloc, bytes, x)?),
     };
     Ok(Atom { at: x.at, kind })
+}
+
+/// The text of a token.
+fn whole(alloc: Global, bytes: &[u8], x: Lexeme) -> Result<Items<u8>, AllocError>
+    ensures { IfOk result (λ text. text ≡ whole bytes.now x) }
+{
+    Items::from_slice(alloc, span(bytes, x.at, x.len))
+}
+
+/// The text of a token between its first and its last byte.
+fn inner(alloc: Global, bytes: &[u8], x: Lexeme) -> Result<Items<u8>, AllocError>
+    ensures { IfOk result (λ text. text ≡ inner bytes.now x) }
+{
+    let text = span(bytes, x.at.saturating_add(1), x.len.saturating_sub(2));
+    Items::from_slice(alloc, text)
 }
 
 /// This many bytes of a text from an offset on.

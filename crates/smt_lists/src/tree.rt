@@ -17,7 +17,7 @@ pub struct Atom {
     pub kind: AtomKind,
 }
 
-/// What an atom is. The texts of decimals, literals, strings and keywords are not kept: no command and no term asks for them.
+/// What an atom is. The texts of decimals and of hexadecimal and binary literals are not kept: no command and no term asks for them.
 #[derive(Drop)]
 pub enum AtomKind {
     /// A numeral of 0 to 2^127 − 1.
@@ -28,10 +28,10 @@ pub enum AtomKind {
     Decimal,
     /// `#x` or `#b` with digits.
     Hash,
-    /// A string between quotes.
-    StringLiteral,
-    /// A `:` with letters, digits and signs after it.
-    Keyword,
+    /// A string, by what stands between its quotes, as it is written: a quote in it is written twice.
+    StringLiteral(Items<u8>),
+    /// A `:` with letters, digits and signs after it, by its whole text.
+    Keyword(Items<u8>),
     /// A symbol, by its name: what stands between the bars of a symbol in bars, else the text itself.
     Symbol(Items<u8>),
 }

@@ -33,7 +33,8 @@ use Rattle.smt_typing.specs.Faults.{kind_faults, names_in, term_faults}
 use Rattle.smt_typing.specs.Reading.{phrase_of}
 use Rattle.smt_reader.specs.Commands.{acts_of, all_after, questions, questions_from, script_terms, state_of, with_form}
 use Rattle.smt_reader.specs.Following.{AreNew, IsNewSymbol, texts_behind, texts_behind_all}
-use Rattle.smt_reader.specs.Formed.{IsFormedCheck, IsRangedExpr, Sound, symbol, symbols}
+use Rattle.smt_reader.specs.Formed.{IsFormedCheck, Sound, symbol, symbols}
+use Rattle.smt_shorthand.specs.Ranged.{IsRangedExpr}
 use Rattle.smt_reader.proofs.Sound.{AllSound, IsSaid, all_everywhere, formula_of}
 use Rattle.smt_reader.proofs.Faultless.{needed_is, none_both}
 use Rattle.smt_reader.proofs.Terms.{IsRangedPhrase, formed, none}
@@ -303,6 +304,7 @@ command_on : (es : List Expr) → Goes es → (g : Levels (List Entry)) (l : Lev
     → least (command_faults script_terms g at f) ≡ None → unless_exit f (refusal_from script_terms (behind g f) es) ≡ None → All IsFitQuestion (questions_from l (with_form f (acts_of es)))
 command_on es go g l at None h r e later = absurd (cc)
 command_on es go g l at (Some form.skip) h r e later = go g l h later
+command_on es go g l at (Some (form.say x)) h r e later = go g l h later
 command_on es go g l at (Some (form.declare x sorts st)) h r e later = go _ _ (record { now = declare_fit g.now l.now x sorts st h.now e; below = h.below }) later
 command_on es go g l at (Some (form.define x arguments st t)) h r e later = go _ _ (record { now = define_fit g.now l.now at x arguments st t h.now r.0 r.1 e; below = h.below }) later
 command_on es go g l at (Some (form.assert t)) h r e later =

@@ -8,7 +8,7 @@ use Rattle.smt_commands.specs.declared.table.Entry.{Entry}
 use Rattle.smt_commands.specs.declared.words.Word.{Word}
 use Rattle.smt_commands.specs.declared.words.Word.TheVariants as w
 use Rattle.smt_commands.specs.Commands as form
-use Rattle.smt_commands.specs.Commands.{CommandForm, Symbol, command_behind, command_by, command_of, declares, defined, defines, is_argument, is_keyword, is_some, items, members_of, skips, symbol_of, assumes, levels_of, pops, pushes}
+use Rattle.smt_commands.specs.Commands.{CommandForm, Symbol, command_behind, command_by, command_of, declares, defined, defines, is_argument, is_keyword, is_some, items, keyword_of, members_of, skips, string_of, symbol_of, assumes, declines, echoes, informs, levels_of, pops, pushes}
 use Rattle.smt_commands.specs.Levels.{Levels}
 use Rattle.smt_commands.specs.Words.{word_of}
 use Rattle.smt_commands.specs.Faults as faults
@@ -72,6 +72,18 @@ module _ (P : ℕ → Type 0) where
   pops_at None = tt
   pops_at (Some n) = tt
 
+  echoes_at : (text : Option (List ℕ)) → FormAt (echoes text)
+  echoes_at None = tt
+  echoes_at (Some text) = tt
+
+  informs_at : (text : Option (List ℕ)) → FormAt (informs text)
+  informs_at None = tt
+  informs_at (Some text) = tt
+
+  declines_at : (b : Bool) → FormAt (declines b)
+  declines_at true = tt
+  declines_at false = tt
+
   by_at : (v : Word) (es : List Expr) → ListAt es → FormAt (command_by v es)
   by_at w.SetLogic [] h = tt
   by_at w.SetLogic (a ∷ []) h = skips_at (is_some (symbol_of a))
@@ -122,6 +134,30 @@ module _ (P : ℕ → Type 0) where
   by_at w.Reset (a ∷ es) h = tt
   by_at w.ResetAssertions [] h = tt
   by_at w.ResetAssertions (a ∷ es) h = tt
+  by_at w.Echo [] h = tt
+  by_at w.Echo (a ∷ []) h = echoes_at (string_of a)
+  by_at w.Echo (a ∷ (b ∷ es)) h = tt
+  by_at w.GetInfo [] h = tt
+  by_at w.GetInfo (a ∷ []) h = informs_at (keyword_of a)
+  by_at w.GetInfo (a ∷ (b ∷ es)) h = tt
+  by_at w.GetOption [] h = tt
+  by_at w.GetOption (a ∷ []) h = declines_at (is_keyword a)
+  by_at w.GetOption (a ∷ (b ∷ es)) h = tt
+  by_at w.GetValue [] h = tt
+  by_at w.GetValue (a ∷ []) h = declines_at (is_some (members_of a))
+  by_at w.GetValue (a ∷ (b ∷ es)) h = tt
+  by_at w.GetModel [] h = tt
+  by_at w.GetModel (a ∷ es) h = tt
+  by_at w.GetAssignment [] h = tt
+  by_at w.GetAssignment (a ∷ es) h = tt
+  by_at w.GetAssertions [] h = tt
+  by_at w.GetAssertions (a ∷ es) h = tt
+  by_at w.GetUnsatCore [] h = tt
+  by_at w.GetUnsatCore (a ∷ es) h = tt
+  by_at w.GetUnsatAssumptions [] h = tt
+  by_at w.GetUnsatAssumptions (a ∷ es) h = tt
+  by_at w.GetProof [] h = tt
+  by_at w.GetProof (a ∷ es) h = tt
   by_at w.Exit [] h = tt
   by_at w.Exit (a ∷ es) h = tt
 
@@ -211,6 +247,7 @@ module _ (P : ℕ → Type 0) where
   form_faults_at l at (Some (form.pop n)) h k = unless (nat_le n (length l.below)) (r.Profile at) h
   form_faults_at l at (Some form.reset) h k = tt
   form_faults_at l at (Some form.skip) h k = tt
+  form_faults_at l at (Some (form.say x)) h k = tt
   form_faults_at l at (Some form.exit) h k = tt
 
   -- the faults of what may be a command

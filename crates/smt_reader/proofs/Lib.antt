@@ -20,3 +20,5 @@ pub mod Single
 pub mod Together
 pub mod Replaying
 pub mod Stepping
+pub mod Replying
+pub mod Whole

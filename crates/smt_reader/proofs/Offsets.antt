@@ -130,8 +130,8 @@ module _ (P : ℕ → Type 0) where
   atom_at at k.LargeNumeral h = h
   atom_at at k.Decimal h = h
   atom_at at k.Hash h = h
-  atom_at at k.StringLiteral h = h
-  atom_at at k.Keyword h = h
+  atom_at at (k.StringLiteral text) h = h
+  atom_at at (k.Keyword text) h = h
   atom_at at (k.Symbol x) h = (h, h, tt)
 
   symbol_by : (at : ℕ) (a : AtomKind) → P at → SymbolAt (symbol_in at a)
@@ -140,8 +140,8 @@ module _ (P : ℕ → Type 0) where
   symbol_by at k.LargeNumeral h = tt
   symbol_by at k.Decimal h = tt
   symbol_by at k.Hash h = tt
-  symbol_by at k.StringLiteral h = tt
-  symbol_by at k.Keyword h = tt
+  symbol_by at (k.StringLiteral text) h = tt
+  symbol_by at (k.Keyword text) h = tt
 
   pub symbol_at : (e : Expr) → ExprAt e → SymbolAt (symbol_of e)
   symbol_at (atom a) h = symbol_by a.at a.kind h

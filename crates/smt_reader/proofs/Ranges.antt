@@ -8,7 +8,7 @@ use Rattle.smt_lists.specs.Expressions.{Expr, Exprs, atom, list, no_expr, and_ex
 use Rattle.smt_commands.specs.declared.words.Word.{Word}
 use Rattle.smt_commands.specs.declared.words.Word.TheVariants as w
 use Rattle.smt_commands.specs.Commands as form
-use Rattle.smt_commands.specs.Commands.{CommandForm, Symbol, command_behind, command_by, command_of, declares, defined, defines, is_argument, is_keyword, is_some, items, members_of, skips, symbol_of, assumes, levels_of, pops, pushes}
+use Rattle.smt_commands.specs.Commands.{CommandForm, Symbol, command_behind, command_by, command_of, declares, defined, defines, is_argument, is_keyword, is_some, items, keyword_of, members_of, skips, string_of, symbol_of, assumes, declines, echoes, informs, levels_of, pops, pushes}
 use Rattle.smt_commands.specs.Words.{word_of}
 use Rattle.smt_commands.specs.Faults as faults
 use Rattle.smt_commands.specs.Faults.{form_in}
@@ -19,7 +19,7 @@ use Rattle.smt_typing.specs.declared.forms.Head.TheVariants as head
 use Rattle.smt_typing.specs.Reading.{are_attributes, are_proper, atom_phrase, before, bindings_in, bound_by, bound_read, head_of, let_of, let_phrase, note_of, phrase_of, phrases_in, quantified_of, quantified_phrase, use_of, ill_by, variable_by, variable_of, variables_of}
 use Rattle.smt_commands.specs.Symbols.{sort_of}
 use Rattle.smt_typing.specs.Faults.{names_by, names_in}
-use Rattle.smt_reader.specs.Formed.{AreRangedExprs, IsRangedExpr, IsRangedAtom}
+use Rattle.smt_shorthand.specs.Ranged.{AreRangedExprs, IsRangedExpr, IsRangedAtom}
 use Rattle.smt_reader.proofs.Faultless.{left_true, right_true}
 use Rattle.smt_reader.proofs.Terms.{AreRangedBindings, AreRangedPhrases, IsRangedPhrase}
 
@@ -67,8 +67,8 @@ atom_ranged at (k.Numeral n) h = h
 atom_ranged at k.LargeNumeral h = tt
 atom_ranged at k.Decimal h = tt
 atom_ranged at k.Hash h = tt
-atom_ranged at k.StringLiteral h = tt
-atom_ranged at k.Keyword h = tt
+atom_ranged at (k.StringLiteral text) h = tt
+atom_ranged at (k.Keyword text) h = tt
 atom_ranged at (k.Symbol x) h = tt
 
 head_ranged : (at : ℕ) (h : Expr) (es : Exprs) (v : Head) → IsRangedPhrase (let_of at es) → ((all : Bool) → IsRangedPhrase (quantified_of at all es)) → IsRangedPhrase (note_of at es) → AreRangedPhrases (phrases_in es)
@@ -210,6 +210,18 @@ pops_ranged : (n : Option ℕ) → IsRangedForm (pops n)
 pops_ranged None = tt
 pops_ranged (Some n) = tt
 
+echoes_ranged : (text : Option (List ℕ)) → IsRangedForm (echoes text)
+echoes_ranged None = tt
+echoes_ranged (Some text) = tt
+
+informs_ranged : (text : Option (List ℕ)) → IsRangedForm (informs text)
+informs_ranged None = tt
+informs_ranged (Some text) = tt
+
+declines_ranged : (b : Bool) → IsRangedForm (declines b)
+declines_ranged true = tt
+declines_ranged false = tt
+
 by_ranged : (v : Word) (es : List Expr) → AllByRecursion IsRangedExpr es → IsRangedForm (command_by v es)
 by_ranged w.SetLogic [] h = tt
 by_ranged w.SetLogic (a ∷ []) h = skips_ranged (is_some (symbol_of a))
@@ -260,6 +272,30 @@ by_ranged w.Reset [] h = tt
 by_ranged w.Reset (a ∷ es) h = tt
 by_ranged w.ResetAssertions [] h = tt
 by_ranged w.ResetAssertions (a ∷ es) h = tt
+by_ranged w.Echo [] h = tt
+by_ranged w.Echo (a ∷ []) h = echoes_ranged (string_of a)
+by_ranged w.Echo (a ∷ (b ∷ es)) h = tt
+by_ranged w.GetInfo [] h = tt
+by_ranged w.GetInfo (a ∷ []) h = informs_ranged (keyword_of a)
+by_ranged w.GetInfo (a ∷ (b ∷ es)) h = tt
+by_ranged w.GetOption [] h = tt
+by_ranged w.GetOption (a ∷ []) h = declines_ranged (is_keyword a)
+by_ranged w.GetOption (a ∷ (b ∷ es)) h = tt
+by_ranged w.GetValue [] h = tt
+by_ranged w.GetValue (a ∷ []) h = declines_ranged (is_some (members_of a))
+by_ranged w.GetValue (a ∷ (b ∷ es)) h = tt
+by_ranged w.GetModel [] h = tt
+by_ranged w.GetModel (a ∷ es) h = tt
+by_ranged w.GetAssignment [] h = tt
+by_ranged w.GetAssignment (a ∷ es) h = tt
+by_ranged w.GetAssertions [] h = tt
+by_ranged w.GetAssertions (a ∷ es) h = tt
+by_ranged w.GetUnsatCore [] h = tt
+by_ranged w.GetUnsatCore (a ∷ es) h = tt
+by_ranged w.GetUnsatAssumptions [] h = tt
+by_ranged w.GetUnsatAssumptions (a ∷ es) h = tt
+by_ranged w.GetProof [] h = tt
+by_ranged w.GetProof (a ∷ es) h = tt
 by_ranged w.Exit [] h = tt
 by_ranged w.Exit (a ∷ es) h = tt
 

@@ -1,5 +1,5 @@
 -- The lists of a script have no more members than the text has bytes.
-use Rattle.std.proofs.Common.{ℕ, zero, suc, ◌≡◌, ◌≤◌, ◌-◌, Bool, true, false, List, [], ◌∷◌, ◌++◌, length, map, refl, sym, ap, subst, ◌∙◌, arith, Option, Some, None}
+use Rattle.std.proofs.Common.{◌+◌, ℕ, zero, suc, ◌≡◌, ◌≤◌, ◌-◌, Bool, true, false, List, [], ◌∷◌, ◌++◌, length, map, refl, sym, ap, subst, ◌∙◌, arith, Option, Some, None}
 use Rattle.std.specs.List.{All, AllByRecursion, list_all}
 use Rattle.std.proofs.lemmas.List.Elements.{All-cons}
 use Rattle.std.proofs.lemmas.List.{length-append, length-map}
@@ -15,14 +15,16 @@ use Rattle.smt_lists.specs.Grammar.{IsScriptText, SayAll, SaysSexp, more, nothin
 use Rattle.smt_commands.specs.declared.words.Word.{Word}
 use Rattle.smt_commands.specs.declared.words.Word.TheVariants as w
 use Rattle.smt_commands.specs.Commands as form
-use Rattle.smt_commands.specs.Commands.{CommandForm, Symbol, command_behind, command_by, command_of, declares, defined, defines, is_argument, is_keyword, is_some, items, members_of, skips, symbol_of, assumes, levels_of, pops, pushes}
+use Rattle.smt_commands.specs.Commands.{CommandForm, Symbol, command_behind, command_by, command_of, declares, defined, defines, is_argument, is_keyword, is_some, items, keyword_of, members_of, skips, string_of, symbol_of, assumes, declines, echoes, informs, levels_of, pops, pushes}
 use Rattle.smt_commands.specs.Words.{word_of}
 use Rattle.smt_commands.specs.Faults as faults
 use Rattle.smt_terms.specs.declared.term.Variable.{Variable}
 use Rattle.smt_typing.specs.Faults.{names_by, names_in}
 use Rattle.smt_typing.specs.Reading.{before, variable_of, variables_of}
 use Rattle.smt_reader.specs.Commands.{Act, DoesFew, acts_of, with_form}
-use Rattle.smt_reader.specs.Formed.{AreNarrow, IsNarrow, members}
+use Rattle.smt_shorthand.specs.Ranged.{AreNarrow, IsNarrow, members}
+use Rattle.smt_shorthand.proofs.Narrow.{written_narrow}
+use Rattle.smt_shorthand.specs.Writing.{written_out}
 
 -- Tokens.
 
@@ -128,6 +130,18 @@ pops_few : (n : ℕ) (k : Option ℕ) → FewArguments n (pops k)
 pops_few n None = tt
 pops_few n (Some k) = tt
 
+echoes_few : (n : ℕ) (text : Option (List ℕ)) → FewArguments n (echoes text)
+echoes_few n None = tt
+echoes_few n (Some text) = tt
+
+informs_few : (n : ℕ) (text : Option (List ℕ)) → FewArguments n (informs text)
+informs_few n None = tt
+informs_few n (Some text) = tt
+
+declines_few : (n : ℕ) (b : Bool) → FewArguments n (declines b)
+declines_few n true = tt
+declines_few n false = tt
+
 by_few : (n : ℕ) (v : Word) (es : List Expr) → AllByRecursion (IsNarrow n) es → FewArguments n (command_by v es)
 by_few n w.SetLogic [] h = tt
 by_few n w.SetLogic (a ∷ []) h = skips_few n (is_some (symbol_of a))
@@ -178,6 +192,30 @@ by_few n w.Reset [] h = tt
 by_few n w.Reset (a ∷ es) h = tt
 by_few n w.ResetAssertions [] h = tt
 by_few n w.ResetAssertions (a ∷ es) h = tt
+by_few n w.Echo [] h = tt
+by_few n w.Echo (a ∷ []) h = echoes_few n (string_of a)
+by_few n w.Echo (a ∷ (b ∷ es)) h = tt
+by_few n w.GetInfo [] h = tt
+by_few n w.GetInfo (a ∷ []) h = informs_few n (keyword_of a)
+by_few n w.GetInfo (a ∷ (b ∷ es)) h = tt
+by_few n w.GetOption [] h = tt
+by_few n w.GetOption (a ∷ []) h = declines_few n (is_keyword a)
+by_few n w.GetOption (a ∷ (b ∷ es)) h = tt
+by_few n w.GetValue [] h = tt
+by_few n w.GetValue (a ∷ []) h = declines_few n (is_some (members_of a))
+by_few n w.GetValue (a ∷ (b ∷ es)) h = tt
+by_few n w.GetModel [] h = tt
+by_few n w.GetModel (a ∷ es) h = tt
+by_few n w.GetAssignment [] h = tt
+by_few n w.GetAssignment (a ∷ es) h = tt
+by_few n w.GetAssertions [] h = tt
+by_few n w.GetAssertions (a ∷ es) h = tt
+by_few n w.GetUnsatCore [] h = tt
+by_few n w.GetUnsatCore (a ∷ es) h = tt
+by_few n w.GetUnsatAssumptions [] h = tt
+by_few n w.GetUnsatAssumptions (a ∷ es) h = tt
+by_few n w.GetProof [] h = tt
+by_few n w.GetProof (a ∷ es) h = tt
 by_few n w.Exit [] h = tt
 by_few n w.Exit (a ∷ es) h = tt
 
@@ -217,6 +255,7 @@ no_acts n i d h = absurd (omega (arith, h))
 form_on : (n : ℕ) (f : Option CommandForm) (rest : List Act) → FewArguments n f → All (DoesFew n) rest → All (DoesFew n) (with_form f rest)
 form_on n None rest h k = k
 form_on n (Some form.skip) rest h k = k
+form_on n (Some (form.say x)) rest h k = k
 form_on n (Some (form.declare x sorts s)) rest h k = All-cons (DoesFew n) _ rest h k
 form_on n (Some (form.define f arguments s t)) rest h k = All-cons (DoesFew n) _ rest (omega (arith, h, names_few arguments)) k
 form_on n (Some (form.assert t)) rest h k = All-cons (DoesFew n) _ rest tt k
@@ -230,5 +269,5 @@ acts_few : (n : ℕ) (es : List Expr) → AllByRecursion (IsNarrow n) es → All
 acts_few n [] h = no_acts n
 acts_few n (e ∷ es) h = form_on n (faults.form e) (acts_of es) (form_few n e h.0) (acts_few n es h.1)
 
-pub text_few : (bytes : List ℕ) (lists : List Sexp) → IsScriptText bytes lists → All (DoesFew (length bytes)) (acts_of (map expr lists))
-text_few bytes lists h = acts_few (length bytes) (map expr lists) (text_narrow bytes lists h)
+pub text_few : (bytes : List ℕ) (lists : List Sexp) → IsScriptText bytes lists → All (DoesFew (length bytes + 4)) (acts_of (written_out (map expr lists)))
+text_few bytes lists h = acts_few (length bytes + 4) (written_out (map expr lists)) (written_narrow (length bytes) (map expr lists) (text_narrow bytes lists h))

@@ -21,6 +21,7 @@ taken_at l c left other all h e = subst (λ z. AreTaken l c z all) e h
 -- an `exit` ends the script
 pub exit_ends : (f : CommandForm) (rest : List Act) → is_exit (Some f) ≡ true → with_form (Some f) rest ≡ []
 exit_ends form.skip rest e = absurd (cc)
+exit_ends (form.say x) rest e = absurd (cc)
 exit_ends (form.declare x sorts s) rest e = absurd (cc)
 exit_ends (form.define g arguments s t) rest e = absurd (cc)
 exit_ends (form.assert t) rest e = absurd (cc)

@@ -37,6 +37,7 @@ with_form (Some (form.pop n)) rest = leaves n ∷ rest
 with_form (Some form.reset) rest = restarts ∷ rest
 with_form (Some form.exit) rest = []
 with_form (Some form.skip) rest = rest
+with_form (Some (form.say x)) rest = rest
 with_form None rest = rest
 
 -- a command before others, where it does something

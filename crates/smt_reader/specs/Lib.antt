@@ -8,3 +8,5 @@ pub mod Order
 pub mod Following
 pub mod Poses
 pub mod Taking
+pub mod Replies
+pub mod Read

@@ -49,7 +49,7 @@ pub fn read_step(alloc: Global, command: Command<'_>) -> Result<Option<Step>, Me
     ensures { IfOk result (λ s. (rest : List Act) → is_exit (Some (form_of command.entry)) ≡ false → with_form (Some (form_of command.entry)) rest ≡ before (option_map act_is s) rest) }
 {
     match command {
-        Command::Skip | Command::Exit => Ok(None),
+        Command::Skip | Command::Say(_) | Command::Exit => Ok(None),
         Command::Declare(name, sorts, sort) => {
             let text = Items::from_slice(alloc, name.text)?;
             let declared = Effect::Declare(text, sorts.len() as u64, sort_or_int(sort));

@@ -10,6 +10,7 @@ mod forcing;
 mod laws;
 mod posing;
 mod reading;
+mod replies;
 mod scripts;
 
 pub use check_laws::{answers_law, checks_law, problem_law, refusal_law, sizes_law};
@@ -17,4 +18,5 @@ pub use effects::{Effect, Step, read_step};
 pub use laws::one_law;
 pub use posing::Script;
 pub use reading::read;
+pub use replies::Reply;
 pub use scripts::script;

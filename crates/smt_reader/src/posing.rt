@@ -10,6 +10,7 @@ ghost use Rattle.smt_reader.specs.Posed.{IsCheckPosed};
 ghost use Rattle.smt_reader.specs.Following.{AreClaims, FollowsState};
 
 use crate::following::{Assertion, Reading};
+use crate::replies::Reply;
 use form_typed::{Sort, Typed};
 use linear_term::Memory;
 use pri_typing::{Problem, copy_symbols, copy_texts};
@@ -19,10 +20,11 @@ use sqlite_items::{Boxed, Items};
 use std::alloc::Global;
 
 /// A script, by the problem of each `check-sat` in order: nothing satisfies the assertions in force there exactly where the problem
-/// holds.
+/// holds; and by what its commands ask to be told.
 #[derive(Drop)]
 pub struct Script {
     pub checks: Items<Problem>,
+    pub replies: Items<Reply>,
 }
 
 // The first ones of the defined functions, this many.

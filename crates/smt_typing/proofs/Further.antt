@@ -4,7 +4,7 @@ use Rattle.smt_lists.specs.Expressions.{Expr, place_of}
 use Rattle.smt_commands.specs.declared.refusal.ScriptRefusal.{ScriptRefusal}
 use Rattle.smt_commands.specs.declared.refusal.ScriptRefusal.TheVariants as r
 use Rattle.smt_commands.specs.declared.table.Entry.{Entry}
-use Rattle.smt_commands.specs.Commands.{CommandForm, skip, declare, define, assert, check_sat, push, pop, reset, exit}
+use Rattle.smt_commands.specs.Commands.{CommandForm, skip, say, declare, define, assert, check_sat, push, pop, reset, exit}
 use Rattle.smt_commands.specs.Levels.{Levels}
 use Rattle.smt_commands.specs.Faults.{TermFaults, behind, command_faults, form, or_later, refusal_from, unless_exit}
 use Rattle.smt_commands.specs.Least.{IsScriptRefused, least}
@@ -13,6 +13,7 @@ use Rattle.smt_typing.specs.Steps.{PassesCommand, StopsCommand, is_exit, symbols
 goes_on : (f : Option CommandForm) (later : Option ScriptRefusal) → is_exit f ≡ false → unless_exit f later ≡ later
 goes_on None later e = refl
 goes_on (Some skip) later e = refl
+goes_on (Some (say x)) later e = refl
 goes_on (Some (declare x sorts s)) later e = refl
 goes_on (Some (define f arguments s t)) later e = refl
 goes_on (Some (assert t)) later e = refl
@@ -25,6 +26,7 @@ goes_on (Some exit) later e = absurd (cc)
 stops : (f : Option CommandForm) (later : Option ScriptRefusal) → is_exit f ≡ true → unless_exit f later ≡ None
 stops None later e = absurd (cc)
 stops (Some skip) later e = absurd (cc)
+stops (Some (say x)) later e = absurd (cc)
 stops (Some (declare x sorts s)) later e = absurd (cc)
 stops (Some (define f arguments s t)) later e = absurd (cc)
 stops (Some (assert t)) later e = absurd (cc)
@@ -37,6 +39,7 @@ stops (Some exit) later e = refl
 going : (f : Option CommandForm) (here later : List Entry) → is_exit f ≡ false → unless_last f here later ≡ later
 going None here later e = refl
 going (Some skip) here later e = refl
+going (Some (say x)) here later e = refl
 going (Some (declare x sorts s)) here later e = refl
 going (Some (define f arguments s t)) here later e = refl
 going (Some (assert t)) here later e = refl
@@ -49,6 +52,7 @@ going (Some exit) here later e = absurd (cc)
 ending : (f : Option CommandForm) (here later : List Entry) → is_exit f ≡ true → unless_last f here later ≡ here
 ending None here later e = absurd (cc)
 ending (Some skip) here later e = absurd (cc)
+ending (Some (say x)) here later e = absurd (cc)
 ending (Some (declare x sorts s)) here later e = absurd (cc)
 ending (Some (define f arguments s t)) here later e = absurd (cc)
 ending (Some (assert t)) here later e = absurd (cc)

@@ -90,6 +90,7 @@ pub fn is_exit(command: Command<'_>) -> bool
     match command {
         Command::Exit => true,
         Command::Skip
+        | Command::Say(_)
         | Command::Declare(_, _, _)
         | Command::Define(_, _, _, _)
         | Command::Assert(_)
@@ -113,7 +114,7 @@ fn behind_command<T: Terms>(
     ensures refused { IfErr result (λ r. StopsCommand (record { faults = T.faults; uses = T.occurs }) scopes at (Some (form_of command.entry)) r) }
 {
     match command {
-        Command::Skip | Command::Exit => Ok(scopes),
+        Command::Skip | Command::Say(_) | Command::Exit => Ok(scopes),
         Command::Declare(name, sorts, sort) => scopes.declare(alloc, name, sorts, sort),
         Command::Define(name, arguments, sort, term) => {
             define(alloc, terms, scopes, at, name, arguments, sort, term)

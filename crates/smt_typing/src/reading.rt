@@ -178,7 +178,7 @@ fn read_atom(alloc: Global, a: &Atom) -> Result<Term, Memory>
             };
             Ok(Term::Use(a.at, name, Items::new(alloc)))
         }
-        AtomKind::Decimal | AtomKind::Hash | AtomKind::StringLiteral | AtomKind::Keyword => {
+        AtomKind::Decimal | AtomKind::Hash | AtomKind::StringLiteral(_) | AtomKind::Keyword(_) => {
             Ok(Term::Ill(a.at))
         }
     }

@@ -19,4 +19,6 @@ mod script_tokens;
 #[cfg(test)]
 mod scripts;
 #[cfg(test)]
+mod shorthand;
+#[cfg(test)]
 mod shown;

@@ -1,6 +1,6 @@
 -- What is answered of the job that was read is answered of each job that the words name.
 use Rattle.job_words.specs.Jobs.{check, drill, eliminate, find_values, minimise, run_script, solve, task_of}
-use Rattle.prover_job.proofs.Telling.{named_within, met_as, says_checked, says_valid, says_refuted, says_constraint, says_found, says_script, says_unfound, smt_caused, find_caused, says_least, says_nowhere, solve_caused, elim_caused, least_caused, check_caused, drill_caused}
+use Rattle.prover_job.proofs.Telling.{named_within, met_as, says_checked, says_valid, says_refuted, says_constraint, says_found, says_before, says_script, says_unfound, smt_caused, find_caused, says_least, says_nowhere, solve_caused, elim_caused, least_caused, check_caused, drill_caused}
 use Rattle.prover_job.proofs.runs.run.Goals as goal
 
 pub do_job-requires : goal.do_job-requires
@@ -37,6 +37,10 @@ returns-in-Ok-clause-find_causes g c = λ file budget proves names. find_caused 
 pub returns-in-Ok-clause-scripted : goal.returns-in-Ok-clause-scripted
 returns-in-Ok-clause-scripted g c = λ file budget names known. says_script _ budget (g.S.Source.bytes_of c.args.source.now file) _ _ _
     (met_as (g.S.Source.bytes_of c.args.source.now) _ (task_of c.in-Ok.job) (run_script file budget) _ _ _ c.words_law.ensures c.in-Ok.ensures.named names c.do_job.ensures.answered) known
+
+pub returns-in-Ok-clause-scripted_before : goal.returns-in-Ok-clause-scripted_before
+returns-in-Ok-clause-scripted_before g c = λ file budget names three. says_before _ budget (g.S.Source.bytes_of c.args.source.now file) _ _ _
+    (met_as (g.S.Source.bytes_of c.args.source.now) _ (task_of c.in-Ok.job) (run_script file budget) _ _ _ c.words_law.ensures c.in-Ok.ensures.named names c.do_job.ensures.answered) three
 
 pub returns-in-Ok-clause-minimised : goal.returns-in-Ok-clause-minimised
 returns-in-Ok-clause-minimised g c = λ file term budget names zero. says_least _ term budget (g.S.Source.bytes_of c.args.source.now file) _ _ _

@@ -1,0 +1,81 @@
+// Commands that only say something, whatever comes before them.
+
+ghost use Rattle.smt_commands.specs.Commands.{command_by, information};
+ghost use Rattle.smt_commands.specs.Views.{form_of, saying_of};
+ghost use Rattle.smt_lists.specs.Expressions.{expr};
+ghost use Rattle.std.specs.Option.{option_map};
+ghost use Rattle.std.specs.Prelude.{◌≡◌, map};
+ghost use Rattle.smt_commands.specs.declared.words.Word.TheVariants as w;
+
+use crate::command::{Command, alone};
+use crate::expressions::{is_keyword, keyword, members, string_text};
+use smt_lists::Sexp;
+
+/// What a command says, whatever comes before it (SMT-LIB 2.6, sections 4.1.7 and 4.2.8).
+#[derive(Clone, Copy)]
+pub enum Saying<'a> {
+    /// A string, by what stands between its quotes.
+    Echoed(&'a [u8]),
+    /// The name of the program.
+    Program,
+    /// Its authors.
+    Authors,
+    /// What it does after an error.
+    AfterError,
+    /// That it does not support this.
+    Unsupported,
+}
+
+/// `echo` with a string.
+pub(crate) fn echo(rest: &[Sexp]) -> Option<Command<'_>>
+    ensures exact { option_map form_of result ≡ command_by w.Echo (map expr rest.now) }
+{
+    let (string, end) = rest.split_first()?;
+    let text = string_text(string)?;
+    alone(end, Command::Say(Saying::Echoed(text)))
+}
+
+/// `get-info` with a keyword.
+pub(crate) fn get_info(rest: &[Sexp]) -> Option<Command<'_>>
+    ensures exact { option_map form_of result ≡ command_by w.GetInfo (map expr rest.now) }
+{
+    let (flag, end) = rest.split_first()?;
+    let flag = keyword(flag)?;
+    alone(end, Command::Say(information(flag)))
+}
+
+/// What is said of a flag of `get-info`.
+fn information(flag: &[u8]) -> Saying<'_>
+    ensures { saying_of result ≡ information flag.now }
+{
+    if flag == b":name".as_slice() {
+        return Saying::Program;
+    }
+    if flag == b":authors".as_slice() {
+        return Saying::Authors;
+    }
+    if flag == b":error-behavior".as_slice() {
+        return Saying::AfterError;
+    }
+    Saying::Unsupported
+}
+
+/// `get-option` with a keyword.
+pub(crate) fn get_option(rest: &[Sexp]) -> Option<Command<'_>>
+    ensures exact { option_map form_of result ≡ command_by w.GetOption (map expr rest.now) }
+{
+    let (option, end) = rest.split_first()?;
+    if !is_keyword(option) {
+        return None;
+    }
+    alone(end, Command::Say(Saying::Unsupported))
+}
+
+/// `get-value` with a list of terms.
+pub(crate) fn get_value(rest: &[Sexp]) -> Option<Command<'_>>
+    ensures exact { option_map form_of result ≡ command_by w.GetValue (map expr rest.now) }
+{
+    let (terms, end) = rest.split_first()?;
+    members(terms)?;
+    alone(end, Command::Say(Saying::Unsupported))
+}
