@@ -1,12 +1,11 @@
 -- Where each answer of `smt` comes.
-use Rattle.std.proofs.Common.{◌≡◌, ◌≢◌, ◌⊎◌, inl, inr, ℕ, suc, Bool, true, false, cond, List, [], ◌∷◌, ◌++◌, drop, get_or, refl, sym, ◌∙◌, ap, subst, codes, arith, Option, Some, None}
+use Rattle.std.proofs.Common.{◌≡◌, ◌≢◌, ◌⊎◌, ◌<◌, inl, inr, ℕ, suc, Bool, true, false, cond, List, [], ◌∷◌, ◌++◌, drop, get_or, map, refl, sym, ◌∙◌, ap, subst, codes, arith, Option, Some, None}
 use Rattle.std.specs.List.{Contains, list_any}
 use Rattle.std.proofs.lemmas.List.{append_cancel_right}
 use Rattle.pri_typing.specs.declared.problem.Problem.{Problem}
 use Rattle.pri_problem.specs.Encoded.{IsLarge}
 use Rattle.base_answers.specs.Answer.{Answer, refused_answer}
-use Rattle.smt_lists.specs.Expressions.{Expr}
-use Rattle.smt_reader.specs.Read.{read_as}
+use Rattle.smt_lists.specs.Expressions.{Expr, expr}
 use Rattle.smt_commands.specs.Commands.{CommandForm, Saying, after_error, authors, echoed, program, unsupported}
 use Rattle.smt_commands.specs.Commands as form
 use Rattle.smt_commands.specs.Faults as faults
@@ -17,7 +16,6 @@ use Rattle.smt_reader.specs.Replies.{replies, replies_behind, said_line}
 use Rattle.job_smt.specs.declared.checking.CheckAnswer.{CheckAnswer}
 use Rattle.job_smt.specs.declared.checking.CheckAnswer.TheVariants.{Unsat, Sat, Unknown}
 use Rattle.job_smt.specs.Answers.{AllAlike, AreFirstAnswers, is_unknown, lines_answer, refused_after, replied, word}
-use Rattle.smt_reader.specs.Read.{read_as}
 use Rattle.smt_reader.specs.Poses.{IsScriptWith}
 use Rattle.job_smt.specs.Answered.{IsBegun, IsSmtAnswer, answered, before, large, refusal_name, refused, told_further, told_short, told_whole}
 use Rattle.job_smt.specs.Causes.{AreAnswered, ComesOfScript, HasLargeCheck, IsRefusedAfter, IsSmtRefused, IsTextRefused, SmtCauses}
@@ -102,7 +100,7 @@ replied_quiet (reply.Check ∷ told) [] h = inl refl
 replied_quiet (reply.Check ∷ told) (a ∷ xs) h = inr (line_speaks (word a) (replied told xs) (word_speaks a))
 
 script_quiet : (bytes : List ℕ) (ps : List Problem) (told : List Reply) (xs : List CheckAnswer) → IsScriptWith bytes ps told → Quiet (replied told xs)
-script_quiet bytes ps told xs h = replied_quiet told xs (subst AllSpeak (sym h.replies) (replies_speak (read_as h.script.lists)))
+script_quiet bytes ps told xs h = replied_quiet told xs (subst AllSpeak (sym h.replies) (replies_speak (map expr h.script.lists)))
 
 begun_quiet : (budget : ℕ) (bytes text : List ℕ) → IsBegun budget bytes text → Quiet text
 begun_quiet budget bytes text (told_whole ps told xs h x e) = subst Quiet (sym e) (script_quiet bytes ps told xs h)

@@ -1,5 +1,5 @@
 -- The answers to checks, one after the other.
-use Rattle.std.proofs.Common.{◌≡◌, ◌<◌, ◌≤◌, ◌+◌, ℕ, Bool, true, false, List, [], ◌∷◌, ◌++◌, drop, get_or, length, sym, ◌∙◌, ap, subst, append_assoc, append-nil}
+use Rattle.std.proofs.Common.{◌≡◌, ◌<◌, ◌≤◌, ◌+◌, ℕ, Bool, true, false, List, [], ◌∷◌, ◌++◌, drop, get_or, length, refl, sym, ◌∙◌, ap, subst, append_assoc, append-nil}
 use Rattle.base_budget.proofs.Charging.{drop-item, drop_all}
 use Rattle.pri_typing.specs.declared.problem.Problem.{Problem}
 use Rattle.pri_problem.specs.Encoded.{IsLarge}

@@ -1,25 +1,27 @@
 -- The answer to a script, as the code makes it.
-use Rattle.std.proofs.Common.{◌≡◌, ◌≢◌, ◌<◌, ◌≤◌, ◌⊎◌, inl, inr, ℕ, Bool, true, false, cond, List, [], ◌∷◌, length, take, refl, sym, ap, subst, ◌∙◌, arith, codes, Result, Ok, Err, IfOk}
+use Rattle.std.proofs.Common.{◌≡◌, ◌≢◌, ◌<◌, ◌≤◌, ◌⊎◌, inl, inr, ℕ, Bool, true, false, cond, List, [], ◌∷◌, length, take, map, refl, sym, ap, subst, ◌∙◌, arith, codes, Result, Ok, Err, IfOk}
 use Rattle.std.specs.List.{All, list_any}
 use Rattle.std.proofs.lemmas.List.{length-take-le}
 use Rattle.std.specs.declared.alloc.Global.{Global}
 use Rattle.std.specs.declared.vec.Vec.{Vec}
+use Rattle.base_limits.specs.Limits.{most_levels, most_nodes}
 use Rattle.base_answers.specs.Answer.{answer_of, refused_answer}
 use Rattle.base_answers.specs.declared.output.Output.{Output}
 use Rattle.linear_term.specs.declared.range.Memory.{Memory}
 use Rattle.pri_typing.specs.declared.problem.Problem.{Problem}
 use Rattle.pri_typing.specs.WellFormed.{IsWellFormed}
+use Rattle.smt_lists.specs.Cuts.{last_cut}
+use Rattle.smt_commands.specs.Least.{place_in}
 use Rattle.smt_commands.specs.declared.refusal.ScriptRefusal.{ScriptRefusal}
 use Rattle.smt_commands.specs.declared.refusal.ScriptRefusal.TheVariants as fault
 use Rattle.smt_reader.specs.declared.replies.Reply.{Reply}
-use Rattle.smt_reader.specs.Read.{read_as}
-use Rattle.smt_reader.specs.Poses.{AreLarge, IsScriptRefusal, IsScriptWith, checks_in}
+use Rattle.smt_reader.specs.Poses.{AreLarge, IsScriptOf, IsScriptRefusal, IsScriptWith, checks_in}
 use Rattle.smt_reader.proofs.Single.{one_lists, only_memory}
 use Rattle.smt_reader.proofs.Whole.{empty_said}
 use Rattle.job_smt.specs.declared.checking.CheckAnswer.{CheckAnswer}
 use Rattle.job_smt.specs.declared.lines.Answers.{Answers}
 use Rattle.job_smt.specs.Lines.{AreGiven, AreGivenBy}
-use Rattle.job_smt.specs.Answers.{is_unknown, refused_after, replied}
+use Rattle.job_smt.specs.Answers.{AreCheckAnswers, AreFirstAnswers, is_unknown, lines_answer, refused_after, replied}
 use Rattle.job_smt.specs.Answered.{IsBegun, IsSmtAnswer, answered, before, large, refusal_name, refused, told_further, told_short, told_whole}
 use Rattle.job_smt.proofs.Meaning.{alone_of, formed_of}
 
@@ -83,7 +85,7 @@ none_large (inr h) = omega (arith, h)
 pub refused_some : (bytes : List ℕ) (e : ScriptRefusal) → IsScriptRefusal bytes e → e ≢ fault.Memory → 0 < length bytes
 refused_some (b ∷ bytes) e h m = omega arith
 refused_some [] e (inl h) m = absurd (m (only_memory [] [] e empty_said refl h))
-refused_some [] e (inr h) m = absurd (none_large (subst (λ z. AreLarge (checks_in (read_as z))) (one_lists [] h.1.lists [] h.1.said empty_said) h.1.large.large))
+refused_some [] e (inr h) m = absurd (none_large (subst (λ z. AreLarge (checks_in z)) (one_lists [] h.1.lists [] h.1.said empty_said) h.1.large.large))
 
 within_text : (bytes : List ℕ) (cut : ℕ) (e : ScriptRefusal) → IsScriptRefusal bytes e → e ≢ fault.Memory → (cut < length bytes) ⊎ (cut ≡ 0) → cut < length bytes
 within_text bytes cut e h m (inl l) = l

@@ -1,10 +1,10 @@
 -- Each line says what is so of its check.
-use Rattle.std.proofs.Common.{◌≡◌, ◌⊎◌, inl, inr, Bool, true, false, cond, ℕ, suc, List, [], ◌∷◌, ◌++◌, take, drop, map, refl, sym, ap, subst, ◌∙◌, arith, codes, append_assoc, append-nil}
+use Rattle.std.proofs.Common.{◌≡◌, ◌⊎◌, inl, inr, Bool, true, false, cond, ℕ, suc, List, [], ◌∷◌, ◌++◌, take, drop, length, map, refl, sym, ap, subst, ◌∙◌, arith, codes, append_assoc, append-nil}
 use Rattle.std.specs.List.{All, list_any}
 use Rattle.std.proofs.lemmas.List.{take-append-drop}
 use Rattle.std.proofs.lemmas.List.Elements.{All-cons}
 use Rattle.smt_lists.specs.Cuts.{last_cut}
-use Rattle.smt_reader.specs.Read.{read_as}
+use Rattle.smt_lists.specs.Expressions.{expr}
 use Rattle.form_typed.specs.Truth.{Meaning}
 use Rattle.pri_typing.specs.declared.problem.Problem.{Problem}
 use Rattle.pri_typing.specs.WellFormed.{IsWellFormed}
@@ -77,7 +77,7 @@ never_three true e = cc
 never_three false e = cc
 
 -- the formulas of the checks of a script are sound
-formed_script : (bytes : List ℕ) (ps : List Problem) (h : IsScriptOf bytes ps) → All IsFormedCheck (checks_in (read_as h.lists))
+formed_script : (bytes : List ℕ) (ps : List Problem) (h : IsScriptOf bytes ps) → All IsFormedCheck (checks_in h.lists)
 formed_script bytes ps h = text_checks bytes h.lists h.said h.posed.fits
 
 pub means_all : (w : Meaning) (budget : ℕ) (bytes : List ℕ) (a : Answer) → IsSmtAnswer budget bytes a → (a.status ≡ 0) ⊎ (a.status ≡ 2) → Scripted w bytes a.text
@@ -90,13 +90,13 @@ means_all w budget bytes a (answered ps told xs h are is) s =
       fits = h.script.posed.fits;
       answers = xs;
       lines = ap (λ (z : Answer). z.text) is ∙ ap (λ z. replied z xs) h.replies;
-      mean = all_mean w budget (questions (acts_of (read_as h.script.lists))) ps xs (formed_script bytes ps h.script) h.script.posed.posed are;
+      mean = all_mean w budget (questions (acts_of (map expr h.script.lists))) ps xs (formed_script bytes ps h.script) h.script.posed.posed are;
     }
 
 -- what is told of a beginning of a text, before a refusal of this name
 begun_means : (w : Meaning) (budget : ℕ) (whole bytes rest text name : List ℕ) → whole ≡ bytes ++ rest → IsBegun budget bytes text → ScriptedBefore w whole (text ++ (refused_answer name).text)
 begun_means w budget whole bytes rest text name parts (told_whole ps told xs h are is) =
-    let asked : List (List Command) = questions (acts_of (read_as h.script.lists)) in
+    let asked : List (List Command) = questions (acts_of (map expr h.script.lists)) in
     record {
       kept = bytes;
       rest = rest;
@@ -120,7 +120,7 @@ begun_means w budget whole bytes rest text name parts (told_short ps told xs h a
       answers = xs;
       name = name;
       lines = ap (λ z. z ++ (refused_answer name).text) (is ∙ ap (λ z. replied z xs) h.replies);
-      mean = first_mean w budget (questions (acts_of (read_as h.script.lists))) ps xs (formed_script bytes ps h.script) h.script.posed.posed are;
+      mean = first_mean w budget (questions (acts_of (map expr h.script.lists))) ps xs (formed_script bytes ps h.script) h.script.posed.posed are;
     }
 begun_means w budget whole bytes rest text name parts (told_further e h m b) =
     let n : ℕ = last_cut bytes (place_in e) in
@@ -144,7 +144,7 @@ formed_all (s ∷ ss) (p ∷ ps) f h = All-cons IsWellFormed p ps (well_formed s
 
 pub formed_of : (bytes : List ℕ) (ps xs : List Problem) → IsScriptOf bytes ps → xs ≡ ps → All IsWellFormed xs
 formed_of bytes ps xs h is =
-    subst (All IsWellFormed) (sym is) (formed_all (checks_in (read_as h.lists)) ps (text_checks bytes h.lists h.said h.posed.fits) h.posed.posed)
+    subst (All IsWellFormed) (sym is) (formed_all (checks_in h.lists) ps (text_checks bytes h.lists h.said h.posed.fits) h.posed.posed)
 
 pub alone_all : (ss : List State) (ps : List Problem) → ArePosed ss ps → All (λ p. p.existentials ≡ []) ps
 alone_all [] [] h = λ i d k. absurd (omega (arith, k))
@@ -153,7 +153,7 @@ alone_all (s ∷ ss) [] h = absurd h
 alone_all (s ∷ ss) (p ∷ ps) h = All-cons (λ p. p.existentials ≡ []) p ps (h.0).existentials (alone_all ss ps h.1)
 
 pub alone_of : (bytes : List ℕ) (ps xs : List Problem) → IsScriptOf bytes ps → xs ≡ ps → All (λ p. p.existentials ≡ []) xs
-alone_of bytes ps xs h is = subst (All (λ p. p.existentials ≡ [])) (sym is) (alone_all (checks_in (read_as h.lists)) ps h.posed.posed)
+alone_of bytes ps xs h is = subst (All (λ p. p.existentials ≡ [])) (sym is) (alone_all (checks_in h.lists) ps h.posed.posed)
 
 unknown_status : (b : Bool) → IsAnswerStatus (cond b 2 0)
 unknown_status true = refl

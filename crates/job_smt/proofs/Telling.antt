@@ -1,5 +1,5 @@
 -- The text and the status of answers, one after the other.
-use Rattle.std.proofs.Common.{◌≡◌, ℕ, cond, List, [], ◌∷◌, ◌++◌, refl, sym, ◌∙◌, ap, append_assoc, append-nil}
+use Rattle.std.proofs.Common.{◌≡◌, ℕ, Bool, true, false, cond, List, [], ◌∷◌, ◌++◌, refl, sym, ◌∙◌, ap, append_assoc, append-nil}
 use Rattle.std.specs.List.{list_any}
 use Rattle.smt_reader.specs.declared.replies.Reply.{Reply}
 use Rattle.smt_reader.specs.declared.replies.Reply.TheVariants as reply

@@ -1,5 +1,5 @@
 -- What the lines of the answer to a script mean (SMT-LIB 2.6, section 4.2.6).
-use Rattle.std.specs.Prelude.{◌≡◌, ℕ, ℤ, List, [], ◌∷◌, ◌++◌, length, None}
+use Rattle.std.specs.Prelude.{◌≡◌, ℕ, ℤ, List, [], ◌∷◌, ◌++◌, length, map, None}
 use Rattle.smt_lists.specs.declared.tree.Sexp.{Sexp}
 use Rattle.form_typed.specs.Truth.{Meaning}
 use Rattle.smt_terms.specs.Scripts.{IsSatisfied, State}
@@ -8,7 +8,7 @@ use Rattle.job_smt.specs.declared.checking.CheckAnswer.{CheckAnswer}
 use Rattle.job_smt.specs.declared.checking.CheckAnswer.TheVariants.{Unsat, Sat, Unknown}
 use Rattle.base_answers.specs.Answer.{refused_answer}
 use Rattle.job_smt.specs.Answers.{replied}
-use Rattle.smt_reader.specs.Read.{read_as}
+use Rattle.smt_lists.specs.Expressions.{expr}
 use Rattle.smt_lists.specs.Grammar.{IsScriptText}
 use Rattle.smt_commands.specs.Faults.{refusal_of}
 use Rattle.smt_reader.specs.Commands.{script_terms}
@@ -40,10 +40,10 @@ FirstMean w (s ∷ ss) (a ∷ xs) = Means w s a × FirstMean w ss xs
 pub record Scripted (w : Meaning) (bytes text : List ℕ) : Type 0 where
   pub lists : List Sexp
   pub said : IsScriptText bytes lists
-  pub fits : refusal_of script_terms (read_as lists) ≡ None
+  pub fits : refusal_of script_terms (map expr lists) ≡ None
   pub answers : List CheckAnswer
-  pub lines : text ≡ replied (replies (read_as lists)) answers
-  pub mean : AllMean w (checks_in (read_as lists)) answers
+  pub lines : text ≡ replied (replies (map expr lists)) answers
+  pub mean : AllMean w (checks_in lists) answers
 
 -- a beginning of the bytes is a script without faults, the text tells answers to its first checks and what its other commands say, each
 -- answer says what is so, and a refusal stands after them
@@ -53,8 +53,8 @@ pub record ScriptedBefore (w : Meaning) (bytes text : List ℕ) : Type 0 where
   pub parts : bytes ≡ kept ++ rest
   pub lists : List Sexp
   pub said : IsScriptText kept lists
-  pub fits : refusal_of script_terms (read_as lists) ≡ None
+  pub fits : refusal_of script_terms (map expr lists) ≡ None
   pub answers : List CheckAnswer
   pub name : List ℕ
-  pub lines : text ≡ replied (replies (read_as lists)) answers ++ (refused_answer name).text
-  pub mean : FirstMean w (checks_in (read_as lists)) answers
+  pub lines : text ≡ replied (replies (map expr lists)) answers ++ (refused_answer name).text
+  pub mean : FirstMean w (checks_in lists) answers

@@ -84,7 +84,7 @@ fn end_slip<'a>(script: Script<'a>) -> Slip<'a> {
 }
 
 /// The commands that are read.
-pub(crate) const READ: [&str; 28] = [
+pub(crate) const READ: [&str; 25] = [
     "set-logic",
     "set-info",
     "set-option",
@@ -92,9 +92,6 @@ pub(crate) const READ: [&str; 28] = [
     "declare-fun",
     "define-fun",
     "define-const",
-    "define-sort",
-    "define-fun-rec",
-    "define-funs-rec",
     "assert",
     "check-sat",
     "check-sat-assuming",

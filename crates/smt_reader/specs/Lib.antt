@@ -9,4 +9,3 @@ pub mod Following
 pub mod Poses
 pub mod Taking
 pub mod Replies
-pub mod Read

@@ -2,7 +2,7 @@
 -- whatever comes before them.
 use Rattle.std.specs.Prelude.{ℕ, List, [], ◌∷◌, ◌++◌, codes, Option, Some, None}
 use Rattle.smt_lists.specs.Expressions.{Expr}
-use Rattle.smt_commands.specs.Commands.{CommandForm, Saying, say, check_sat, exit, echoed, program, authors, after_error, unsupported}
+use Rattle.smt_commands.specs.Commands.{CommandForm, Saying, skip, say, declare, define, assert, check_sat, push, pop, reset, exit, echoed, program, authors, after_error, unsupported}
 use Rattle.smt_commands.specs.Faults.{form}
 use Rattle.smt_reader.specs.declared.replies.Reply.{Reply}
 use Rattle.smt_reader.specs.declared.replies.Reply.TheVariants as r

@@ -19,6 +19,4 @@ mod script_tokens;
 #[cfg(test)]
 mod scripts;
 #[cfg(test)]
-mod shorthand;
-#[cfg(test)]
 mod shown;
