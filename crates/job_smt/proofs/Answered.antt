@@ -19,7 +19,6 @@ use Rattle.model_refuting.proofs.Refuted as refuting
 use Rattle.model_runs.proofs.Problems as saturated
 use Rattle.model_runs.specs.Ends.{run_end}
 use Rattle.search.proofs.Telling.{answer_tells}
-use Rattle.job_smt.specs.declared.checking.CheckAnswer.{CheckAnswer}
 use Rattle.job_smt.specs.declared.checking.CheckAnswer.TheVariants.{Unsat, Sat}
 use Rattle.job_clauses.proofs.Proving.{clauses_hold}
 use Rattle.job_smt.specs.Answers.{IsCheckAnswer, ends, leaves, proved, refuted, told}

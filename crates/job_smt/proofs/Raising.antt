@@ -1,13 +1,11 @@
 -- What a part of a run says of a check.
 use Rattle.std.proofs.Common.{◌≡◌, ◌≤◌, ℕ, pos, [], min, refl, sym, ◌∙◌, ap, subst, arith}
 use Rattle.base_budget.specs.Ending.{Ending, ends_with, out_of_steps, overflows}
-use Rattle.job_clauses.specs.Judged.{IsClauseFile}
 use Rattle.job_parts.specs.Parts.{IsCut, IsCutEarly, first_part, longer_part}
 use Rattle.job_parts.proofs.Raising.{run_raised}
 use Rattle.job_smt.specs.declared.checking.CheckAnswer.{CheckAnswer}
 use Rattle.job_smt.specs.declared.checking.CheckAnswer.TheVariants.{Unsat, Sat, Unknown}
 use Rattle.job_smt.specs.Answers.{IsCheckAnswer, ends, told}
-use Rattle.linear_term.specs.declared.range.Place.{Place}
 use Rattle.model_runs.specs.Ends.{run_end}
 use Rattle.pri_problem.specs.Encoded.{Fits}
 use Rattle.pri_typing.specs.declared.problem.Problem.{Problem}

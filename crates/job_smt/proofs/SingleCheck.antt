@@ -3,7 +3,7 @@ use Rattle.std.proofs.Common.{ℕ, ◌≡◌, inl, inr, true, false, [], refl, s
 use Rattle.form_encoding.specs.Problems.{is_large, problem_root}
 use Rattle.pri_typing.specs.WellFormed.{IsWellFormed}
 use Rattle.pri_typing.specs.declared.problem.Problem.{Problem}
-use Rattle.pri_problem.specs.Encoded.{Fits, IsLarge}
+use Rattle.pri_problem.specs.Encoded.{IsLarge}
 use Rattle.pri_problem.specs.Reads.{AreSame}
 use Rattle.pri_problem.proofs.Encoded.{root_same}
 use Rattle.job_smt.specs.declared.checking.CheckAnswer.{CheckAnswer}

@@ -1,5 +1,5 @@
 -- The answer to a check: by the end of the canonical run on its problem, by a clause proof, or by a finite model (SMT-LIB 2.6, section
--- 4.2.6). A model may stand beside it, for `get-model`.
+-- 4.2.6).
 use Rattle.std.specs.Prelude.{◌≡◌, ◌⊎◌, ℕ, ℤ, Bool, true, false, cond, List, [], ◌∷◌, ◌++◌, codes, Option, Some, None}
 use Rattle.std.specs.List.{list_any}
 use Rattle.search.specs.declared.judge.Decided.{Decided}
@@ -19,8 +19,6 @@ use Rattle.smt_reader.specs.declared.replies.Reply.{Reply}
 use Rattle.smt_reader.specs.declared.replies.Reply.TheVariants as reply
 use Rattle.job_smt.specs.declared.checking.CheckAnswer.{CheckAnswer}
 use Rattle.job_smt.specs.declared.checking.CheckAnswer.TheVariants.{Unsat, Sat, Unknown}
-use Rattle.job_smt.specs.declared.models.Checked.{Checked}
-use Rattle.smt_models.specs.Models.{model_text}
 
 -- what the end of a run says of a check: its problem is the negation of what is asserted
 abbrev pub told : Ending run.RunAnswer → CheckAnswer
@@ -49,30 +47,15 @@ abbrev pub IsCheckOutcome : ℕ → Problem → Option CheckAnswer → Type 0
 IsCheckOutcome budget p None = IsLarge p
 IsCheckOutcome budget p (Some a) = IsCheckAnswer budget p a
 
--- the text, if there is one, is that of a model that refutes the problem
-abbrev pub IsModelText : Problem → Option (List ℕ) → Type 0
-IsModelText p None = Unit {0}
-IsModelText p (Some t) = (m : Model) × (us : List ℤ) × IsModelCounterexample p [] m us × (t ≡ model_text p m us)
-
--- the answer to the check with this problem, and a model of it
-abbrev pub IsChecked : ℕ → Problem → Checked → Type 0
-IsChecked budget p a = IsCheckAnswer budget p a.answer × IsModelText p a.model
-
--- what comes of a check with its model
-abbrev pub IsCheckedOutcome : ℕ → Problem → Option Checked → Type 0
-IsCheckedOutcome budget p None = IsLarge p
-IsCheckedOutcome budget p (Some a) = IsChecked budget p a
-
 -- two answers to a check do not contradict each other: they are the same, or one says nothing
 abbrev pub AreAlike : CheckAnswer → CheckAnswer → Type 0
 AreAlike a b = (a ≡ b) ⊎ ((a ≡ Unknown) ⊎ (b ≡ Unknown))
 
--- so it is with all; their models may differ
-abbrev pub AllAlike : List Checked → List Checked → Type 0
+abbrev pub AllAlike : List CheckAnswer → List CheckAnswer → Type 0
 AllAlike [] [] = Unit {0}
 AllAlike [] (b ∷ ys) = ⊥
 AllAlike (a ∷ xs) [] = ⊥
-AllAlike (a ∷ xs) (b ∷ ys) = AreAlike a.answer b.answer × AllAlike xs ys
+AllAlike (a ∷ xs) (b ∷ ys) = AreAlike a b × AllAlike xs ys
 
 -- ---- the answer to all checks
 
@@ -87,54 +70,40 @@ is_unknown Unsat = false
 is_unknown Sat = false
 is_unknown Unknown = true
 
--- the check has the answer `unknown`
-abbrev pub is_open : Checked → Bool
-is_open a = is_unknown a.answer
-
--- what `get-model` is answered: the model of the last check, or that there is none
-abbrev pub shown : Option (List ℕ) → List ℕ
-shown None = codes "(error \"there is no model\")\n"
-shown (Some t) = t
-
--- What is told of these replies, where `get-model` is first answered so: the answers to the checks in their order, models, and what the
--- other commands say; up to a check without an answer.
-abbrev pub replied_from : List ℕ → List Reply → List Checked → List ℕ
-replied_from m [] xs = []
-replied_from m (reply.Says text ∷ told) xs = text ++ replied_from m told xs
-replied_from m (reply.Model ∷ told) xs = m ++ replied_from m told xs
-replied_from m (reply.Check ∷ told) [] = []
-replied_from m (reply.Check ∷ told) (a ∷ xs) = word a.answer ++ replied_from (shown a.model) told xs
-
--- that of a whole script: before its first check there is no model
-abbrev pub replied : List Reply → List Checked → List ℕ
-replied told xs = replied_from (shown None) told xs
+-- What is told of these replies: the answers to the checks in their order, and what the other commands say; up to a check without an
+-- answer.
+abbrev pub replied : List Reply → List CheckAnswer → List ℕ
+replied [] xs = []
+replied (reply.Says text ∷ told) xs = text ++ replied told xs
+replied (reply.Check ∷ told) [] = []
+replied (reply.Check ∷ told) (a ∷ xs) = word a ++ replied told xs
 
 -- that, with the status 2 where an answer is `unknown`, and else 0
-abbrev pub lines_answer : List Reply → List Checked → Answer
-lines_answer told xs = record { status = cond (list_any is_open xs) 2 0; text = replied told xs }
+abbrev pub lines_answer : List Reply → List CheckAnswer → Answer
+lines_answer told xs = record { status = cond (list_any is_unknown xs) 2 0; text = replied told xs }
 
 -- the line of a refusal after a text
 abbrev pub refused_after : List ℕ → List ℕ → Answer
 refused_after text name = record { status = 3; text = text ++ (refused_answer name).text }
 
 -- an answer to each check, each with this budget
-abbrev pub AreCheckAnswers : ℕ → List Problem → List Checked → Type 0
+abbrev pub AreCheckAnswers : ℕ → List Problem → List CheckAnswer → Type 0
 AreCheckAnswers budget [] [] = Unit {0}
 AreCheckAnswers budget [] (a ∷ xs) = ⊥
 AreCheckAnswers budget (p ∷ ps) [] = ⊥
-AreCheckAnswers budget (p ∷ ps) (a ∷ xs) = IsChecked budget p a × AreCheckAnswers budget ps xs
+AreCheckAnswers budget (p ∷ ps) (a ∷ xs) = IsCheckAnswer budget p a × AreCheckAnswers budget ps xs
 
 -- an answer to each check up to one whose encoding is too large
-abbrev pub AreFirstAnswers : ℕ → List Problem → List Checked → Type 0
+abbrev pub AreFirstAnswers : ℕ → List Problem → List CheckAnswer → Type 0
 AreFirstAnswers budget [] xs = ⊥
 AreFirstAnswers budget (p ∷ ps) [] = IsLarge p
-AreFirstAnswers budget (p ∷ ps) (a ∷ xs) = IsChecked budget p a × AreFirstAnswers budget ps xs
+AreFirstAnswers budget (p ∷ ps) (a ∷ xs) = IsCheckAnswer budget p a × AreFirstAnswers budget ps xs
 
 -- two answers to a script tell of the same replies, with answers to the checks that are alike, to all of them or
 -- before the same refusal
 pub data AreOneAnswer (a b : Answer) : Type 0 where
-  whole : (told : List Reply) (xs ys : List Checked) → a ≡ lines_answer told xs → b ≡ lines_answer told ys → AllAlike xs ys → AreOneAnswer a b
-  before : (name : List ℕ) (told : List Reply) (xs ys : List Checked) → a ≡ refused_after (replied told xs) name → b ≡ refused_after (replied told ys) name → AllAlike xs ys → AreOneAnswer a b
+  whole : (told : List Reply) (xs ys : List CheckAnswer) → a ≡ lines_answer told xs → b ≡ lines_answer told ys → AllAlike xs ys → AreOneAnswer a b
+  before : (name : List ℕ) (told : List Reply) (xs ys : List CheckAnswer) → a ≡ refused_after (replied told xs) name → b ≡ refused_after (replied told ys) name → AllAlike xs ys → AreOneAnswer a b
 
 -- ---- as the code has it
 abbrev pub told_of : Decided → CheckAnswer

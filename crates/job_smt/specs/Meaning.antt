@@ -1,19 +1,14 @@
 -- What the lines of the answer to a script mean (SMT-LIB 2.6, section 4.2.6).
-use Rattle.std.specs.Prelude.{◌≡◌, ℕ, ℤ, List, [], ◌∷◌, ◌++◌, length, map, Option, Some, None}
+use Rattle.std.specs.Prelude.{◌≡◌, ℕ, ℤ, List, [], ◌∷◌, ◌++◌, length, None}
 use Rattle.smt_lists.specs.declared.tree.Sexp.{Sexp}
 use Rattle.form_typed.specs.Truth.{Meaning}
 use Rattle.smt_terms.specs.Scripts.{IsSatisfied, State}
-use Rattle.model_table.specs.Models.{meaning_of}
-use Rattle.model_table.specs.declared.model.Model.{Model}
-use Rattle.pri_typing.specs.declared.problem.Problem.{Problem}
-use Rattle.smt_models.specs.Models.{model_text}
-use Rattle.smt_reader.specs.Posed.{IsCheckPosed, IsSatisfiable}
+use Rattle.smt_reader.specs.Posed.{IsSatisfiable}
 use Rattle.job_smt.specs.declared.checking.CheckAnswer.{CheckAnswer}
-use Rattle.job_smt.specs.declared.models.Checked.{Checked}
 use Rattle.job_smt.specs.declared.checking.CheckAnswer.TheVariants.{Unsat, Sat, Unknown}
 use Rattle.base_answers.specs.Answer.{refused_answer}
 use Rattle.job_smt.specs.Answers.{replied}
-use Rattle.smt_lists.specs.Expressions.{expr}
+use Rattle.smt_reader.specs.Read.{read_as}
 use Rattle.smt_lists.specs.Grammar.{IsScriptText}
 use Rattle.smt_commands.specs.Faults.{refusal_of}
 use Rattle.smt_reader.specs.Commands.{script_terms}
@@ -27,47 +22,28 @@ Means w s Unsat = (u : List ℤ) → length u ≡ length s.constants → ¬ (IsS
 Means w s Sat = IsSatisfiable s
 Means w s Unknown = Unit {0}
 
--- The text is that of a model of the check: with its tables and its integers of the Int constants each assertion is true.
-pub record ShowsModel (s : State) (text : List ℕ) : Type 0 where
-  pub problem : Problem
-  pub model : Model
-  pub constants : List ℤ
-  pub posed : IsCheckPosed s problem
-  pub fit : length constants ≡ length s.constants
-  pub satisfies : IsSatisfied (meaning_of model) constants s
-  pub shown : text ≡ model_text problem model constants
-
--- so it is where there is a text
-abbrev pub ShowsModels : State → Option (List ℕ) → Type 0
-ShowsModels s None = Unit {0}
-ShowsModels s (Some text) = ShowsModel s text
-
--- the answer says so of its check, and the model is one of it
-abbrev pub MeansAll : Meaning → State → Checked → Type 0
-MeansAll w s a = Means w s a.answer × ShowsModels s a.model
-
 -- each answer says so of its check
-abbrev pub AllMean : Meaning → List State → List Checked → Type 0
+abbrev pub AllMean : Meaning → List State → List CheckAnswer → Type 0
 AllMean w [] [] = Unit {0}
 AllMean w [] (a ∷ xs) = ⊥
 AllMean w (s ∷ ss) [] = ⊥
-AllMean w (s ∷ ss) (a ∷ xs) = MeansAll w s a × AllMean w ss xs
+AllMean w (s ∷ ss) (a ∷ xs) = Means w s a × AllMean w ss xs
 
 -- so does each answer, to the first checks
-abbrev pub FirstMean : Meaning → List State → List Checked → Type 0
+abbrev pub FirstMean : Meaning → List State → List CheckAnswer → Type 0
 FirstMean w ss [] = Unit {0}
 FirstMean w [] (a ∷ xs) = ⊥
-FirstMean w (s ∷ ss) (a ∷ xs) = MeansAll w s a × FirstMean w ss xs
+FirstMean w (s ∷ ss) (a ∷ xs) = Means w s a × FirstMean w ss xs
 
 -- the bytes are a script without faults, the text tells answers to its checks and what its other commands say, and each answer says what
 -- is so
 pub record Scripted (w : Meaning) (bytes text : List ℕ) : Type 0 where
   pub lists : List Sexp
   pub said : IsScriptText bytes lists
-  pub fits : refusal_of script_terms (map expr lists) ≡ None
-  pub answers : List Checked
-  pub lines : text ≡ replied (replies (map expr lists)) answers
-  pub mean : AllMean w (checks_in lists) answers
+  pub fits : refusal_of script_terms (read_as lists) ≡ None
+  pub answers : List CheckAnswer
+  pub lines : text ≡ replied (replies (read_as lists)) answers
+  pub mean : AllMean w (checks_in (read_as lists)) answers
 
 -- a beginning of the bytes is a script without faults, the text tells answers to its first checks and what its other commands say, each
 -- answer says what is so, and a refusal stands after them
@@ -77,8 +53,8 @@ pub record ScriptedBefore (w : Meaning) (bytes text : List ℕ) : Type 0 where
   pub parts : bytes ≡ kept ++ rest
   pub lists : List Sexp
   pub said : IsScriptText kept lists
-  pub fits : refusal_of script_terms (map expr lists) ≡ None
-  pub answers : List Checked
+  pub fits : refusal_of script_terms (read_as lists) ≡ None
+  pub answers : List CheckAnswer
   pub name : List ℕ
-  pub lines : text ≡ replied (replies (map expr lists)) answers ++ (refused_answer name).text
-  pub mean : FirstMean w (checks_in lists) answers
+  pub lines : text ≡ replied (replies (read_as lists)) answers ++ (refused_answer name).text
+  pub mean : FirstMean w (checks_in (read_as lists)) answers

@@ -7,7 +7,6 @@ mod check_laws;
 mod checking;
 mod laws;
 mod lines;
-mod models;
 mod refusals;
 
 pub use answering::answer;

@@ -262,5 +262,6 @@ fn is_declaration(text: &[u8]) -> bool {
     text == b"declare-const".as_slice()
         || text == b"declare-fun".as_slice()
         || text == b"define-fun".as_slice()
+        || text == b"define-fun-rec".as_slice()
         || text == b"define-const".as_slice()
 }

@@ -14,27 +14,46 @@ pub(crate) fn command_slip<'a>(script: Script<'a>, k: usize) -> Slip<'a> {
     if let Some(sentence) = unread_sentence(name) {
         return Slip::new(sentence).with_name(Hole::Token(name));
     }
+    if let Some(sentence) = form_sentence(name) {
+        return Slip::new(sentence).with_name(Hole::Token(name));
+    }
     match name {
-        b"declare-const" | b"declare-var" => Slip::new(say::FORM_DECLARE_CONST),
-        b"declare-fun" => Slip::new(say::FORM_DECLARE_FUN),
-        b"define-fun" => Slip::new(say::FORM_DEFINE_FUN),
-        b"define-const" => Slip::new(say::FORM_DEFINE_CONST),
-        b"check-sat" => Slip::new(say::FORM_CHECK_SAT),
-        b"check-sat-assuming" => Slip::new(say::FORM_ASSUMING),
-        b"push" => Slip::new(say::FORM_PUSH),
         b"pop" => pop_slip(script, k),
-        b"reset" | b"reset-assertions" => {
-            Slip::new(say::FORM_RESET).with_name(Hole::Token(name))
-        }
-        b"echo" => Slip::new(say::FORM_ECHO),
-        b"get-info" | b"get-option" => Slip::new(say::FORM_KEYWORD).with_name(Hole::Token(name)),
-        b"get-value" => Slip::new(say::FORM_VALUE),
-        _ if name.starts_with(b"get-") && is_read_command(name) => {
-            Slip::new(say::FORM_ALONE).with_name(Hole::Token(name))
-        }
-        b"exit" => Slip::new(say::FORM_EXIT),
         b"assert" => assert_slip(script, k),
         _ => other_slip(name),
+    }
+}
+
+/// The sentence on the form of a command.
+fn form_sentence(name: &[u8]) -> Option<&'static str> {
+    if let Some(sentence) = form_of_symbol(name) {
+        return Some(sentence);
+    }
+    match name {
+        b"check-sat" => Some(say::FORM_CHECK_SAT),
+        b"check-sat-assuming" => Some(say::FORM_ASSUMING),
+        b"push" => Some(say::FORM_PUSH),
+        b"reset" | b"reset-assertions" => Some(say::FORM_RESET),
+        b"echo" => Some(say::FORM_ECHO),
+        b"get-info" | b"get-option" => Some(say::FORM_KEYWORD),
+        b"get-value" => Some(say::FORM_VALUE),
+        b"exit" => Some(say::FORM_EXIT),
+        _ if name.starts_with(b"get-") && is_read_command(name) => Some(say::FORM_ALONE),
+        _ => None,
+    }
+}
+
+/// The sentence on the form of a command that declares or defines.
+fn form_of_symbol(name: &[u8]) -> Option<&'static str> {
+    match name {
+        b"declare-const" | b"declare-var" => Some(say::FORM_DECLARE_CONST),
+        b"declare-fun" => Some(say::FORM_DECLARE_FUN),
+        b"define-fun" => Some(say::FORM_DEFINE_FUN),
+        b"define-const" => Some(say::FORM_DEFINE_CONST),
+        b"define-sort" => Some(say::FORM_DEFINE_SORT),
+        b"define-fun-rec" => Some(say::FORM_DEFINE_REC),
+        b"define-funs-rec" => Some(say::FORM_DEFINE_RECS),
+        _ => None,
     }
 }
 
@@ -60,9 +79,8 @@ fn hyphen_slip<'a>(name: &'a [u8], next: &'a [u8]) -> Option<Slip<'a>> {
 }
 
 /// Commands that declare sorts.
-const OF_SORTS: [&str; 5] = [
+const OF_SORTS: [&str; 4] = [
     "declare-sort",
-    "define-sort",
     "declare-datatype",
     "declare-datatypes",
     "declare-sort-parameter",
@@ -78,9 +96,6 @@ fn unread_sentence(name: &[u8]) -> Option<&'static str> {
     }
     if is_among(name, &OF_SORTS) {
         return Some(say::SORTS);
-    }
-    if is_among(name, &["define-fun-rec", "define-funs-rec"]) {
-        return Some(say::RECURSION);
     }
     None
 }

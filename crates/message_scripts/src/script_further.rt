@@ -112,7 +112,7 @@ fn put_command<'x>(
     }
     let body = match name {
         b"assert" => script.member(k, 1),
-        b"define-fun" => script.member(k, 4),
+        b"define-fun" | b"define-fun-rec" => script.member(k, 4),
         b"define-const" => script.member(k, 3),
         _ => None,
     };

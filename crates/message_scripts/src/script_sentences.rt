@@ -99,10 +99,10 @@ pub(crate) const LARGE: &str =
     "written out, with let and define-fun, the assertions of all checks have more than 1,000,000 nodes, or one has more than 2,000 levels";
 
 pub(crate) const DIVISION: &str =
-    "there is no div and no mod; q is x divided by 4 where (<= 0 (- x (* 4 q)) 3), and (- x (* 4 q)) is the remainder: declare q, or bind it as (exists ((q Int)) ..)";
+    "div and mod take a numeral that is not 0, as (div x 4), and stand in no definition of sort Int; else q is x divided by 4 where (<= 0 (- x (* 4 q)) 3), and (- x (* 4 q)) is the remainder";
 
 pub(crate) const DIVISIBLE: &str =
-    "there is no divisible; x is a multiple of 4 where (exists ((q Int)) (= x (* 4 q)))";
+    "divisible is written ((_ divisible 4) x), with a numeral of at least 1";
 
 pub(crate) const LEVELS: &str = "this push opens the 10,001st level, and 10,000 is the limit";
 
@@ -114,9 +114,6 @@ pub(crate) const OPTIMISE: &str =
     "{name} is not read; `princess least` gives least values for a .pri file";
 
 pub(crate) const SORTS: &str = "there is no {name}; the sorts are Int and Bool";
-
-pub(crate) const RECURSION: &str =
-    "there is no {name}; declare the function and assert its equations, with forall";
 
 pub(crate) const COMMAND: &str =
     "{name} is no command that is read here; leave it out, or see docs/SMTLIB.md, which lists the commands";
@@ -170,6 +167,15 @@ pub(crate) const FORM_DEFINE_FUN: &str =
 
 pub(crate) const FORM_DEFINE_CONST: &str =
     "a constant is defined as (define-const c Int t), and t does not use what it defines";
+
+pub(crate) const FORM_DEFINE_SORT: &str =
+    "a sort is defined as (define-sort S () Int), with a name that no sort in force has";
+
+pub(crate) const FORM_DEFINE_REC: &str =
+    "a recursive function is defined as (define-fun-rec f ((x Int)) Int t), with arguments of different names, none of them f";
+
+pub(crate) const FORM_DEFINE_RECS: &str =
+    "recursive functions are defined as (define-funs-rec ((f ((x Int)) Int) (g ((x Int)) Int)) (t u)), with a term for each";
 
 pub(crate) const FORM: &str = "this {name} is not of its form; docs/SMTLIB.md has the forms";
 

@@ -84,7 +84,7 @@ fn end_slip<'a>(script: Script<'a>) -> Slip<'a> {
 }
 
 /// The commands that are read.
-pub(crate) const READ: [&str; 25] = [
+pub(crate) const READ: [&str; 28] = [
     "set-logic",
     "set-info",
     "set-option",
@@ -92,6 +92,9 @@ pub(crate) const READ: [&str; 25] = [
     "declare-fun",
     "define-fun",
     "define-const",
+    "define-sort",
+    "define-fun-rec",
+    "define-funs-rec",
     "assert",
     "check-sat",
     "check-sat-assuming",

@@ -14,15 +14,14 @@ pub record Symbol : Type 0 where
   pub at : ℕ
   pub text : List ℕ
 
--- What a command says, whatever comes before it: a string, by what stands between its quotes; the name of the program, its authors,
--- and what it does after an error; or that it is not supported. One says more: the model of the last check.
+-- what a command says, whatever comes before it: a string, by what stands between its quotes; the name of the program, its authors,
+-- and what it does after an error; or that it is not supported
 pub data Saying : Type 0 where
   echoed : List ℕ → Saying
   program : Saying
   authors : Saying
   after_error : Saying
   unsupported : Saying
-  the_model : Saying
 
 -- a command: without effect; one that only says something; a symbol that is declared, with the sorts of its arguments and its sort; a
 -- symbol that is defined, with its arguments, its sort and its term; an assertion; a check, with the terms that are assumed for it; this
@@ -175,7 +174,7 @@ command_by w.ResetAssertions [] = Some reset
 command_by w.Echo (s ∷ []) = echoes (string_of s)
 command_by w.GetInfo (k ∷ []) = informs (keyword_of k)
 command_by w.GetOption (k ∷ []) = declines (is_keyword k)
-command_by w.GetModel [] = Some (say the_model)
+command_by w.GetModel [] = Some (say unsupported)
 command_by w.GetValue (ts ∷ []) = declines (is_some (members_of ts))
 command_by w.GetAssignment [] = Some (say unsupported)
 command_by w.GetAssertions [] = Some (say unsupported)

@@ -30,7 +30,6 @@ saying_of says.Program = said.program
 saying_of says.Authors = said.authors
 saying_of says.AfterError = said.after_error
 saying_of says.Unsupported = said.unsupported
-saying_of says.Model = said.the_model
 
 -- what a command is
 abbrev pub form_of : Command → CommandForm

@@ -1,4 +1,4 @@
-// Commands that only say something, whatever comes before them, but for the model of the last check.
+// Commands that only say something, whatever comes before them.
 
 ghost use Rattle.smt_commands.specs.Commands.{command_by, information};
 ghost use Rattle.smt_commands.specs.Views.{form_of, saying_of};
@@ -11,7 +11,7 @@ use crate::command::{Command, alone};
 use crate::expressions::{is_keyword, keyword, members, string_text};
 use smt_lists::Sexp;
 
-/// What a command says, whatever comes before it, but for the model of the last check (SMT-LIB 2.6, sections 4.1.7, 4.2.7 and 4.2.8).
+/// What a command says, whatever comes before it (SMT-LIB 2.6, sections 4.1.7 and 4.2.8).
 #[derive(Clone, Copy)]
 pub enum Saying<'a> {
     /// A string, by what stands between its quotes.
@@ -24,8 +24,6 @@ pub enum Saying<'a> {
     AfterError,
     /// That it does not support this.
     Unsupported,
-    /// The model of the last check.
-    Model,
 }
 
 /// `echo` with a string.

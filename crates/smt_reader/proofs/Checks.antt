@@ -33,7 +33,8 @@ use Rattle.smt_typing.specs.Faults.{kind_faults, names_in, term_faults}
 use Rattle.smt_typing.specs.Reading.{phrase_of}
 use Rattle.smt_reader.specs.Commands.{acts_of, all_after, questions, questions_from, script_terms, state_of, with_form}
 use Rattle.smt_reader.specs.Following.{AreNew, IsNewSymbol, texts_behind, texts_behind_all}
-use Rattle.smt_reader.specs.Formed.{IsFormedCheck, IsRangedExpr, Sound, symbol, symbols}
+use Rattle.smt_reader.specs.Formed.{IsFormedCheck, Sound, symbol, symbols}
+use Rattle.smt_shorthand.specs.Ranged.{IsRangedExpr}
 use Rattle.smt_reader.proofs.Sound.{AllSound, IsSaid, all_everywhere, formula_of}
 use Rattle.smt_reader.proofs.Faultless.{needed_is, none_both}
 use Rattle.smt_reader.proofs.Terms.{IsRangedPhrase, formed, none}

@@ -19,7 +19,7 @@ use Rattle.smt_typing.specs.declared.forms.Head.TheVariants as head
 use Rattle.smt_typing.specs.Reading.{are_attributes, are_proper, atom_phrase, before, bindings_in, bound_by, bound_read, head_of, let_of, let_phrase, note_of, phrase_of, phrases_in, quantified_of, quantified_phrase, use_of, ill_by, variable_by, variable_of, variables_of}
 use Rattle.smt_commands.specs.Symbols.{sort_of}
 use Rattle.smt_typing.specs.Faults.{names_by, names_in}
-use Rattle.smt_reader.specs.Formed.{AreRangedExprs, IsRangedExpr, IsRangedAtom}
+use Rattle.smt_shorthand.specs.Ranged.{AreRangedExprs, IsRangedExpr, IsRangedAtom}
 use Rattle.smt_reader.proofs.Faultless.{left_true, right_true}
 use Rattle.smt_reader.proofs.Terms.{AreRangedBindings, AreRangedPhrases, IsRangedPhrase}
 

@@ -1,5 +1,5 @@
 -- What a script asks to be told, one command after another.
-use Rattle.std.proofs.Common.{◌≡◌, Bool, true, false, List, [], ◌∷◌, ◌++◌, map, refl, sym, ap, ◌∙◌, append_assoc, append-nil, Option, Some, None}
+use Rattle.std.proofs.Common.{◌≡◌, true, false, List, [], ◌∷◌, ◌++◌, map, refl, sym, ap, ◌∙◌, append_assoc, append-nil, Option, Some, None}
 use Rattle.smt_lists.specs.Expressions.{expr}
 use Rattle.smt_lists.specs.declared.tree.Sexp.{Sexp}
 use Rattle.smt_commands.specs.Commands as form

@@ -19,6 +19,7 @@ use Rattle.smt_commands.specs.Faults.{behind, command_faults, or_later, refusal_
 use Rattle.smt_commands.specs.Least.{is_before, least, least_from, number_of, place_in, sooner}
 use Rattle.smt_commands.proofs.Least.{least_from-append}
 use Rattle.smt_reader.specs.Commands.{script_terms}
+use Rattle.smt_reader.specs.Read.{read_as}
 use Rattle.smt_reader.specs.Order.{all_faults, unless_end}
 use Rattle.smt_reader.proofs.Offsets.{ExprAt, ExprsAt, FaultsAt, both_at}
 use Rattle.smt_reader.proofs.Forms.{command_faults_at}
@@ -211,6 +212,10 @@ least_of_all table low (e ∷ es) high h =
     ∙ ap (λ z. or_later (least here) z) (sym (end_least f later))
     ∙ sym (least_both low h.0 here (unless_end f later) (command_faults_at (In low h.0) table e h.2) (end_behind f h.0 later (all_behind (behind table f) h.0 es high h.3)))
 
-pub refusal_least : (bytes : List ℕ) (lists : List Sexp) → IsScriptText bytes lists → refusal_of script_terms (map expr lists) ≡ least (all_faults script_terms (lowest []) (map expr lists))
-refusal_least bytes lists h =
+least_there : (bytes : List ℕ) (lists : List Sexp) → IsScriptText bytes lists → refusal_of script_terms (map expr lists) ≡ least (all_faults script_terms (lowest []) (map expr lists))
+least_there bytes lists h =
     least_of_all (lowest []) 0 (map expr lists) (length bytes) (all_in bytes 200 lists (lexemes_of bytes) h.said 0 (length bytes) (tokens_rising 0 0 bytes (length bytes) (omega arith)))
+
+-- where the lists are read as they stand
+pub refusal_least : (bytes : List ℕ) (lists : List Sexp) → IsScriptText bytes lists → read_as lists ≡ map expr lists → refusal_of script_terms (read_as lists) ≡ least (all_faults script_terms (lowest []) (read_as lists))
+refusal_least bytes lists h is = subst (λ z. refusal_of script_terms z ≡ least (all_faults script_terms (lowest []) z)) (sym is) (least_there bytes lists h)

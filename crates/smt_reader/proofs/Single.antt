@@ -1,7 +1,6 @@
 -- A text is a script or is refused, and in one way.
-use Rattle.std.proofs.Common.{ℕ, ◌≡◌, ◌≢◌, inl, inr, List, [], ◌∷◌, ◌++◌, length, map, refl, sym, ap, ap₂, subst, ◌∙◌, append_assoc, Option, Some, None}
+use Rattle.std.proofs.Common.{ℕ, ◌≡◌, ◌≢◌, inl, inr, List, [], ◌∷◌, ◌++◌, length, refl, sym, ap, ap₂, subst, ◌∙◌, append_assoc, Option, Some, None}
 use Rattle.smt_lists.specs.declared.tree.Sexp.{Sexp}
-use Rattle.smt_lists.specs.Expressions.{expr}
 use Rattle.smt_tokens.specs.declared.terminals.Lexeme.{Lexeme}
 use Rattle.smt_tokens.specs.Lexemes.{lexemes_of}
 use Rattle.smt_lists.specs.declared.refusal.ReadRefusal.{ReadRefusal}
@@ -16,6 +15,7 @@ use Rattle.smt_commands.specs.Least.{IsScriptRefused}
 use Rattle.smt_reader.specs.Scripts.{RefusesScript, RefusesTokens, as_script}
 use Rattle.pri_typing.specs.declared.problem.Problem.{Problem}
 use Rattle.smt_reader.specs.Commands.{script_terms}
+use Rattle.smt_reader.specs.Read.{read_as}
 use Rattle.smt_reader.specs.Poses.{AreLarge, IsLargeScript, IsScriptOf, checks_in}
 
 -- two ways to part a list: alike, or one front goes further
@@ -150,7 +150,7 @@ one_refusal bytes a c (inl s) (inr t) m n = absurd (m (no_tokens bytes t.lists a
 one_refusal bytes a c (inr s) (inl t) m n = absurd (n (no_tokens bytes s.lists c s.said t))
 one_refusal bytes a c (inr s) (inr t) m n =
     let same : s.lists ≡ t.lists = one_script bytes 200 200 s.lists t.lists (lexemes_of bytes) s.said t.said in
-    some_same a c (sym (told a (refusal_of script_terms (map expr s.lists)) m s.is) ∙ ap (λ z. refusal_of script_terms (map expr z)) same ∙ told c (refusal_of script_terms (map expr t.lists)) n t.is)
+    some_same a c (sym (told a (refusal_of script_terms (read_as s.lists)) m s.is) ∙ ap (λ z. refusal_of script_terms (read_as z)) same ∙ told c (refusal_of script_terms (read_as t.lists)) n t.is)
 
 not_told : (a : ScriptRefusal) → IsScriptRefused a None → a ≡ r.Memory
 not_told (r.Syntax at) h = absurd (cc)
@@ -167,11 +167,11 @@ not_told (r.Profile at) h = absurd (cc)
 not_told r.Memory h = refl
 
 -- a script without faults is refused for lack of memory alone
-pub only_memory : (bytes : List ℕ) (es : List Sexp) (a : ScriptRefusal) → IsScriptText bytes es → refusal_of script_terms (map expr es) ≡ None → RefusesScript script_terms bytes a → a ≡ r.Memory
+pub only_memory : (bytes : List ℕ) (es : List Sexp) (a : ScriptRefusal) → IsScriptText bytes es → refusal_of script_terms (read_as es) ≡ None → RefusesScript script_terms bytes a → a ≡ r.Memory
 only_memory bytes es a said fits (inl t) = no_tokens bytes es a said t
 only_memory bytes es a said fits (inr c) =
     let same : c.lists ≡ es = one_lists bytes c.lists es c.said said in
-    not_told a (subst (IsScriptRefused a) (ap (λ z. refusal_of script_terms (map expr z)) same ∙ fits) c.is)
+    not_told a (subst (IsScriptRefused a) (ap (λ z. refusal_of script_terms (read_as z)) same ∙ fits) c.is)
 
 pub never_both : (bytes : List ℕ) (ps : List Problem) → IsScriptOf bytes ps → ¬ (IsLargeScript bytes)
-never_both bytes ps h l = h.posed.small (subst (λ z. AreLarge (checks_in z)) (one_lists bytes l.lists h.lists l.said h.said) l.large.large)
+never_both bytes ps h l = h.posed.small (subst (λ z. AreLarge (checks_in (read_as z))) (one_lists bytes l.lists h.lists l.said h.said) l.large.large)

@@ -1,5 +1,5 @@
 -- The lists of a script have no more members than the text has bytes.
-use Rattle.std.proofs.Common.{ℕ, zero, suc, ◌≡◌, ◌≤◌, ◌-◌, Bool, true, false, List, [], ◌∷◌, ◌++◌, length, map, refl, sym, ap, subst, ◌∙◌, arith, Option, Some, None}
+use Rattle.std.proofs.Common.{◌+◌, ℕ, zero, suc, ◌≡◌, ◌≤◌, ◌-◌, Bool, true, false, List, [], ◌∷◌, ◌++◌, length, map, refl, sym, ap, subst, ◌∙◌, arith, Option, Some, None}
 use Rattle.std.specs.List.{All, AllByRecursion, list_all}
 use Rattle.std.proofs.lemmas.List.Elements.{All-cons}
 use Rattle.std.proofs.lemmas.List.{length-append, length-map}
@@ -22,7 +22,9 @@ use Rattle.smt_terms.specs.declared.term.Variable.{Variable}
 use Rattle.smt_typing.specs.Faults.{names_by, names_in}
 use Rattle.smt_typing.specs.Reading.{before, variable_of, variables_of}
 use Rattle.smt_reader.specs.Commands.{Act, DoesFew, acts_of, with_form}
-use Rattle.smt_reader.specs.Formed.{AreNarrow, IsNarrow, members}
+use Rattle.smt_shorthand.specs.Ranged.{AreNarrow, IsNarrow, members}
+use Rattle.smt_shorthand.proofs.Narrow.{written_narrow}
+use Rattle.smt_shorthand.specs.Writing.{written_out}
 
 -- Tokens.
 
@@ -267,5 +269,5 @@ acts_few : (n : ℕ) (es : List Expr) → AllByRecursion (IsNarrow n) es → All
 acts_few n [] h = no_acts n
 acts_few n (e ∷ es) h = form_on n (faults.form e) (acts_of es) (form_few n e h.0) (acts_few n es h.1)
 
-pub text_few : (bytes : List ℕ) (lists : List Sexp) → IsScriptText bytes lists → All (DoesFew (length bytes)) (acts_of (map expr lists))
-text_few bytes lists h = acts_few (length bytes) (map expr lists) (text_narrow bytes lists h)
+pub text_few : (bytes : List ℕ) (lists : List Sexp) → IsScriptText bytes lists → All (DoesFew (length bytes + 4)) (acts_of (written_out (map expr lists)))
+text_few bytes lists h = acts_few (length bytes + 4) (written_out (map expr lists)) (written_narrow (length bytes) (map expr lists) (text_narrow bytes lists h))

@@ -17,7 +17,12 @@ use Rattle.smt_reader.specs.Commands.{acts_of, questions, script_terms}
 use Rattle.smt_reader.specs.Following.{AreNew}
 use Rattle.smt_reader.specs.Poses.{checks_in}
 use Rattle.smt_reader.proofs.Checks.{checks_formed, questions_new}
-use Rattle.smt_reader.specs.Formed.{AreRangedExprs, IsFormedCheck, IsRangedExpr, IsRangedAtom}
+use Rattle.smt_reader.specs.Formed.{IsFormedCheck}
+use Rattle.smt_shorthand.specs.Ranged.{AreRangedExprs, IsRangedExpr, IsRangedAtom}
+use Rattle.smt_shorthand.proofs.FunctionRanges.{written_ranged}
+use Rattle.smt_shorthand.specs.Writing.{written_out}
+use Rattle.smt_division.proofs.RangedCommands.{ranged_script}
+use Rattle.smt_reader.specs.Read.{read_as}
 
 numeral_by : (n : ℕ) (b : Bool) → nat_lt n (2 ^ 127) ≡ b → IsRangedAtom (if b then k.Numeral (pos n) else k.LargeNumeral)
 numeral_by n true e = grind (arith, nat_tests)
@@ -61,8 +66,11 @@ mutual
 pub text_ranged : (bytes : List ℕ) (lists : List Sexp) → IsScriptText bytes lists → AllByRecursion IsRangedExpr (map expr lists)
 text_ranged bytes lists h = all_ranged bytes 200 lists _ h.said
 
-pub text_checks : (bytes : List ℕ) (lists : List Sexp) → IsScriptText bytes lists → refusal_of script_terms (map expr lists) ≡ None → All IsFormedCheck (checks_in lists)
-text_checks bytes lists h e = checks_formed (map expr lists) (text_ranged bytes lists h) e
+pub read_ranged : (bytes : List ℕ) (lists : List Sexp) → IsScriptText bytes lists → AllByRecursion IsRangedExpr (read_as lists)
+read_ranged bytes lists h = ranged_script (written_out (map expr lists)) (written_ranged (map expr lists) (text_ranged bytes lists h))
 
-pub text_new : (bytes : List ℕ) (lists : List Sexp) → IsScriptText bytes lists → refusal_of script_terms (map expr lists) ≡ None → All (AreNew []) (questions (acts_of (map expr lists)))
-text_new bytes lists h e = questions_new (map expr lists) (text_ranged bytes lists h) e
+pub text_checks : (bytes : List ℕ) (lists : List Sexp) → IsScriptText bytes lists → refusal_of script_terms (read_as lists) ≡ None → All IsFormedCheck (checks_in (read_as lists))
+text_checks bytes lists h e = checks_formed (read_as lists) (read_ranged bytes lists h) e
+
+pub text_new : (bytes : List ℕ) (lists : List Sexp) → IsScriptText bytes lists → refusal_of script_terms (read_as lists) ≡ None → All (AreNew []) (questions (acts_of (read_as lists)))
+text_new bytes lists h e = questions_new (read_as lists) (read_ranged bytes lists h) e

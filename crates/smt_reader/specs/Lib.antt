@@ -9,3 +9,4 @@ pub mod Following
 pub mod Poses
 pub mod Taking
 pub mod Replies
+pub mod Read

@@ -1,30 +1,24 @@
--- What a script asks to be told, command by command (SMT-LIB 2.6, section 4.2): the answers to its checks, a model, and what other
--- commands say whatever comes before them.
+-- What a script asks to be told, command by command (SMT-LIB 2.6, section 4.2): the answers to its checks, and what other commands say
+-- whatever comes before them.
 use Rattle.std.specs.Prelude.{ℕ, List, [], ◌∷◌, ◌++◌, codes, Option, Some, None}
 use Rattle.smt_lists.specs.Expressions.{Expr}
-use Rattle.smt_commands.specs.Commands.{CommandForm, Saying, skip, say, declare, define, assert, check_sat, push, pop, reset, exit, echoed, program, authors, after_error, unsupported, the_model}
+use Rattle.smt_commands.specs.Commands.{CommandForm, Saying, say, check_sat, exit, echoed, program, authors, after_error, unsupported}
 use Rattle.smt_commands.specs.Faults.{form}
 use Rattle.smt_reader.specs.declared.replies.Reply.{Reply}
 use Rattle.smt_reader.specs.declared.replies.Reply.TheVariants as r
 
--- the line of what a command says; the model is no line
+-- the line of what a command says
 abbrev pub said_line : Saying → List ℕ
 said_line (echoed text) = codes "\"" ++ text ++ codes "\"\n"
 said_line program = codes "(:name \"princess\")\n"
 said_line authors = codes "(:authors \"the authors of princess\")\n"
 said_line after_error = codes "(:error-behavior immediate-exit)\n"
 said_line unsupported = codes "unsupported\n"
-said_line the_model = []
-
--- what is asked where a command says something
-abbrev pub reply_to : Saying → Reply
-reply_to the_model = r.Model
-reply_to x = r.Says (said_line x)
 
 -- what a command asks to be told
 abbrev pub reply_of : CommandForm → Option Reply
 reply_of (check_sat ts) = Some r.Check
-reply_of (say x) = Some (reply_to x)
+reply_of (say x) = Some (r.Says (said_line x))
 reply_of _ = None
 
 -- a reply before others, where there is one

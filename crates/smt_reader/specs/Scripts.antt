@@ -1,9 +1,9 @@
 -- Which texts are scripts that are taken, and how others are refused.
-use Rattle.std.specs.Prelude.{ℕ, ◌≡◌, List, map, None, ◌⊎◌}
+use Rattle.std.specs.Prelude.{ℕ, ◌≡◌, List, None, ◌⊎◌}
 use Rattle.smt_lists.specs.declared.tree.Sexp.{Sexp}
 use Rattle.smt_lists.specs.declared.refusal.ReadRefusal.{ReadRefusal}
 use Rattle.smt_lists.specs.declared.refusal.ReadRefusal.TheVariants as e
-use Rattle.smt_lists.specs.Expressions.{expr}
+use Rattle.smt_reader.specs.Read.{read_as}
 use Rattle.smt_lists.specs.Grammar.{IsScriptText}
 use Rattle.smt_lists.specs.First.{IsFirstListRefusal}
 use Rattle.smt_commands.specs.declared.refusal.ScriptRefusal.{ScriptRefusal}
@@ -23,8 +23,8 @@ as_script e.Memory = r.Memory
 pub record IsTaken (terms : TermFaults) (bytes : List ℕ) (symbols : List Entry) : Type 0 where
   pub lists : List Sexp
   pub said : IsScriptText bytes lists
-  pub fits : refusal_of terms (map expr lists) ≡ None
-  pub are : symbols ≡ symbols_of (map expr lists)
+  pub fits : refusal_of terms (read_as lists) ≡ None
+  pub are : symbols ≡ symbols_of (read_as lists)
 
 -- the text is no lists, and this is the first refusal of its tokens
 pub record RefusesTokens (bytes : List ℕ) (fault : ScriptRefusal) : Type 0 where
@@ -36,7 +36,7 @@ pub record RefusesTokens (bytes : List ℕ) (fault : ScriptRefusal) : Type 0 whe
 pub record RefusesCommands (terms : TermFaults) (bytes : List ℕ) (fault : ScriptRefusal) : Type 0 where
   pub lists : List Sexp
   pub said : IsScriptText bytes lists
-  pub is : IsScriptRefused fault (refusal_of terms (map expr lists))
+  pub is : IsScriptRefused fault (refusal_of terms (read_as lists))
 
 -- the text is refused so
 abbrev pub RefusesScript : TermFaults → List ℕ → ScriptRefusal → Type 0

@@ -5,6 +5,8 @@ ghost use Rattle.pri_typing.specs.declared.problem.Problem.{Problem};
 ghost use Rattle.smt_reader.specs.Commands.{DoesFew, acts_of, script_terms};
 ghost use Rattle.smt_reader.specs.Formed.{IsFormedCheck};
 ghost use Rattle.smt_reader.specs.Order.{all_faults};
+ghost use Rattle.smt_reader.specs.Read.{read_as};
+ghost use Rattle.smt_shorthand.specs.Writing.{written_out};
 ghost use Rattle.smt_reader.specs.Poses.{checks_in};
 ghost use Rattle.smt_reader.specs.Posed.{IsCheckPosed, MeansSatisfiable, MeansUnsatisfiable};
 ghost use Rattle.smt_commands.specs.Faults.{refusal_of};
@@ -14,28 +16,29 @@ ghost use Rattle.smt_lists.specs.Grammar.{IsScriptText};
 ghost use Rattle.smt_terms.specs.Scripts.{Command, State};
 ghost use Rattle.smt_lists.specs.Expressions.{expr};
 ghost use Rattle.smt_lists.specs.declared.tree.Sexp.{Sexp};
-ghost use Rattle.std.specs.Prelude.{◌≡◌, List, [], ℕ, None, All, length, map};
+ghost use Rattle.std.specs.Prelude.{◌≡◌, ◌+◌, List, [], ℕ, None, All, length, map};
 
 /// Where a text is a script whose commands and terms have no fault, at each of its checks few symbols are declared, and the
 /// formula is sound: its numbers are in the range, its names are constants and bound variables, its functions and predicates
 /// are declared with this many arguments, its sums have members, and its products are linear.
 #[tactic(auto, using(crate::proofs::Texts::text_checks))]
 pub fn checks_law()
-    ensures { (bytes : List ℕ) (lists : List Sexp) → IsScriptText bytes lists → refusal_of script_terms (map expr lists) ≡ None
-        → All IsFormedCheck (checks_in lists) }
+    ensures { (bytes : List ℕ) (lists : List Sexp) → IsScriptText bytes lists → refusal_of script_terms (read_as lists) ≡ None
+        → All IsFormedCheck (checks_in (read_as lists)) }
 {}
 
-/// A declared or defined symbol of a script has no more arguments than the text has bytes.
+/// A declared or defined symbol of a script, where what is short is written out, has at most four arguments more than the text has bytes.
 #[tactic(auto, using(crate::proofs::Sizes::text_few))]
 pub fn sizes_law()
-    ensures { (bytes : List ℕ) (lists : List Sexp) → IsScriptText bytes lists → All (DoesFew (length bytes)) (acts_of (map expr lists)) }
+    ensures { (bytes : List ℕ) (lists : List Sexp) → IsScriptText bytes lists → All (DoesFew (length bytes + 4)) (acts_of (written_out (map expr lists))) }
 {}
 
-/// The refusal of a script of lists is the least of all faults of its commands up to an `exit`, though only those of the first
-/// command that has any are looked at: the offsets of lists rise.
+/// The refusal of a script, no command of which is short for others or divides, is the least of all faults of its commands up to an `exit`, though
+/// only those of the first command that has any are looked at: the offsets of lists rise.
 #[tactic(auto, using(crate::proofs::Rising::refusal_least))]
 pub fn refusal_law()
-    ensures { (bytes : List ℕ) (lists : List Sexp) → IsScriptText bytes lists → refusal_of script_terms (map expr lists) ≡ least (all_faults script_terms (lowest []) (map expr lists)) }
+    ensures { (bytes : List ℕ) (lists : List Sexp) → IsScriptText bytes lists → read_as lists ≡ map expr lists
+        → refusal_of script_terms (read_as lists) ≡ least (all_faults script_terms (lowest []) (read_as lists)) }
 {}
 
 /// The problem of a check with few symbols and a sound formula is well formed.

@@ -2,11 +2,17 @@
 
 ghost use Rattle.smt_lists.specs.First.{IsFirstListRefusal};
 ghost use Rattle.smt_reader.specs.Scripts.{IsTaken, RefusesScript, as_script};
-ghost use Rattle.std.specs.Prelude.{◌≡◌, IfErr, IfOk};
+ghost use Rattle.smt_lists.specs.Expressions.{expr};
+ghost use Rattle.smt_reader.specs.Read.{read_as};
+ghost use Rattle.std.specs.Prelude.{◌≡◌, IfErr, IfOk, map};
 
+use linear_term::Memory;
 use smt_commands::{ScriptRefusal, Table};
-use smt_lists::{ReadRefusal, lists};
+use smt_division::without_division;
+use smt_lists::{ReadRefusal, Sexp, lists};
+use smt_shorthand::written_out;
 use smt_typing::{Terms, walk};
+use sqlite_items::Items;
 use std::alloc::Global;
 
 /// The symbols of a script, or its refusal.
@@ -16,9 +22,20 @@ pub fn read<T: Terms>(alloc: Global, terms: &T, bytes: &[u8]) -> Result<Table, S
     ensures refused { IfErr result (λ e. RefusesScript (record { faults = T.faults; uses = T.occurs }) bytes.now e) }
 {
     match lists(alloc, bytes) {
-        Ok(commands) => walk(alloc, terms, commands.as_slice()),
+        Ok(lists) => match read_as(alloc, lists) {
+            Ok(commands) => walk(alloc, terms, commands.as_slice()),
+            Err(Memory) => Err(ScriptRefusal::Memory),
+        },
         Err(e) => Err(as_script(e)),
     }
+}
+
+/// The commands that lists are read as: those that are short for others are written out, and division is taken away.
+pub(crate) fn read_as(alloc: Global, lists: Items<Sexp>) -> Result<Items<Sexp>, Memory>
+    ensures exact { IfOk result (λ commands. map expr commands ≡ read_as lists) }
+{
+    let commands = written_out(alloc, lists)?;
+    without_division(alloc, commands)
 }
 
 /// A refusal of the tokens as one of the script.

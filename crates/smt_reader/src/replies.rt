@@ -1,5 +1,5 @@
-// What a script asks to be told, command by command: the answers to its checks, a model, and what other commands say whatever comes
-// before them.
+// What a script asks to be told, command by command: the answers to its checks, and what other commands say whatever comes before
+// them.
 
 ghost use Rattle.smt_commands.specs.Commands.{echoed};
 ghost use Rattle.smt_commands.specs.Views.{form_of, saying_of};
@@ -22,8 +22,6 @@ pub enum Reply {
     Check,
     /// This line.
     Says(Items<u8>),
-    /// The model of the last check.
-    Model,
 }
 
 /// What these commands ask to be told, in order, up to an `exit`. The one error is running out of memory.
@@ -55,7 +53,6 @@ fn reply_to(alloc: Global, command: Command<'_>) -> Result<Option<Reply>, Memory
 {
     match command {
         Command::CheckSat(_) => Ok(Some(Reply::Check)),
-        Command::Say(Saying::Model) => Ok(Some(Reply::Model)),
         Command::Say(saying) => Ok(Some(Reply::Says(said_line(alloc, saying)?))),
         Command::Skip
         | Command::Declare(_, _, _)
@@ -81,7 +78,6 @@ fn said_line(alloc: Global, saying: Saying<'_>) -> Result<Items<u8>, Memory>
         )?),
         Saying::AfterError => Ok(Items::from_slice(alloc, b"(:error-behavior immediate-exit)\n")?),
         Saying::Unsupported => Ok(Items::from_slice(alloc, b"unsupported\n")?),
-        Saying::Model => Ok(Items::new(alloc)),
     }
 }
 

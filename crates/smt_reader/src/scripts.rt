@@ -8,7 +8,7 @@ ghost use Rattle.smt_terms.specs.Term.{phrase};
 ghost use Rattle.smt_reader.specs.Effects.{act_is, command_is};
 ghost use Rattle.smt_reader.specs.Forces.{force};
 ghost use Rattle.smt_reader.specs.Following.{AreNew, FollowsState};
-ghost use Rattle.smt_reader.specs.Formed.{IsRangedExpr};
+ghost use Rattle.smt_shorthand.specs.Ranged.{IsRangedExpr};
 ghost use Rattle.smt_reader.specs.Poses.{ArePosed, IsPosedBy, IsRefusedBy, IsScriptRefusal, IsScriptWith, checks_in};
 ghost use Rattle.smt_reader.specs.Commands.{Act, acts_of, questions, script_terms, state_of};
 ghost use Rattle.smt_commands.specs.Faults.{refusal_of};
@@ -20,7 +20,7 @@ use crate::effects::{Effect, Step, read_step};
 use crate::following::{Reading, assume, follow_all};
 use crate::forces::Forces;
 use crate::posing::{Script, pose};
-use crate::reading::as_script;
+use crate::reading::{as_script, read_as};
 use crate::replies::replies;
 use linear_term::Memory;
 use pri_typing::Problem;
@@ -122,7 +122,7 @@ fn take_step(alloc: Global, taken: Taken, step: Step) -> Result<Option<Taken>, M
 // are too large together.
 fn problems(alloc: Global, lists: &[Sexp]) -> Result<Option<Items<Problem>>, Memory>
     requires new { All (AreNew []) (questions (acts_of (map expr lists.now))) }
-    ensures { IfOk result (ArePosedOrLarge (checks_in lists.now)) }
+    ensures { IfOk result (ArePosedOrLarge (checks_in (map expr lists.now))) }
 {
     let mut taken = Taken {
         forces: Forces::new(alloc),
@@ -151,12 +151,12 @@ fn problems(alloc: Global, lists: &[Sexp]) -> Result<Option<Items<Problem>>, Mem
     Ok(Some(taken.checks.problems))
 }
 
-// The problems of a script of these lists, or its refusal.
+// The problems of a script of these commands, or its refusal.
 fn take_lists(alloc: Global, lists: &[Sexp]) -> Result<Script, ScriptRefusal>
     requires ranged { AllByRecursion IsRangedExpr (map expr lists.now) }
-    ensures read { IfOk result (λ s. IsPosedBy lists.now s.checks) }
+    ensures read { IfOk result (λ s. IsPosedBy (map expr lists.now) s.checks) }
     ensures replies { IfOk result (λ s. s.replies ≡ replies (map expr lists.now)) }
-    ensures refused { IfErr result (λ e. IsRefusedBy lists.now e) }
+    ensures refused { IfErr result (λ e. IsRefusedBy (map expr lists.now) e) }
 {
     match walk(alloc, &Typing, lists) {
         Ok(_table) => match problems(alloc, lists) {
@@ -191,7 +191,10 @@ pub fn script(alloc: Global, bytes: &[u8]) -> Result<Script, ScriptRefusal>
     ensures refused { IfErr result (λ e. IsScriptRefusal bytes.now e) }
 {
     match lists(alloc, bytes) {
-        Ok(lists) => take_lists(alloc, lists.as_slice()),
+        Ok(lists) => match read_as(alloc, lists) {
+            Ok(commands) => take_lists(alloc, commands.as_slice()),
+            Err(Memory) => Err(ScriptRefusal::Memory),
+        },
         Err(e) => Err(as_script(e)),
     }
 }

@@ -11,8 +11,6 @@ mod files;
 #[cfg(test)]
 mod forms;
 #[cfg(test)]
-mod models;
-#[cfg(test)]
 mod problems;
 #[cfg(test)]
 mod script_sizes;
@@ -20,5 +18,7 @@ mod script_sizes;
 mod script_tokens;
 #[cfg(test)]
 mod scripts;
+#[cfg(test)]
+mod shorthand;
 #[cfg(test)]
 mod shown;

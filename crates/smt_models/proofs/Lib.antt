@@ -1,6 +1,0 @@
-pub mod Bytes
-pub mod Defining
-pub mod Evaluated
-pub mod Meaning
-pub mod Parameters
-pub mod Printing

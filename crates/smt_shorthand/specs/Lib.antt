@@ -1,0 +1,9 @@
+pub mod Places
+pub mod Sorts
+pub mod Resolving
+pub mod Table
+pub mod Defining
+pub mod Ranged
+pub mod Equations
+pub mod Functions
+pub mod Writing
