@@ -1,4 +1,5 @@
 pub mod Answered
+pub mod Beside
 pub mod Causing
 mod Ending
 mod Listing

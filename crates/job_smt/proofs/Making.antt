@@ -16,10 +16,10 @@ use Rattle.smt_reader.specs.Read.{read_as}
 use Rattle.smt_reader.specs.Poses.{AreLarge, IsScriptRefusal, IsScriptWith, checks_in}
 use Rattle.smt_reader.proofs.Single.{one_lists, only_memory}
 use Rattle.smt_reader.proofs.Whole.{empty_said}
-use Rattle.job_smt.specs.declared.checking.CheckAnswer.{CheckAnswer}
+use Rattle.job_smt.specs.declared.models.Checked.{Checked}
 use Rattle.job_smt.specs.declared.lines.Answers.{Answers}
 use Rattle.job_smt.specs.Lines.{AreGiven, AreGivenBy}
-use Rattle.job_smt.specs.Answers.{is_unknown, refused_after, replied}
+use Rattle.job_smt.specs.Answers.{is_unknown, refused_after, replied, AreCheckAnswers, AreFirstAnswers, is_open, lines_answer}
 use Rattle.job_smt.specs.Answered.{IsBegun, IsSmtAnswer, answered, before, large, refusal_name, refused, told_further, told_short, told_whole}
 use Rattle.job_smt.proofs.Meaning.{alone_of, formed_of}
 
@@ -34,17 +34,17 @@ given_at : (budget : ℕ) (ps xs : List Problem) (found : Answers) (stops : Bool
 given_at budget ps xs found stops is e h = subst (AreGivenBy budget ps found.given) e (subst (λ z. AreGiven budget z found) is h)
 
 -- the text that tells them
-text_at : (text : List ℕ) (told slice : List Reply) (given : List CheckAnswer) (found : Answers) → slice ≡ told → given ≡ found.given → text ≡ replied slice given → text ≡ replied told found.given
+text_at : (text : List ℕ) (told slice : List Reply) (given : List Checked) (found : Answers) → slice ≡ told → given ≡ found.given → text ≡ replied slice given → text ≡ replied told found.given
 text_at text told slice given found is same e = e ∙ ap (λ z. replied z given) is ∙ ap (replied told) same
 
-pub made_whole : (budget status : ℕ) (bytes text : List ℕ) (ps xs : List Problem) (told slice : List Reply) (given : List CheckAnswer) (found : Answers) → IsScriptWith bytes ps told → xs ≡ ps → AreGiven budget xs found
-    → found.stopped ≡ false → slice ≡ told → given ≡ found.given → text ≡ replied slice given → status ≡ cond (list_any is_unknown given) 2 0 → IsSmtAnswer budget bytes (record { status = status; text = text })
+pub made_whole : (budget status : ℕ) (bytes text : List ℕ) (ps xs : List Problem) (told slice : List Reply) (given : List Checked) (found : Answers) → IsScriptWith bytes ps told → xs ≡ ps → AreGiven budget xs found
+    → found.stopped ≡ false → slice ≡ told → given ≡ found.given → text ≡ replied slice given → status ≡ cond (list_any is_open given) 2 0 → IsSmtAnswer budget bytes (record { status = status; text = text })
 made_whole budget status bytes text ps xs told slice given found h is are whole asks same tells ends =
     let says : text ≡ replied told found.given = text_at text told slice given found asks same tells in
-    let state : status ≡ cond (list_any is_unknown found.given) 2 0 = ends ∙ ap (λ z. cond (list_any is_unknown z) 2 0) same in
+    let state : status ≡ cond (list_any is_open found.given) 2 0 = ends ∙ ap (λ z. cond (list_any is_open z) 2 0) same in
     answered ps told found.given h (given_at budget ps xs found false is whole are) (λ i. record { status = state i; text = says i })
 
-pub made_short : (budget : ℕ) (bytes text : List ℕ) (ps xs : List Problem) (told slice : List Reply) (given : List CheckAnswer) (found : Answers) (o : Output) (r : Result Output Memory) → IsScriptWith bytes ps told → xs ≡ ps
+pub made_short : (budget : ℕ) (bytes text : List ℕ) (ps xs : List Problem) (told slice : List Reply) (given : List Checked) (found : Answers) (o : Output) (r : Result Output Memory) → IsScriptWith bytes ps told → xs ≡ ps
     → AreGiven budget xs found → found.stopped ≡ true → slice ≡ told → given ≡ found.given → text ≡ replied slice given → answer_of o ≡ refused_answer (codes "Large")
     → IfOk r (λ out. (name : List ℕ) → answer_of o ≡ refused_answer name → answer_of out ≡ refused_after text name) → IfOk r (λ out. IsSmtAnswer budget bytes (answer_of out))
 made_short budget bytes text ps xs told slice given found o (Ok out) h is are short asks same tells refuses after =
@@ -59,11 +59,11 @@ made_refused budget bytes part text e o (Err f) h m is begun refuses after = tt
 
 -- ---- what is told before a refusal
 
-given_either : (budget : ℕ) (bytes text : List ℕ) (ps : List Problem) (told : List Reply) (xs : List CheckAnswer) (stops : Bool) → IsScriptWith bytes ps told → AreGivenBy budget ps xs stops → text ≡ replied told xs → IsBegun budget bytes text
+given_either : (budget : ℕ) (bytes text : List ℕ) (ps : List Problem) (told : List Reply) (xs : List Checked) (stops : Bool) → IsScriptWith bytes ps told → AreGivenBy budget ps xs stops → text ≡ replied told xs → IsBegun budget bytes text
 given_either budget bytes text ps told xs true h are is = told_short ps told xs h are is
 given_either budget bytes text ps told xs false h are is = told_whole ps told xs h are is
 
-pub made_begun : (budget : ℕ) (bytes : List ℕ) (ps xs : List Problem) (told slice : List Reply) (given : List CheckAnswer) (found : Answers) (r : Result (Vec ℕ Global) Memory) → IsScriptWith bytes ps told → xs ≡ ps → AreGiven budget xs found
+pub made_begun : (budget : ℕ) (bytes : List ℕ) (ps xs : List Problem) (told slice : List Reply) (given : List Checked) (found : Answers) (r : Result (Vec ℕ Global) Memory) → IsScriptWith bytes ps told → xs ≡ ps → AreGiven budget xs found
     → slice ≡ told → given ≡ found.given → IfOk r (λ text. text.items ≡ replied slice given) → IfOk r (λ text. IsBegun budget bytes text.items)
 made_begun budget bytes ps xs told slice given found (Ok text) h is are asks same tells =
     given_either budget bytes text.items ps told found.given found.stopped h (given_at budget ps xs found found.stopped is refl are) (text_at text.items told slice given found asks same tells)

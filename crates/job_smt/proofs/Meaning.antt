@@ -1,5 +1,5 @@
 -- Each line says what is so of its check.
-use Rattle.std.proofs.Common.{◌≡◌, ◌⊎◌, inl, inr, Bool, true, false, cond, ℕ, suc, List, [], ◌∷◌, ◌++◌, take, drop, map, refl, sym, ap, subst, ◌∙◌, arith, codes, append_assoc, append-nil}
+use Rattle.std.proofs.Common.{◌≡◌, ◌⊎◌, inl, inr, Bool, true, false, cond, ℕ, suc, List, [], ◌∷◌, ◌++◌, take, drop, map, refl, sym, ap, subst, ◌∙◌, arith, codes, append_assoc, append-nil, length, Option, Some, None}
 use Rattle.std.specs.List.{All, list_any}
 use Rattle.std.proofs.lemmas.List.{take-append-drop}
 use Rattle.std.proofs.lemmas.List.Elements.{All-cons}
@@ -10,20 +10,23 @@ use Rattle.pri_typing.specs.declared.problem.Problem.{Problem}
 use Rattle.pri_typing.specs.WellFormed.{IsWellFormed}
 use Rattle.base_answers.specs.Answer.{Answer, IsAnswerStatus, refused_answer}
 use Rattle.smt_commands.specs.Least.{place_in}
+use Rattle.model_table.specs.Models.{meaning_of}
 use Rattle.smt_terms.specs.Scripts.{Command, State}
 use Rattle.smt_reader.specs.Commands.{acts_of, questions, state_of}
 use Rattle.smt_reader.specs.Formed.{IsFormedCheck}
 use Rattle.smt_reader.specs.Posed.{IsCheckPosed}
 use Rattle.smt_reader.specs.Poses.{ArePosed, IsScriptOf, checks_in}
-use Rattle.smt_reader.proofs.Answers.{satisfiable, unsatisfiable}
+use Rattle.smt_reader.proofs.Answers.{satisfiable, satisfied, unsatisfiable}
 use Rattle.smt_reader.proofs.PosingChecks.{well_formed}
 use Rattle.smt_reader.proofs.Texts.{text_checks}
 use Rattle.job_smt.specs.declared.checking.CheckAnswer.{CheckAnswer}
+use Rattle.job_smt.specs.declared.models.Checked.{Checked}
+use Rattle.job_smt.specs.declared.models.Shown.{Shown}
 use Rattle.job_smt.specs.declared.checking.CheckAnswer.TheVariants.{Unsat, Sat, Unknown}
-use Rattle.job_smt.specs.Answers.{AreCheckAnswers, AreFirstAnswers, IsCheckAnswer, is_unknown, refused_after, replied}
+use Rattle.job_smt.specs.Answers.{AreCheckAnswers, AreFirstAnswers, IsCheckAnswer, IsChecked, IsModelShown, is_open, refused_after, replied}
 use Rattle.job_smt.proofs.Answered.{sat_refuted, unsat_holds}
 use Rattle.job_smt.specs.Answered.{IsBegun, IsSmtAnswer, answered, large, refusal_name, refused, told_further, told_short, told_whole}
-use Rattle.job_smt.specs.Meaning.{AllMean, FirstMean, Means, Scripted, ScriptedBefore}
+use Rattle.job_smt.specs.Meaning.{AllMean, FirstMean, Means, MeansAll, Scripted, ScriptedBefore, ShowsModels}
 
 head : {A : Type 0} (P : A → Type 0) (x : A) (xs : List A) → All P (x ∷ xs) → P x
 head P x xs h = h 0 x (omega arith)
@@ -34,9 +37,25 @@ tail P x xs h i d k = h (suc i) d (omega (arith, k))
 means : (w : Meaning) (budget : ℕ) (cs : List Command) (p : Problem) (a : CheckAnswer) → IsFormedCheck (state_of cs) → IsCheckPosed (state_of cs) p → IsCheckAnswer budget p a → Means w (state_of cs) a
 means w budget cs p Unsat f h is = unsatisfiable cs p h w (unsat_holds w budget p (well_formed (state_of cs) p f h) h.existentials is)
 means w budget cs p Sat f h is = satisfiable cs p h (sat_refuted budget p (well_formed (state_of cs) p f h) is)
-means w budget cs p Unknown f h is = tt
+means w budget cs p (Unknown cause) f h is = tt
 
-pub all_mean : (w : Meaning) (budget : ℕ) (qs : List (List Command)) (ps : List Problem) (xs : List CheckAnswer) → All IsFormedCheck (map state_of qs) → ArePosed (map state_of qs) ps → AreCheckAnswers budget ps xs
+shows : (cs : List Command) (p : Problem) (m : Option Shown) → IsCheckPosed (state_of cs) p → IsModelShown p m → ShowsModels (state_of cs) m
+shows cs p None posed is = tt
+shows cs p (Some x) posed (m, us, k, t, v) = record {
+  problem = p;
+  model = m;
+  constants = us;
+  posed = posed;
+  fit = k.fit ∙ ap length posed.universals;
+  satisfies = satisfied cs p (meaning_of m) us posed k.fit k.fails;
+  shown = t;
+  values = v;
+}
+
+means_all_of : (w : Meaning) (budget : ℕ) (cs : List Command) (p : Problem) (a : Checked) → IsFormedCheck (state_of cs) → IsCheckPosed (state_of cs) p → IsChecked budget p a → MeansAll w (state_of cs) a
+means_all_of w budget cs p a f h is = (means w budget cs p a.answer f h is.0, shows cs p a.model h is.1)
+
+pub all_mean : (w : Meaning) (budget : ℕ) (qs : List (List Command)) (ps : List Problem) (xs : List Checked) → All IsFormedCheck (map state_of qs) → ArePosed (map state_of qs) ps → AreCheckAnswers budget ps xs
     → AllMean w (map state_of qs) xs
 all_mean w budget [] [] [] f h is = tt
 all_mean w budget [] [] (a ∷ xs) f h is = absurd is
@@ -44,23 +63,23 @@ all_mean w budget [] (p ∷ ps) xs f h is = absurd h
 all_mean w budget (q ∷ qs) [] xs f h is = absurd h
 all_mean w budget (q ∷ qs) (p ∷ ps) [] f h is = absurd is
 all_mean w budget (q ∷ qs) (p ∷ ps) (a ∷ xs) f h is = (
-  means w budget q p a (head IsFormedCheck (state_of q) (map state_of qs) f) h.0 is.0,
+  means_all_of w budget q p a (head IsFormedCheck (state_of q) (map state_of qs) f) h.0 is.0,
   all_mean w budget qs ps xs (tail IsFormedCheck (state_of q) (map state_of qs) f) h.1 is.1,
 )
 
-all_first : (w : Meaning) (ss : List State) (xs : List CheckAnswer) → AllMean w ss xs → FirstMean w ss xs
+all_first : (w : Meaning) (ss : List State) (xs : List Checked) → AllMean w ss xs → FirstMean w ss xs
 all_first w [] [] h = tt
 all_first w [] (a ∷ xs) h = absurd h
 all_first w (s ∷ ss) [] h = tt
 all_first w (s ∷ ss) (a ∷ xs) h = (h.0, all_first w ss xs h.1)
 
-pub first_mean : (w : Meaning) (budget : ℕ) (qs : List (List Command)) (ps : List Problem) (xs : List CheckAnswer) → All IsFormedCheck (map state_of qs) → ArePosed (map state_of qs) ps → AreFirstAnswers budget ps xs
+pub first_mean : (w : Meaning) (budget : ℕ) (qs : List (List Command)) (ps : List Problem) (xs : List Checked) → All IsFormedCheck (map state_of qs) → ArePosed (map state_of qs) ps → AreFirstAnswers budget ps xs
     → FirstMean w (map state_of qs) xs
 first_mean w budget qs [] xs f h is = absurd is
 first_mean w budget qs (p ∷ ps) [] f h is = tt
 first_mean w budget [] (p ∷ ps) (a ∷ xs) f h is = absurd h
 first_mean w budget (q ∷ qs) (p ∷ ps) (a ∷ xs) f h is = (
-  means w budget q p a (head IsFormedCheck (state_of q) (map state_of qs) f) h.0 is.0,
+  means_all_of w budget q p a (head IsFormedCheck (state_of q) (map state_of qs) f) h.0 is.0,
   first_mean w budget qs ps xs (tail IsFormedCheck (state_of q) (map state_of qs) f) h.1 is.1,
 )
 
@@ -129,7 +148,7 @@ begun_means w budget whole bytes rest text name parts (told_further e h m b) =
 
 -- an answer with a refusal
 pub means_before : (w : Meaning) (budget : ℕ) (bytes : List ℕ) (a : Answer) → IsSmtAnswer budget bytes a → a.status ≡ 3 → ScriptedBefore w bytes a.text
-means_before w budget bytes a (answered ps told xs h are is) s = absurd (never_three (list_any is_unknown xs) (sym (ap (λ (z : Answer). z.status) is) ∙ s))
+means_before w budget bytes a (answered ps told xs h are is) s = absurd (never_three (list_any is_open xs) (sym (ap (λ (z : Answer). z.status) is) ∙ s))
 means_before w budget bytes a (large ps told xs h are is) s =
     subst (ScriptedBefore w bytes) (sym (ap (λ (z : Answer). z.text) is)) (begun_means w budget bytes bytes [] (replied told xs) (codes "Large") (sym (append-nil bytes)) (told_short ps told xs h are refl))
 means_before w budget bytes a (refused e text h m b is) s =
@@ -161,6 +180,6 @@ unknown_status false = refl
 
 -- each answer has a status of answers
 pub smt_status : (budget : ℕ) (bytes : List ℕ) (a : Answer) → IsSmtAnswer budget bytes a → IsAnswerStatus a.status
-smt_status budget bytes a (answered ps told xs h are is) = subst (λ b. IsAnswerStatus b.status) (sym is) (unknown_status (list_any is_unknown xs))
+smt_status budget bytes a (answered ps told xs h are is) = subst (λ b. IsAnswerStatus b.status) (sym is) (unknown_status (list_any is_open xs))
 smt_status budget bytes a (large ps told xs h are is) = subst (λ b. IsAnswerStatus b.status) (sym is) refl
 smt_status budget bytes a (refused e text h k b is) = subst (λ b. IsAnswerStatus b.status) (sym is) refl

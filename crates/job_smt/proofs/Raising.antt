@@ -4,6 +4,7 @@ use Rattle.base_budget.specs.Ending.{Ending, ends_with, out_of_steps, overflows}
 use Rattle.job_parts.specs.Parts.{IsCut, IsCutEarly, first_part, longer_part}
 use Rattle.job_parts.proofs.Raising.{run_raised}
 use Rattle.job_smt.specs.declared.checking.CheckAnswer.{CheckAnswer}
+use Rattle.job_smt.specs.declared.checking.Cause.{Cause}
 use Rattle.job_smt.specs.declared.checking.CheckAnswer.TheVariants.{Unsat, Sat, Unknown}
 use Rattle.job_smt.specs.Answers.{IsCheckAnswer, ends, told}
 use Rattle.model_runs.specs.Ends.{run_end}
@@ -39,13 +40,13 @@ sat_raised budget limit p (out_of_steps stands) h is e = absurd cc
 sat_raised budget limit p (overflows numbers stands) h is e = absurd cc
 
 -- one that says nothing is a cut
-cut_so : (p : Problem) (end : Ending run.RunAnswer) → Unknown ≡ told end → IsCut end
-cut_so p (ends_with (run.valid vs x) stands) e = absurd cc
-cut_so p (ends_with (run.invalid log x) stands) e = absurd cc
-cut_so p (ends_with (run.saturated log x) stands) e = absurd cc
-cut_so p (ends_with run.too_long stands) e = (why.Branch, (stands, refl))
-cut_so p (out_of_steps stands) e = (why.Steps, (stands, refl))
-cut_so p (overflows numbers stands) e = (why.Overflow (record { m = pos 0; a = pos 0; n = pos 0; b = pos 0 }), (numbers, stands, refl))
+cut_so : (cause : Cause) (p : Problem) (end : Ending run.RunAnswer) → Unknown cause ≡ told end → IsCut end
+cut_so cause p (ends_with (run.valid vs x) stands) e = absurd cc
+cut_so cause p (ends_with (run.invalid log x) stands) e = absurd cc
+cut_so cause p (ends_with (run.saturated log x) stands) e = absurd cc
+cut_so cause p (ends_with run.too_long stands) e = (why.Branch, (stands, refl))
+cut_so cause p (out_of_steps stands) e = (why.Steps, (stands, refl))
+cut_so cause p (overflows numbers stands) e = (why.Overflow (record { m = pos 0; a = pos 0; n = pos 0; b = pos 0 }), (numbers, stands, refl))
 
 pub unsat_so : (budget limit : ℕ) (p : Problem) (a : CheckAnswer) → Fits p → limit ≤ budget → a ≡ told (run_end limit p) → a ≡ Unsat → IsCheckAnswer budget p Unsat
 unsat_so budget limit p a f h told_so e = ends f (unsat_raised budget limit p (run_end limit p) h refl (sym e ∙ told_so))
@@ -53,5 +54,5 @@ unsat_so budget limit p a f h told_so e = ends f (unsat_raised budget limit p (r
 pub sat_so : (budget limit : ℕ) (p : Problem) (a : CheckAnswer) → Fits p → limit ≤ budget → a ≡ told (run_end limit p) → a ≡ Sat → IsCheckAnswer budget p Sat
 sat_so budget limit p a f h told_so e = ends f (sat_raised budget limit p (run_end limit p) h refl (sym e ∙ told_so))
 
-pub early_so : (budget limit : ℕ) (p : Problem) (a : CheckAnswer) → p.existentials ≡ [] → limit ≡ first_part budget → a ≡ told (run_end limit p) → a ≡ Unknown → IsCutEarly budget p
-early_so budget limit p a none is told_so e = record { alone = none; cut = cut_so p (run_end (first_part budget) p) (sym e ∙ told_so ∙ ap (λ n. told (run_end n p)) is) }
+pub early_so : (cause : Cause) (budget limit : ℕ) (p : Problem) (a : CheckAnswer) → p.existentials ≡ [] → limit ≡ first_part budget → a ≡ told (run_end limit p) → a ≡ Unknown cause → IsCutEarly budget p
+early_so cause budget limit p a none is told_so e = record { alone = none; cut = cut_so cause p (run_end (first_part budget) p) (sym e ∙ told_so ∙ ap (λ n. told (run_end n p)) is) }

@@ -24,6 +24,7 @@ use Rattle.smt_reader.specs.Replies.{replies}
 use Rattle.smt_reader.specs.declared.replies.Reply.{Reply}
 use Rattle.smt_reader.proofs.Texts.{text_checks}
 use Rattle.job_smt.specs.declared.checking.CheckAnswer.{CheckAnswer}
+use Rattle.job_smt.specs.declared.models.Checked.{Checked}
 use Rattle.job_smt.specs.declared.checking.CheckAnswer.TheVariants.{Unsat, Sat, Unknown}
 use Rattle.job_smt.specs.Answers as answers
 use Rattle.job_smt.specs.Answers.{AllAlike, AreAlike, AreCheckAnswers, AreFirstAnswers, AreOneAnswer, lines_answer, refused_after, replied}
@@ -55,23 +56,23 @@ not_both : (s : State) → ((w : Meaning) → Means w s Unsat) → Means (meanin
 not_both s none some = none (finite_meaning some.interpretation) some.constants some.fit some.satisfies
 
 alike_meant : (s : State) (a b : CheckAnswer) → ((w : Meaning) → Means w s a) → ((w : Meaning) → Means w s b) → AreAlike a b
-alike_meant s Unknown b h k = inr (inl refl)
-alike_meant s Unsat Unknown h k = inr (inr refl)
-alike_meant s Sat Unknown h k = inr (inr refl)
+alike_meant s (Unknown cause) b h k = inr (inl refl)
+alike_meant s Unsat (Unknown cause) h k = inr (inr refl)
+alike_meant s Sat (Unknown cause) h k = inr (inr refl)
 alike_meant s Unsat Unsat h k = inl refl
 alike_meant s Sat Sat h k = inl refl
 alike_meant s Unsat Sat h k = absurd (not_both s h (k (meaning_of no_table)))
 alike_meant s Sat Unsat h k = absurd (not_both s k (h (meaning_of no_table)))
 
-all_alike : (ss : List State) (xs ys : List CheckAnswer) → ((w : Meaning) → AllMean w ss xs) → ((w : Meaning) → AllMean w ss ys) → AllAlike xs ys
+all_alike : (ss : List State) (xs ys : List Checked) → ((w : Meaning) → AllMean w ss xs) → ((w : Meaning) → AllMean w ss ys) → AllAlike xs ys
 all_alike [] [] [] h k = tt
 all_alike [] [] (b ∷ ys) h k = absurd (k (meaning_of no_table))
 all_alike [] (a ∷ xs) ys h k = absurd (h (meaning_of no_table))
 all_alike (s ∷ ss) [] ys h k = absurd (h (meaning_of no_table))
 all_alike (s ∷ ss) (a ∷ xs) [] h k = absurd (k (meaning_of no_table))
-all_alike (s ∷ ss) (a ∷ xs) (b ∷ ys) h k = (alike_meant s a b (λ w. (h w).0) (λ w. (k w).0), all_alike ss xs ys (λ w. (h w).1) (λ w. (k w).1))
+all_alike (s ∷ ss) (a ∷ xs) (b ∷ ys) h k = (alike_meant s a.answer b.answer (λ w. (h w).0.0) (λ w. (k w).0.0), all_alike ss xs ys (λ w. (h w).1) (λ w. (k w).1))
 
-one_lines : (budget : ℕ) (bytes : List ℕ) (lists : List Sexp) (ps qs : List Problem) (xs ys : List CheckAnswer) → IsScriptText bytes lists → refusal_of script_terms (read_as lists) ≡ None
+one_lines : (budget : ℕ) (bytes : List ℕ) (lists : List Sexp) (ps qs : List Problem) (xs ys : List Checked) → IsScriptText bytes lists → refusal_of script_terms (read_as lists) ≡ None
     → ArePosed (checks_in (read_as lists)) ps → ArePosed (checks_in (read_as lists)) qs → AreCheckAnswers budget ps xs → AreCheckAnswers budget qs ys → AllAlike xs ys
 one_lines budget bytes lists ps qs xs ys said fits h k x y =
     let asked : List (List Command) = questions (acts_of (read_as lists)) in
@@ -79,18 +80,18 @@ one_lines budget bytes lists ps qs xs ys said fits h k x y =
     all_alike (checks_in (read_as lists)) xs ys (λ w. all_mean w budget asked ps xs formed h x) (λ w. all_mean w budget asked qs ys formed k y)
 
 -- answers up to a check that is too large
-first_alike : (budget : ℕ) (ss : List State) (ps qs : List Problem) (xs ys : List CheckAnswer) → ArePosed ss ps → ArePosed ss qs → AreFirstAnswers budget ps xs → AreFirstAnswers budget qs ys
+first_alike : (budget : ℕ) (ss : List State) (ps qs : List Problem) (xs ys : List Checked) → ArePosed ss ps → ArePosed ss qs → AreFirstAnswers budget ps xs → AreFirstAnswers budget qs ys
     → ((w : Meaning) → FirstMean w ss xs) → ((w : Meaning) → FirstMean w ss ys) → AllAlike xs ys
 first_alike budget ss [] qs xs ys h k x y m n = absurd x
 first_alike budget ss (p ∷ ps) [] xs ys h k x y m n = absurd y
 first_alike budget [] (p ∷ ps) (q ∷ qs) xs ys h k x y m n = absurd h
 first_alike budget (s ∷ ss) (p ∷ ps) (q ∷ qs) [] [] h k x y m n = tt
-first_alike budget (s ∷ ss) (p ∷ ps) (q ∷ qs) [] (b ∷ ys) h k x y m n = absurd (not_large budget p q b (same_posed s p q h.0 k.0) y.0 x)
-first_alike budget (s ∷ ss) (p ∷ ps) (q ∷ qs) (a ∷ xs) [] h k x y m n = absurd (not_large budget q p a (same_posed s q p k.0 h.0) x.0 y)
+first_alike budget (s ∷ ss) (p ∷ ps) (q ∷ qs) [] (b ∷ ys) h k x y m n = absurd (not_large budget p q b.answer (same_posed s p q h.0 k.0) y.0.0 x)
+first_alike budget (s ∷ ss) (p ∷ ps) (q ∷ qs) (a ∷ xs) [] h k x y m n = absurd (not_large budget q p a.answer (same_posed s q p k.0 h.0) x.0.0 y)
 first_alike budget (s ∷ ss) (p ∷ ps) (q ∷ qs) (a ∷ xs) (b ∷ ys) h k x y m n =
-    (alike_meant s a b (λ w. (m w).0) (λ w. (n w).0), first_alike budget ss ps qs xs ys h.1 k.1 x.1 y.1 (λ w. (m w).1) (λ w. (n w).1))
+    (alike_meant s a.answer b.answer (λ w. (m w).0.0) (λ w. (n w).0.0), first_alike budget ss ps qs xs ys h.1 k.1 x.1 y.1 (λ w. (m w).1) (λ w. (n w).1))
 
-first_lines : (budget : ℕ) (bytes : List ℕ) (lists : List Sexp) (ps qs : List Problem) (xs ys : List CheckAnswer) → IsScriptText bytes lists → refusal_of script_terms (read_as lists) ≡ None
+first_lines : (budget : ℕ) (bytes : List ℕ) (lists : List Sexp) (ps qs : List Problem) (xs ys : List Checked) → IsScriptText bytes lists → refusal_of script_terms (read_as lists) ≡ None
     → ArePosed (checks_in (read_as lists)) ps → ArePosed (checks_in (read_as lists)) qs → AreFirstAnswers budget ps xs → AreFirstAnswers budget qs ys → AllAlike xs ys
 first_lines budget bytes lists ps qs xs ys said fits h k x y =
     let asked : List (List Command) = questions (acts_of (read_as lists)) in
@@ -98,37 +99,37 @@ first_lines budget bytes lists ps qs xs ys said fits h k x y =
     first_alike budget (checks_in (read_as lists)) ps qs xs ys h k x y (λ w. first_mean w budget asked ps xs formed h x) (λ w. first_mean w budget asked qs ys formed k y)
 
 -- where all checks are answered, none is too large
-pub never_short : (budget : ℕ) (ss : List State) (ps qs : List Problem) (xs ys : List CheckAnswer) → ArePosed ss ps → ArePosed ss qs → AreCheckAnswers budget ps xs → AreFirstAnswers budget qs ys → ⊥
+pub never_short : (budget : ℕ) (ss : List State) (ps qs : List Problem) (xs ys : List Checked) → ArePosed ss ps → ArePosed ss qs → AreCheckAnswers budget ps xs → AreFirstAnswers budget qs ys → ⊥
 never_short budget ss ps [] xs ys h k x y = y
 never_short budget [] ps (q ∷ qs) xs ys h k x y = k
 never_short budget (s ∷ ss) [] (q ∷ qs) xs ys h k x y = h
 never_short budget (s ∷ ss) (p ∷ ps) (q ∷ qs) [] ys h k x y = x
-never_short budget (s ∷ ss) (p ∷ ps) (q ∷ qs) (a ∷ xs) [] h k x y = not_large budget q p a (same_posed s q p k.0 h.0) x.0 y
+never_short budget (s ∷ ss) (p ∷ ps) (q ∷ qs) (a ∷ xs) [] h k x y = not_large budget q p a.answer (same_posed s q p k.0 h.0) x.0.0 y
 never_short budget (s ∷ ss) (p ∷ ps) (q ∷ qs) (a ∷ xs) (b ∷ ys) h k x y = never_short budget ss ps qs xs ys h.1 k.1 x.1 y.1
 
-none_large : (budget : ℕ) (ss : List State) (ps qs : List Problem) (ys : List CheckAnswer) → ArePosed ss ps → ArePosed ss qs → AreCheckAnswers budget qs ys → All (λ p. ¬ (IsLarge p)) ps
+none_large : (budget : ℕ) (ss : List State) (ps qs : List Problem) (ys : List Checked) → ArePosed ss ps → ArePosed ss qs → AreCheckAnswers budget qs ys → All (λ p. ¬ (IsLarge p)) ps
 none_large budget [] [] qs ys h k y = λ i d l. absurd (omega (arith, l))
 none_large budget [] (p ∷ ps) qs ys h k y = absurd h
 none_large budget (s ∷ ss) [] qs ys h k y = absurd h
 none_large budget (s ∷ ss) (p ∷ ps) [] ys h k y = absurd k
 none_large budget (s ∷ ss) (p ∷ ps) (q ∷ qs) [] h k y = absurd y
 none_large budget (s ∷ ss) (p ∷ ps) (q ∷ qs) (b ∷ ys) h k y =
-    All-cons (λ z. ¬ (IsLarge z)) p ps (not_large budget p q b (same_posed s p q h.0 k.0) y.0) (none_large budget ss ps qs ys h.1 k.1 y.1)
+    All-cons (λ z. ¬ (IsLarge z)) p ps (not_large budget p q b.answer (same_posed s p q h.0 k.0) y.0.0) (none_large budget ss ps qs ys h.1 k.1 y.1)
 
 -- the problems of a script are posed for the lists of another reading of it
 posed_there : (bytes : List ℕ) (ps qs : List Problem) (h : IsScriptOf bytes ps) (k : IsScriptOf bytes qs) → ArePosed (checks_in (read_as h.lists)) qs
 posed_there bytes ps qs h k = subst (λ z. ArePosed (checks_in (read_as z)) qs) (one_lists bytes k.lists h.lists k.said h.said) k.posed.posed
 
-pub all_there : (budget : ℕ) (bytes : List ℕ) (ps qs : List Problem) (xs ys : List CheckAnswer) → IsScriptOf bytes ps → IsScriptOf bytes qs → AreCheckAnswers budget ps xs → AreCheckAnswers budget qs ys → AllAlike xs ys
+pub all_there : (budget : ℕ) (bytes : List ℕ) (ps qs : List Problem) (xs ys : List Checked) → IsScriptOf bytes ps → IsScriptOf bytes qs → AreCheckAnswers budget ps xs → AreCheckAnswers budget qs ys → AllAlike xs ys
 all_there budget bytes ps qs xs ys h k x y = one_lines budget bytes h.lists ps qs xs ys h.said h.posed.fits h.posed.posed (posed_there bytes ps qs h k) x y
 
-first_there : (budget : ℕ) (bytes : List ℕ) (ps qs : List Problem) (xs ys : List CheckAnswer) → IsScriptOf bytes ps → IsScriptOf bytes qs → AreFirstAnswers budget ps xs → AreFirstAnswers budget qs ys → AllAlike xs ys
+first_there : (budget : ℕ) (bytes : List ℕ) (ps qs : List Problem) (xs ys : List Checked) → IsScriptOf bytes ps → IsScriptOf bytes qs → AreFirstAnswers budget ps xs → AreFirstAnswers budget qs ys → AllAlike xs ys
 first_there budget bytes ps qs xs ys h k x y = first_lines budget bytes h.lists ps qs xs ys h.said h.posed.fits h.posed.posed (posed_there bytes ps qs h k) x y
 
-pub short_there : (budget : ℕ) (bytes : List ℕ) (ps qs : List Problem) (xs ys : List CheckAnswer) → IsScriptOf bytes ps → IsScriptOf bytes qs → AreCheckAnswers budget ps xs → AreFirstAnswers budget qs ys → ⊥
+pub short_there : (budget : ℕ) (bytes : List ℕ) (ps qs : List Problem) (xs ys : List Checked) → IsScriptOf bytes ps → IsScriptOf bytes qs → AreCheckAnswers budget ps xs → AreFirstAnswers budget qs ys → ⊥
 short_there budget bytes ps qs xs ys h k x y = never_short budget (checks_in (read_as h.lists)) ps qs xs ys h.posed.posed (posed_there bytes ps qs h k) x y
 
-pub large_there : (budget : ℕ) (bytes : List ℕ) (ps qs : List Problem) (p : Problem) (ys : List CheckAnswer) → IsScriptOf bytes ps → IsScriptOf bytes qs → Contains ps p → IsLarge p → AreCheckAnswers budget qs ys → ⊥
+pub large_there : (budget : ℕ) (bytes : List ℕ) (ps qs : List Problem) (p : Problem) (ys : List Checked) → IsScriptOf bytes ps → IsScriptOf bytes qs → Contains ps p → IsLarge p → AreCheckAnswers budget qs ys → ⊥
 large_there budget bytes ps qs p ys h k c l y = All-contains (λ z. ¬ (IsLarge z)) ps p (none_large budget (checks_in (read_as h.lists)) ps qs ys h.posed.posed (posed_there bytes ps qs h k) y) c l
 
 -- one text asks for the same replies
@@ -148,7 +149,7 @@ one_name bytes e f (inr h) (inr k) m n = h.0 ∙ sym k.0
 
 -- two texts tell of the same replies, with answers that are alike
 abbrev AreTold : List ℕ → List ℕ → Type 0
-AreTold t u = (told : List Reply) × (xs : List CheckAnswer) × (ys : List CheckAnswer) × (t ≡ replied told xs) × (u ≡ replied told ys) × AllAlike xs ys
+AreTold t u = (told : List Reply) × (xs : List Checked) × (ys : List Checked) × (t ≡ replied told xs) × (u ≡ replied told ys) × AllAlike xs ys
 
 -- what is told of the beginning of a text
 begun_alike : (budget : ℕ) (bytes t u : List ℕ) → IsBegun budget bytes t → IsBegun budget bytes u → AreTold t u

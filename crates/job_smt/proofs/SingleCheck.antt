@@ -12,9 +12,9 @@ use Rattle.job_smt.specs.Answers.{AreAlike, IsCheckAnswer, ends, leaves, proved,
 use Rattle.job_smt.proofs.Answered.{never_both, sat_refuted, unsat_holds}
 
 pub alike : (budget : ℕ) (p : Problem) (a b : CheckAnswer) → IsWellFormed p → p.existentials ≡ [] → IsCheckAnswer budget p a → IsCheckAnswer budget p b → AreAlike a b
-alike budget p Unknown b formed none h k = inr (inl refl)
-alike budget p Unsat Unknown formed none h k = inr (inr refl)
-alike budget p Sat Unknown formed none h k = inr (inr refl)
+alike budget p (Unknown cause) b formed none h k = inr (inl refl)
+alike budget p Unsat (Unknown cause) formed none h k = inr (inr refl)
+alike budget p Sat (Unknown cause) formed none h k = inr (inr refl)
 alike budget p Unsat Unsat formed none h k = inl refl
 alike budget p Sat Sat formed none h k = inl refl
 alike budget p Unsat Sat formed none h k = absurd (never_both p none (λ w. unsat_holds w budget p formed none h) (sat_refuted budget p formed k))

@@ -9,7 +9,7 @@ ghost use Rattle.smt_reader.specs.Poses.{IsScriptRefusal, IsScriptWith};
 ghost use Rattle.smt_reader.specs.declared.posing.Script.{Script};
 ghost use Rattle.std.specs.Prelude.{◌≡◌, ◌≢◌, ◌<◌, ◌≤◌, IfOk, List, ℕ, length};
 
-use crate::lines::{answer_checks, replied, status_of};
+use crate::lines::{answer_checks, asks_model, replied, status_of};
 use crate::refusals::refuse;
 use base_answers::{Output, refused};
 use base_watch::Watch;
@@ -20,7 +20,8 @@ use smt_reader::{Script, script};
 use std::alloc::Global;
 
 /// The answer to a script of these bytes: `unsat`, `sat` or `unknown` for each `check-sat`, in order, by the canonical run on its
-/// problem, or the clause search, each with this budget; and the lines of the commands that only say something. If the text is refused, or a
+/// problem, or the clause search, each with this budget; the model of the last check for each `get-model`; and the lines of the commands
+/// that only say something. If the text is refused, or a
 /// check is too large, the refusal stands after what is told of the commands before it. The one error is running out of memory.
 pub fn answer<X: Watch>(
     alloc: Global,
@@ -49,7 +50,8 @@ fn answer_script<X: Watch>(
     requires budget { budget ≤ most_budget }
     ensures { IfOk result (λ output. IsSmtAnswer budget bytes.now (answer_of output)) }
 {
-    let answers = answer_checks(alloc, script.checks.as_slice(), budget, watch)?;
+    let asks = asks_model(script.replies.as_slice());
+    let answers = answer_checks(alloc, script.checks.as_slice(), budget, asks, watch)?;
     let given = answers.given.as_slice();
     let text = replied(alloc, script.replies.as_slice(), given)?;
     if answers.stopped {
@@ -91,7 +93,8 @@ fn begun<X: Watch>(
 {
     match script(alloc, bytes) {
         Ok(script) => {
-            let found = answer_checks(alloc, script.checks.as_slice(), budget, watch)?;
+            let asks = asks_model(script.replies.as_slice());
+            let found = answer_checks(alloc, script.checks.as_slice(), budget, asks, watch)?;
             replied(alloc, script.replies.as_slice(), found.given.as_slice())
         }
         Err(refusal) => {

@@ -6,7 +6,7 @@ ghost use Rattle.pri_typing.specs.declared.problem.Problem.{Problem};
 ghost use Rattle.pri_problem.specs.Encoded.{Fits, IsEncoded};
 ghost use Rattle.job_clauses.specs.Judged.{IsJudged};
 ghost use Rattle.job_parts.specs.Parts.{IsCutEarly};
-ghost use Rattle.job_smt.specs.Answers.{IsCheckAnswer, IsCheckOutcome, IsFoundAnswer, told, told_of};
+ghost use Rattle.job_smt.specs.Answers.{IsCheckAnswer, IsCheckOutcome, IsFoundAnswer, cause_of, told, told_of};
 ghost use Rattle.model_runs.specs.Ends.{run_end};
 ghost use Rattle.std.specs.Prelude.{◌≡◌, ◌≤◌, ℕ, [], IfOk};
 
@@ -18,6 +18,7 @@ use job_parts::{first_part, longer_part};
 use linear_term::Memory;
 use pri_problem::encode_problem;
 use pri_typing::Problem;
+use proof_tree::Why;
 use search::{Decided, decide};
 use std::alloc::Global;
 
@@ -29,7 +30,18 @@ pub enum CheckAnswer {
     /// Something satisfies them.
     Sat,
     /// The canonical run was cut, or a number of the encoding leaves the range.
-    Unknown,
+    Unknown(Cause),
+}
+
+/// Why a check has no answer.
+#[derive(Debug, Clone, Copy)]
+pub enum Cause {
+    /// The steps of the budget were used up.
+    Steps,
+    /// A number would have left the range.
+    Overflow,
+    /// A branch of the proof tree would have grown too long.
+    Branch,
 }
 
 /// The answer to the check whose problem this is, without existential constants, with this budget: by the canonical run, and where that
@@ -52,7 +64,7 @@ pub fn check<X: Watch>(
             Ok(Some(answer))
         }
         Err(EncodeRefusal::Large) => Ok(None),
-        Err(EncodeRefusal::Overflow(_)) => Ok(Some(CheckAnswer::Unknown)),
+        Err(EncodeRefusal::Overflow(_)) => Ok(Some(CheckAnswer::Unknown(Cause::Overflow))),
         Err(EncodeRefusal::Memory) => Err(Memory),
     }
 }
@@ -74,7 +86,7 @@ fn encoded_answer<X: Watch>(
     match run(alloc, p, encoded, first_part(budget), watch)? {
         CheckAnswer::Unsat => Ok(CheckAnswer::Unsat),
         CheckAnswer::Sat => Ok(CheckAnswer::Sat),
-        CheckAnswer::Unknown => briefly(alloc, p, encoded, budget, watch),
+        CheckAnswer::Unknown(_) => briefly(alloc, p, encoded, budget, watch),
     }
 }
 
@@ -117,7 +129,7 @@ fn longer<X: Watch>(
     match run(alloc, p, encoded, longer_part(budget), watch)? {
         CheckAnswer::Unsat => Ok(CheckAnswer::Unsat),
         CheckAnswer::Sat => Ok(CheckAnswer::Sat),
-        CheckAnswer::Unknown => by_clauses(alloc, p, encoded, budget, watch),
+        CheckAnswer::Unknown(_) => by_clauses(alloc, p, encoded, budget, watch),
     }
 }
 
@@ -186,6 +198,17 @@ fn answer_of(decided: &Decided) -> CheckAnswer
     match decided {
         Decided::Valid { .. } => CheckAnswer::Unsat,
         Decided::Invalid { .. } | Decided::Saturated { .. } => CheckAnswer::Sat,
-        Decided::Unknown { .. } => CheckAnswer::Unknown,
+        Decided::Unknown { why, .. } => CheckAnswer::Unknown(cause_by(why)),
+    }
+}
+
+// Why a run was cut, without the place.
+fn cause_by(why: &Why) -> Cause
+    ensures { result ≡ cause_of why.now }
+{
+    match why {
+        Why::Steps => Cause::Steps,
+        Why::Overflow(_) => Cause::Overflow,
+        Why::Branch => Cause::Branch,
     }
 }

@@ -9,7 +9,8 @@ ghost use Rattle.std.specs.Prelude.{◌≡◌, ◌⊎◌, ℕ, List};
 ghost use Rattle.form_typed.specs.Truth.{Meaning};
 
 /// An answer with status 0 or 2 has a line for each `check-sat`. Where it says `unsat`, nothing satisfies the assertions in force there,
-/// in any interpretation; where it says `sat`, a finite interpretation and some integers do.
+/// in any interpretation; where it says `sat`, a finite interpretation and some integers do. With a model that `get-model` prints, each
+/// assertion in force at the last check is true.
 pub fn meaning_law()
     ensures { (w : Meaning) (budget : ℕ) (bytes : List ℕ) (a : Answer) → IsSmtAnswer budget bytes a → (a.status ≡ 0) ⊎ (a.status ≡ 2) → Scripted w bytes a.text }
 {}

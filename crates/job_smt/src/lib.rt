@@ -7,9 +7,10 @@ mod check_laws;
 mod checking;
 mod laws;
 mod lines;
+mod models;
 mod refusals;
 
 pub use answering::answer;
 pub use check_laws::answer_law;
-pub use checking::{CheckAnswer, check};
+pub use checking::{Cause, CheckAnswer, check};
 pub use laws::{causes_law, meaning_law, one_answer_law};

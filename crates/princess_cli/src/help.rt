@@ -12,6 +12,7 @@ usage: princess solve FILE [--budget N] [--proof | --short] [--calculus] [--coun
        princess find FILE [--budget N] [--proof]             values of the existential constants at which a problem holds
        princess least FILE TERM [--budget N]                 the least value of a term over all solutions
        princess smt FILE [--budget N]                        a script of SMT-LIB: sat, unsat or unknown for each check-sat
+       princess smt - [--budget N]                           a dialogue: each command of the standard input is answered as it comes
        princess drill COUNT [--budget N]                     answers a made problem of COUNT parts, 1 to 1,000
        princess help | --help | -h | --version               this text; the version
        princess COMMAND --help                               this text

@@ -6,9 +6,11 @@ ghost use Rattle.base_answers.specs.Outside.{Meets};
 ghost use Rattle.job_words.specs.Jobs.{Task};
 ghost use Rattle.prover_job.specs.Runs.{AnswersTask, AskFor};
 
+mod dialogue;
 mod help;
 mod request;
 
+use crate::dialogue::{dialogue_budget, hold};
 use crate::help::{HELP, VERSION};
 use crate::request::{Manner, Request, read_request};
 use base_answers::put_all;
@@ -104,6 +106,9 @@ fn proof_file<'a>(rt: &'a HostRuntime, manner: &'a Manner) -> Option<FileSink<'a
 /// Does the job that words name, with messages on standard error unless they are turned off, and answers the exit status.
 fn answer<'x>(rt: &'x HostRuntime, words: &[String], manner: &'x Manner) -> u8 {
     let alloc = rt.alloc();
+    if let Some(budget) = dialogue_budget(alloc, words, manner) {
+        return hold(rt, words, budget, manner);
+    }
     let mut source = KeptSource::new(alloc, SystemSource::new(alloc, rt));
     let parted = SplitSink::new(OutSink::new(rt), proof_file(rt, manner));
     let mut sink = KeptSink::new(alloc, parted);

@@ -6,7 +6,7 @@ use Rattle.smt_lists.specs.declared.tree.Sexp.{Sexp}
 use Rattle.smt_lists.specs.declared.tree.Sexp.TheVariants as s
 use Rattle.smt_lists.specs.Expressions.{Expr, exprs, expr, place_of}
 use Rattle.smt_lists.proofs.Folds.{expr-Atom, expr-List}
-use Rattle.smt_commands.specs.Commands.{symbol_in, symbol_of, keyword_of, keyword_in, string_of, string_in, items, members_of, command_by, is_argument}
+use Rattle.smt_commands.specs.Commands.{symbol_in, symbol_of, keyword_of, keyword_in, string_of, string_in, items, members_of, command_by, is_argument, is_symbol}
 use Rattle.smt_commands.specs.declared.words.Word.TheVariants as w
 
 items-exprs : (es : List Expr) → items (exprs es) ≡ es
@@ -58,6 +58,20 @@ all_off xs x more whole e a w =
 
 pub all_end : (xs : List Sexp) (whole : Bool) → xs ≡ [] → list_all is_argument (map expr xs) ≡ whole → true ≡ whole
 all_end xs whole e w = sym (ap (λ z. list_all is_argument (map expr z)) e) ∙ w
+
+-- whether all are symbols, one further
+pub symbols_on : (xs : List Sexp) (x : Sexp) (more : List Sexp) (whole : Bool) → xs ≡ x ∷ more → is_symbol (expr x) ≡ true
+    → list_all is_symbol (map expr xs) ≡ whole → list_all is_symbol (map expr more) ≡ whole
+symbols_on xs x more whole e a w =
+    sym (ap (λ z. z && list_all is_symbol (map expr more)) a) ∙ sym (ap (λ z. list_all is_symbol (map expr z)) e) ∙ w
+
+pub symbols_off : (xs : List Sexp) (x : Sexp) (more : List Sexp) (whole : Bool) → xs ≡ x ∷ more → is_symbol (expr x) ≡ false
+    → list_all is_symbol (map expr xs) ≡ whole → false ≡ whole
+symbols_off xs x more whole e a w =
+    sym (ap (λ z. z && list_all is_symbol (map expr more)) a) ∙ sym (ap (λ z. list_all is_symbol (map expr z)) e) ∙ w
+
+pub symbols_end : (xs : List Sexp) (whole : Bool) → xs ≡ [] → list_all is_symbol (map expr xs) ≡ whole → true ≡ whole
+symbols_end xs whole e w = sym (ap (λ z. list_all is_symbol (map expr z)) e) ∙ w
 
 -- what is longer is not of the form
 fun_too_long : (a b c : Sexp) (end : List Sexp) → (end ≡ [] → ⊥) → command_by w.DeclareFun (map expr (a ∷ b ∷ c ∷ end)) ≡ None

@@ -1,5 +1,5 @@
 -- Which lists are commands. Where a command has a sort or a term, any S-expression may stand for its form.
-use Rattle.std.specs.Prelude.{ℕ, Bool, true, false, List, [], ◌∷◌, Option, Some, None, unsigned_abs, codes, if◌then◌else◌}
+use Rattle.std.specs.Prelude.{ℕ, Bool, true, false, List, [], ◌∷◌, map, Option, Some, None, unsigned_abs, codes, if◌then◌else◌}
 use Rattle.std.specs.List.{list_all}
 use Rattle.std.specs.Str.{bytes_eq}
 use Rattle.smt_lists.specs.declared.tree.AtomKind.{AtomKind}
@@ -14,14 +14,19 @@ pub record Symbol : Type 0 where
   pub at : ℕ
   pub text : List ℕ
 
--- what a command says, whatever comes before it: a string, by what stands between its quotes; the name of the program, its authors,
--- and what it does after an error; or that it is not supported
+-- What a command says, whatever comes before it: a string, by what stands between its quotes; the name of the program, its version, its
+-- authors, and what it does after an error; or that it is not supported. Others speak of the last check: why its answer is unknown, its
+-- model, and the values of symbols there.
 pub data Saying : Type 0 where
   echoed : List ℕ → Saying
   program : Saying
+  version : Saying
   authors : Saying
   after_error : Saying
   unsupported : Saying
+  the_reason : Saying
+  the_model : Saying
+  the_values : List (List ℕ) → Saying
 
 -- a command: without effect; one that only says something; a symbol that is declared, with the sorts of its arguments and its sort; a
 -- symbol that is defined, with its arguments, its sort and its term; an assertion; a check, with the terms that are assumed for it; this
@@ -112,7 +117,9 @@ abbrev pub information : List ℕ → Saying
 information flag =
     if bytes_eq flag (codes ":name") then program else
     (if bytes_eq flag (codes ":authors") then authors else
-    (if bytes_eq flag (codes ":error-behavior") then after_error else unsupported))
+    (if bytes_eq flag (codes ":error-behavior") then after_error else
+    (if bytes_eq flag (codes ":version") then version else
+    (if bytes_eq flag (codes ":reason-unknown") then the_reason else unsupported))))
 
 abbrev pub informs : Option (List ℕ) → Option CommandForm
 informs None = None
@@ -122,6 +129,24 @@ informs (Some flag) = Some (say (information flag))
 abbrev pub declines : Bool → Option CommandForm
 declines true = Some (say unsupported)
 declines false = None
+
+-- the S-expression is a symbol
+abbrev pub is_symbol : Expr → Bool
+is_symbol e = is_some (symbol_of e)
+
+-- the text of a symbol
+abbrev pub text_of : Expr → List ℕ
+text_of e = elim (symbol_of e) [ None ↦ [] | Some x ↦ x.text ]
+
+-- the values of symbols are told; those of other terms are not supported
+abbrev pub asked_values : List Expr → Saying
+asked_values ts = if list_all is_symbol ts then the_values (map text_of ts) else unsupported
+
+-- what `get-value` asks of these terms, one at least
+abbrev pub asks_values : Option (List Expr) → Option CommandForm
+asks_values None = None
+asks_values (Some []) = None
+asks_values (Some (t ∷ ts)) = Some (say (asked_values (t ∷ ts)))
 
 abbrev pub skips : Bool → Option CommandForm
 skips true = Some skip
@@ -174,8 +199,8 @@ command_by w.ResetAssertions [] = Some reset
 command_by w.Echo (s ∷ []) = echoes (string_of s)
 command_by w.GetInfo (k ∷ []) = informs (keyword_of k)
 command_by w.GetOption (k ∷ []) = declines (is_keyword k)
-command_by w.GetModel [] = Some (say unsupported)
-command_by w.GetValue (ts ∷ []) = declines (is_some (members_of ts))
+command_by w.GetModel [] = Some (say the_model)
+command_by w.GetValue (ts ∷ []) = asks_values (members_of ts)
 command_by w.GetAssignment [] = Some (say unsupported)
 command_by w.GetAssertions [] = Some (say unsupported)
 command_by w.GetUnsatCore [] = Some (say unsupported)

@@ -1,5 +1,5 @@
 -- What keeps a script from being taken, but for its tokens and its size.
-use Rattle.std.specs.Prelude.{ℕ, ◌+◌, Bool, true, false, List, [], ◌∷◌, ◌++◌, length, Option, Some, None, nat_le, nat_lt, if◌then◌else◌}
+use Rattle.std.specs.Prelude.{ℕ, ◌+◌, Bool, true, false, List, [], ◌∷◌, ◌++◌, length, Option, Some, None, nat_le, if◌then◌else◌}
 use Rattle.std.specs.List.{flat_map}
 use Rattle.base_limits.specs.Limits.{most_symbols}
 use Rattle.smt_lists.specs.Expressions.{Expr, place_of}

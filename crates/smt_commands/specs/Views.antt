@@ -27,9 +27,13 @@ now_of text = text.now
 abbrev pub saying_of : Saying → said.Saying
 saying_of (says.Echoed text) = said.echoed text.now
 saying_of says.Program = said.program
+saying_of says.Version = said.version
 saying_of says.Authors = said.authors
 saying_of says.AfterError = said.after_error
 saying_of says.Unsupported = said.unsupported
+saying_of says.Reason = said.the_reason
+saying_of says.Model = said.the_model
+saying_of (says.Values ts) = said.the_values (map said.text_of (map expr ts.now))
 
 -- what a command is
 abbrev pub form_of : Command → CommandForm

@@ -74,8 +74,8 @@ fn by_word(word: Word, rest: &[Sexp]) -> Option<Command<'_>>
         Word::GetInfo => get_info(rest),
         Word::GetOption => get_option(rest),
         Word::GetValue => get_value(rest),
-        Word::GetModel
-        | Word::GetAssignment
+        Word::GetModel => alone(rest, Command::Say(Saying::Model)),
+        Word::GetAssignment
         | Word::GetAssertions
         | Word::GetUnsatCore
         | Word::GetUnsatAssumptions

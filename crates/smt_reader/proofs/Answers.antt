@@ -3,14 +3,15 @@ use Rattle.std.proofs.Common.{◌≡◌, ℕ, ℤ, List, [], ◌∷◌, ◌++◌
 use Rattle.std.specs.List.{Contains}
 use Rattle.std.proofs.lemmas.List.Elements.{All-contains, Contains-append_right, Contains-get_or}
 use Rattle.form_typed.specs.Sorts.{AreValuesOf}
-use Rattle.form_typed.specs.Truth.{Truth}
+use Rattle.form_typed.specs.Formula.{formula}
+use Rattle.form_typed.specs.Truth.{Meaning, Truth}
 use Rattle.pri_typing.specs.declared.problem.Problem.{Problem}
 use Rattle.pri_typing.specs.Files.{all_int}
 use Rattle.pri_typing.specs.Problems.{finite_meaning}
-use Rattle.smt_terms.specs.Scripts.{CheckLaw, Command, State, after, check, checks, checks_from, claim, declare, define, start}
+use Rattle.smt_terms.specs.Scripts.{CheckLaw, Command, IsSatisfied, State, after, check, checks, checks_from, claim, declare, define, start}
 use Rattle.smt_terms.proofs.Scripts.{checks_law}
 use Rattle.smt_reader.specs.Commands.{all_after, state_of}
-use Rattle.smt_reader.specs.Posed.{MeansSatisfiable, MeansUnsatisfiable}
+use Rattle.smt_reader.specs.Posed.{IsCheckPosed, MeansSatisfiable, MeansUnsatisfiable}
 
 -- what commands come to is what a check after them asks of
 asked : (s : State) (cs : List Command) → Contains (checks_from s (cs ++ check ∷ [])) (all_after s cs)
@@ -46,3 +47,7 @@ satisfiable cs p posed refuted =
       fit = fits;
       satisfies = ((law_of cs).false_where (finite_meaning at.interpretation) at.universals fits).0 (subst (λ f. ¬ (Truth (finite_meaning at.interpretation) f at.universals)) posed.formula at.fails);
     }
+
+-- at a counterexample of its problem the assertions of a check are true
+pub satisfied : (cs : List Command) (p : Problem) (w : Meaning) (us : List ℤ) → IsCheckPosed (state_of cs) p → length us ≡ length p.universals → ¬ (Truth w (formula p.formula) us) → IsSatisfied w us (state_of cs)
+satisfied cs p w us posed fit fails = ((law_of cs).false_where w us (fit ∙ ap length posed.universals)).0 (subst (λ f. ¬ (Truth w f us)) posed.formula fails)

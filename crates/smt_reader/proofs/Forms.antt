@@ -8,7 +8,7 @@ use Rattle.smt_commands.specs.declared.table.Entry.{Entry}
 use Rattle.smt_commands.specs.declared.words.Word.{Word}
 use Rattle.smt_commands.specs.declared.words.Word.TheVariants as w
 use Rattle.smt_commands.specs.Commands as form
-use Rattle.smt_commands.specs.Commands.{CommandForm, Symbol, command_behind, command_by, command_of, declares, defined, defines, is_argument, is_keyword, is_some, items, keyword_of, members_of, skips, string_of, symbol_of, assumes, declines, echoes, informs, levels_of, pops, pushes}
+use Rattle.smt_commands.specs.Commands.{CommandForm, Symbol, command_behind, command_by, command_of, declares, defined, defines, is_argument, is_keyword, is_some, items, keyword_of, members_of, skips, string_of, symbol_of, asks_values, assumes, declines, echoes, informs, levels_of, pops, pushes}
 use Rattle.smt_commands.specs.Levels.{Levels}
 use Rattle.smt_commands.specs.Words.{word_of}
 use Rattle.smt_commands.specs.Faults as faults
@@ -80,6 +80,11 @@ module _ (P : ℕ → Type 0) where
   informs_at None = tt
   informs_at (Some text) = tt
 
+  values_at : (ts : Option (List Expr)) → FormAt (asks_values ts)
+  values_at None = tt
+  values_at (Some []) = tt
+  values_at (Some (t ∷ ts)) = tt
+
   declines_at : (b : Bool) → FormAt (declines b)
   declines_at true = tt
   declines_at false = tt
@@ -144,7 +149,7 @@ module _ (P : ℕ → Type 0) where
   by_at w.GetOption (a ∷ []) h = declines_at (is_keyword a)
   by_at w.GetOption (a ∷ (b ∷ es)) h = tt
   by_at w.GetValue [] h = tt
-  by_at w.GetValue (a ∷ []) h = declines_at (is_some (members_of a))
+  by_at w.GetValue (a ∷ []) h = values_at (members_of a)
   by_at w.GetValue (a ∷ (b ∷ es)) h = tt
   by_at w.GetModel [] h = tt
   by_at w.GetModel (a ∷ es) h = tt

@@ -8,7 +8,7 @@ use Rattle.smt_lists.specs.Expressions.{Expr, Exprs, atom, list, no_expr, and_ex
 use Rattle.smt_commands.specs.declared.words.Word.{Word}
 use Rattle.smt_commands.specs.declared.words.Word.TheVariants as w
 use Rattle.smt_commands.specs.Commands as form
-use Rattle.smt_commands.specs.Commands.{CommandForm, Symbol, command_behind, command_by, command_of, declares, defined, defines, is_argument, is_keyword, is_some, items, keyword_of, members_of, skips, string_of, symbol_of, assumes, declines, echoes, informs, levels_of, pops, pushes}
+use Rattle.smt_commands.specs.Commands.{CommandForm, Symbol, command_behind, command_by, command_of, declares, defined, defines, is_argument, is_keyword, is_some, items, keyword_of, members_of, skips, string_of, symbol_of, asks_values, assumes, declines, echoes, informs, levels_of, pops, pushes}
 use Rattle.smt_commands.specs.Words.{word_of}
 use Rattle.smt_commands.specs.Faults as faults
 use Rattle.smt_commands.specs.Faults.{form_in}
@@ -218,6 +218,11 @@ informs_ranged : (text : Option (List ℕ)) → IsRangedForm (informs text)
 informs_ranged None = tt
 informs_ranged (Some text) = tt
 
+values_ranged : (ts : Option (List Expr)) → IsRangedForm (asks_values ts)
+values_ranged None = tt
+values_ranged (Some []) = tt
+values_ranged (Some (t ∷ ts)) = tt
+
 declines_ranged : (b : Bool) → IsRangedForm (declines b)
 declines_ranged true = tt
 declines_ranged false = tt
@@ -282,7 +287,7 @@ by_ranged w.GetOption [] h = tt
 by_ranged w.GetOption (a ∷ []) h = declines_ranged (is_keyword a)
 by_ranged w.GetOption (a ∷ (b ∷ es)) h = tt
 by_ranged w.GetValue [] h = tt
-by_ranged w.GetValue (a ∷ []) h = declines_ranged (is_some (members_of a))
+by_ranged w.GetValue (a ∷ []) h = values_ranged (members_of a)
 by_ranged w.GetValue (a ∷ (b ∷ es)) h = tt
 by_ranged w.GetModel [] h = tt
 by_ranged w.GetModel (a ∷ es) h = tt

@@ -15,7 +15,7 @@ use Rattle.smt_lists.specs.Grammar.{IsScriptText, SayAll, SaysSexp, more, nothin
 use Rattle.smt_commands.specs.declared.words.Word.{Word}
 use Rattle.smt_commands.specs.declared.words.Word.TheVariants as w
 use Rattle.smt_commands.specs.Commands as form
-use Rattle.smt_commands.specs.Commands.{CommandForm, Symbol, command_behind, command_by, command_of, declares, defined, defines, is_argument, is_keyword, is_some, items, keyword_of, members_of, skips, string_of, symbol_of, assumes, declines, echoes, informs, levels_of, pops, pushes}
+use Rattle.smt_commands.specs.Commands.{CommandForm, Symbol, command_behind, command_by, command_of, declares, defined, defines, is_argument, is_keyword, is_some, items, keyword_of, members_of, skips, string_of, symbol_of, asks_values, assumes, declines, echoes, informs, levels_of, pops, pushes}
 use Rattle.smt_commands.specs.Words.{word_of}
 use Rattle.smt_commands.specs.Faults as faults
 use Rattle.smt_terms.specs.declared.term.Variable.{Variable}
@@ -138,6 +138,11 @@ informs_few : (n : ℕ) (text : Option (List ℕ)) → FewArguments n (informs t
 informs_few n None = tt
 informs_few n (Some text) = tt
 
+values_few : (n : ℕ) (ts : Option (List Expr)) → FewArguments n (asks_values ts)
+values_few n None = tt
+values_few n (Some []) = tt
+values_few n (Some (t ∷ ts)) = tt
+
 declines_few : (n : ℕ) (b : Bool) → FewArguments n (declines b)
 declines_few n true = tt
 declines_few n false = tt
@@ -202,7 +207,7 @@ by_few n w.GetOption [] h = tt
 by_few n w.GetOption (a ∷ []) h = declines_few n (is_keyword a)
 by_few n w.GetOption (a ∷ (b ∷ es)) h = tt
 by_few n w.GetValue [] h = tt
-by_few n w.GetValue (a ∷ []) h = declines_few n (is_some (members_of a))
+by_few n w.GetValue (a ∷ []) h = values_few n (members_of a)
 by_few n w.GetValue (a ∷ (b ∷ es)) h = tt
 by_few n w.GetModel [] h = tt
 by_few n w.GetModel (a ∷ es) h = tt

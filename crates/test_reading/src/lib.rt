@@ -11,6 +11,8 @@ mod files;
 #[cfg(test)]
 mod forms;
 #[cfg(test)]
+mod models;
+#[cfg(test)]
 mod problems;
 #[cfg(test)]
 mod script_sizes;

@@ -3,6 +3,8 @@
 #![tactic(auto)]
 
 #[cfg(test)]
+mod dialogues;
+#[cfg(test)]
 mod faults;
 #[cfg(test)]
 mod jobs;

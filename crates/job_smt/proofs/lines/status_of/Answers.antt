@@ -1,9 +1,9 @@
 use Rattle.std.proofs.Common.{◌≡◌, List, [], ◌∷◌, length, refl, arith}
-use Rattle.job_smt.specs.declared.checking.CheckAnswer.{CheckAnswer}
+use Rattle.job_smt.specs.declared.models.Checked.{Checked}
 use Rattle.job_smt.proofs.Telling.{raised_end}
 use Rattle.job_smt.proofs.lines.status_of.Goals as goal
 
-empty : (xs : List CheckAnswer) → length xs ≡ 0 → xs ≡ []
+empty : (xs : List Checked) → length xs ≡ 0 → xs ≡ []
 empty [] h = refl
 empty (x ∷ xs) h = absurd (omega (arith, h))
 

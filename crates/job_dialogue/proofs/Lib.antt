@@ -1,0 +1,5 @@
+pub mod Lines
+pub mod Asking
+pub mod Hearing
+pub mod Readings
+pub mod Begun

@@ -1,0 +1,9 @@
+pub mod Spots
+pub mod Pieces
+pub mod Kinds
+pub mod Errors
+pub mod Held
+pub mod Dialogue
+pub mod Views
+pub mod Talks
+pub mod Laws
