@@ -7,20 +7,20 @@ use Rattle.smt_commands.specs.Least.{place_in}
 use Rattle.job_dialogue.specs.declared.kinds.Kind.{Kind}
 use Rattle.job_dialogue.specs.declared.spots.Spot.{Spot}
 use Rattle.job_dialogue.specs.Errors.{error_line}
-use Rattle.job_dialogue.specs.Held.{Held, Outcome}
-use Rattle.job_dialogue.specs.Dialogue.{IsAsked, IsRefusal, IsTaken, accepted, front_of, refused, spot_of, taken, told}
+use Rattle.job_dialogue.specs.Held.{Held, Turn}
+use Rattle.job_dialogue.specs.Dialogue.{IsAsked, IsRefusal, IsTakenStatus, accepted, front_of, refused, spot_of, taken, told}
 use Rattle.job_dialogue.specs.Spots.{spot_after}
 
-pub script_accepts : (budget : ℕ) (h : Held) (kind : Kind) (body script : List ℕ) (a : Answer) (o : Outcome) → script ≡ front_of h kind ++ body → IsSmtAnswer budget script a → IsTaken a.status
+pub script_accepts : (budget : ℕ) (h : Held) (kind : Kind) (body script : List ℕ) (a : Answer) (o : Turn) → script ≡ front_of h kind ++ body → IsSmtAnswer budget script a → IsTakenStatus a.status
     → o ≡ record { held = taken kind body h; text = told kind h a.text } → IsAsked budget h kind body o
 script_accepts budget h kind body script a o same answers status e = accepted a (subst (λ z. IsSmtAnswer budget z a) same answers) status e
 
-pub script_refuses : (budget : ℕ) (h : Held) (kind : Kind) (body script : List ℕ) (a : Answer) (e : ScriptRefusal) (o : Outcome) → script ≡ front_of h kind ++ body → IsSmtAnswer budget script a
-    → ¬ (IsTaken a.status) → IsRefusal script e → o ≡ record { held = h; text = error_line (spot_of h kind body e) e } → IsAsked budget h kind body o
+pub script_refuses : (budget : ℕ) (h : Held) (kind : Kind) (body script : List ℕ) (a : Answer) (e : ScriptRefusal) (o : Turn) → script ≡ front_of h kind ++ body → IsSmtAnswer budget script a
+    → ¬ (IsTakenStatus a.status) → IsRefusal script e → o ≡ record { held = h; text = error_line (spot_of h kind body e) e } → IsAsked budget h kind body o
 script_refuses budget h kind body script a e o same answers status refusal made =
     refused a e (subst (λ z. IsSmtAnswer budget z a) same answers) status (subst (λ z. IsRefusal z e) same refusal) made
 
-pub outcome_made : (h k : Held) (s t : List ℕ) (o : Outcome) → o ≡ record { held = h; text = s } → h ≡ k → s ≡ t → o ≡ record { held = k; text = t }
+pub outcome_made : (h k : Held) (s t : List ℕ) (o : Turn) → o ≡ record { held = h; text = s } → h ≡ k → s ≡ t → o ≡ record { held = k; text = t }
 outcome_made h k s t o made same alike = made ∙ (ap (λ z. record { held = z; text = s }) same ∙ ap (λ z. record { held = k; text = z }) alike)
 
 -- the place of a refusal, by how much stands before the command in the script

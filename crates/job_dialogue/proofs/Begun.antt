@@ -9,9 +9,9 @@ use Rattle.form_typed.specs.Truth.{Meaning}
 use Rattle.job_smt.specs.Answered.{IsSmtAnswer}
 use Rattle.job_smt.specs.Meaning.{Scripted}
 use Rattle.job_dialogue.specs.declared.kinds.Kind.TheVariants as k
-use Rattle.job_dialogue.specs.Held.{Held, Outcome, passing}
+use Rattle.job_dialogue.specs.Held.{Held, Turn, passing}
 use Rattle.job_dialogue.specs.Pieces.{Cut, cut_of, cut_on, cut_where, ends_piece, first_cut}
-use Rattle.job_dialogue.specs.Dialogue.{IsAsked, IsDialogue, IsDone, IsReply, IsTaken, accepted, begins, goes_on, refused}
+use Rattle.job_dialogue.specs.Dialogue.{IsAsked, IsDialogue, IsDone, IsReply, IsTakenStatus, accepted, begins, goes_on, refused}
 use Rattle.job_dialogue.specs.Laws.{HasBegun, IsCheckTold, fails, says}
 
 -- two lists that are none together
@@ -74,7 +74,7 @@ pieces_joined bytes = joined_from first_cut bytes
 
 -- ---- a check
 
-check_asked : (w : Meaning) (budget : ℕ) (h : Held) (body : List ℕ) (o : Outcome) (text : List ℕ) → ((w : Meaning) (budget : ℕ) (bytes : List ℕ) (a : Answer) → IsSmtAnswer budget bytes a → IsTaken a.status → Scripted w bytes a.text)
+check_asked : (w : Meaning) (budget : ℕ) (h : Held) (body : List ℕ) (o : Turn) (text : List ℕ) → ((w : Meaning) (budget : ℕ) (bytes : List ℕ) (a : Answer) → IsSmtAnswer budget bytes a → IsTakenStatus a.status → Scripted w bytes a.text)
     → IsAsked budget h k.Asks body o → text ≡ o.text → IsCheckTold w (h.text ++ body) text
 check_asked w budget h body o text means (accepted a answers status made) e =
     let plain : (h.text ++ []) ++ body ≡ h.text ++ body = ap (λ z. z ++ body) (append-nil h.text) in
@@ -82,6 +82,6 @@ check_asked w budget h body o text means (accepted a answers status made) e =
     says (subst (λ z. Scripted w z text) plain (subst (λ z. Scripted w ((h.text ++ []) ++ body) z) told (means w budget ((h.text ++ []) ++ body) a answers status)))
 check_asked w budget h body o text means (refused a f answers status refusal made) e = fails _ f (e ∙ ap (λ z. z.text) made)
 
-pub check_told : ((w : Meaning) (budget : ℕ) (bytes : List ℕ) (a : Answer) → IsSmtAnswer budget bytes a → IsTaken a.status → Scripted w bytes a.text)
+pub check_told : ((w : Meaning) (budget : ℕ) (bytes : List ℕ) (a : Answer) → IsSmtAnswer budget bytes a → IsTakenStatus a.status → Scripted w bytes a.text)
     → (w : Meaning) (budget : ℕ) (h : Held) (piece : List ℕ) (next : Held) (text : List ℕ) (reply : IsReply budget h piece next text) → reply.reading.kind ≡ k.Asks → IsCheckTold w (h.text ++ drop reply.reading.start piece) text
 check_told means w budget h piece next text reply e = check_asked w budget (passing (take reply.reading.start piece) h) (drop reply.reading.start piece) reply.outcome text means (subst (λ z. IsDone budget (passing (take reply.reading.start piece) h) z (drop reply.reading.start piece) reply.outcome) e reply.done) reply.told

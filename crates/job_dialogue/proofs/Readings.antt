@@ -10,12 +10,12 @@ use Rattle.job_dialogue.specs.Held.{Held, first_held}
 use Rattle.job_dialogue.specs.Pieces.{cut_of, last_piece}
 use Rattle.job_dialogue.specs.Dialogue.{IsDialogue, begins, goes_on}
 use Rattle.job_dialogue.specs.Views.{held_of}
-use Rattle.job_dialogue.specs.Talks.{BeginsWith, BreaksIn, BreaksLast, BreaksOff, Finishes, Hears, HearsFront, IsAnswered, IsAnsweredUpTo, IsAtEnd, IsHeard, IsTalked, Listens, Takes, TellsPart, TellsPiece, ends, exits, pieces_of}
+use Rattle.job_dialogue.specs.Talks.{StartsWith, BreaksIn, BreaksLast, BreaksOff, Finishes, Hears, HearsFront, IsAnswered, IsAnsweredUpTo, IsAtEnd, IsHeard, IsTalked, Listens, ReadsOff, TellsPart, TellsPiece, ends, exits, pieces_of}
 use Rattle.job_dialogue.proofs.Hearing.{empty_put, hears_nothing, nothing_put, puts_both, same_dialogue, then_put}
 
 -- ---- a read
 
-pub takes_read : (before after : Option (List ℕ)) (n : ℕ) (buffer : List ℕ) → ReadGives before after n buffer → Takes before after (take n buffer)
+pub takes_read : (before after : Option (List ℕ)) (n : ℕ) (buffer : List ℕ) → ReadGives before after n buffer → ReadsOff before after (take n buffer)
 takes_read (Some b) after n buffer moves = (drop n b, moves.rest, sym (take-append-drop n b) ∙ ap (λ z. z ++ drop n b) (sym moves.moved))
 takes_read None after n buffer none = none
 
@@ -38,13 +38,13 @@ pub listens_more : (budget : ℕ) (old new : Talk) (bytes : List ℕ) (left_befo
     → Listens budget old new false left_before left_after before after
 listens_more budget old new bytes left_before left_after before after n buffer heard same read = record {
   bytes = bytes;
-  read = subst (λ z. Takes left_before left_after z) (sym same) (takes_read left_before left_after n buffer read);
+  read = subst (λ z. ReadsOff left_before left_after z) (sym same) (takes_read left_before left_after n buffer read);
   end = λ e. absurd cc;
   heard = heard;
 }
 
 -- an input begins with a front of what is read of it
-begins_front : (before after : Option (List ℕ)) (bytes front rest : List ℕ) → front ++ rest ≡ bytes → Takes before after bytes → BeginsWith before front
+begins_front : (before after : Option (List ℕ)) (bytes front rest : List ℕ) → front ++ rest ≡ bytes → ReadsOff before after bytes → StartsWith before front
 begins_front (Some b) after bytes front rest parts takes = (rest ++ takes.0, takes.2 ∙ (ap (λ z. z ++ takes.0) (sym parts) ∙ append_assoc front rest takes.0))
 begins_front None after bytes front rest parts takes = tt
 
@@ -52,7 +52,7 @@ pub breaks_reading : (budget : ℕ) (old : Talk) (e : Stop) (bytes : List ℕ) (
     → BreaksIn budget old e left_before before after
 breaks_reading budget old e bytes left_before left_after before after n buffer breaks same read = record {
   front = breaks.front;
-  begins = begins_front left_before left_after bytes breaks.front breaks.rest breaks.parts (subst (λ z. Takes left_before left_after z) (sym same) (takes_read left_before left_after n buffer read));
+  begins = begins_front left_before left_after bytes breaks.front breaks.rest breaks.parts (subst (λ z. ReadsOff left_before left_after z) (sym same) (takes_read left_before left_after n buffer read));
   said = breaks.said;
   unput = breaks.unput;
   put = breaks.put;
@@ -61,7 +61,7 @@ breaks_reading budget old e bytes left_before left_after before after n buffer b
 }
 
 -- nothing is read, since the source failed
-begins_nothing : (input : Option (List ℕ)) → BeginsWith input []
+begins_nothing : (input : Option (List ℕ)) → StartsWith input []
 begins_nothing (Some all) = (all, refl)
 begins_nothing None = tt
 
@@ -78,23 +78,23 @@ breaks_unread budget old e left before after same = record {
 
 -- ---- the reads
 
-takes_nothing : (input : Option (List ℕ)) → Takes input input []
+takes_nothing : (input : Option (List ℕ)) → ReadsOff input input []
 takes_nothing (Some all) = (all, refl, refl)
 takes_nothing None = refl
 
-takes_both : (input mid left : Option (List ℕ)) (xs ys : List ℕ) → Takes input mid xs → Takes mid left ys → Takes input left (xs ++ ys)
+takes_both : (input mid left : Option (List ℕ)) (xs ys : List ℕ) → ReadsOff input mid xs → ReadsOff mid left ys → ReadsOff input left (xs ++ ys)
 takes_both (Some all) (Some m) left xs ys one two = let same : m ≡ one.0 = cc in (two.0, two.1, one.2 ∙ (ap (λ z. xs ++ z) (sym same ∙ two.2) ∙ sym (append_assoc xs ys two.0)))
 takes_both (Some all) None left xs ys one two = absurd cc
 takes_both None (Some m) left xs ys one two = absurd cc
 takes_both None None left xs ys one two = two
 
-begins_both : (input left : Option (List ℕ)) (xs ys : List ℕ) → Takes input left xs → BeginsWith left ys → BeginsWith input (xs ++ ys)
+begins_both : (input left : Option (List ℕ)) (xs ys : List ℕ) → ReadsOff input left xs → StartsWith left ys → StartsWith input (xs ++ ys)
 begins_both (Some all) (Some l) xs ys takes starts = let same : l ≡ takes.0 = cc in (starts.0, takes.2 ∙ (ap (λ z. xs ++ z) (sym same ∙ starts.1) ∙ sym (append_assoc xs ys starts.0)))
 begins_both (Some all) None xs ys takes starts = absurd cc
 begins_both None (Some l) xs ys takes starts = tt
 begins_both None None xs ys takes starts = tt
 
-whole_read : (input left : Option (List ℕ)) (xs : List ℕ) → Takes input left xs → IsAtEnd left → IsWhole input xs
+whole_read : (input left : Option (List ℕ)) (xs : List ℕ) → ReadsOff input left xs → IsAtEnd left → IsWhole input xs
 whole_read (Some all) (Some l) xs takes end = let same : l ≡ takes.0 = cc in sym (takes.2 ∙ (ap (λ z. xs ++ z) (sym same ∙ end) ∙ append-nil xs))
 whole_read (Some all) None xs takes end = absurd cc
 whole_read None (Some l) xs takes end = tt
@@ -137,7 +137,7 @@ talked_whole budget talk input left before now after so_far end finishes =
       put = puts_both before now after so_far.text finishes.said so_far.put finishes.put;
     }
 
-begins_read : (input left : Option (List ℕ)) (xs : List ℕ) → Takes input left xs → BeginsWith input xs
+begins_read : (input left : Option (List ℕ)) (xs : List ℕ) → ReadsOff input left xs → StartsWith input xs
 begins_read (Some all) left xs takes = (takes.0, takes.2)
 begins_read None left xs takes = tt
 

@@ -16,14 +16,14 @@ use Rattle.job_dialogue.specs.declared.kinds.Kind.TheVariants as k
 use Rattle.job_dialogue.specs.declared.kinds.Reading.{Reading}
 use Rattle.job_dialogue.specs.declared.spots.Spot.{Spot}
 use Rattle.job_dialogue.specs.Errors.{error_line}
-use Rattle.job_dialogue.specs.Held.{Held, Outcome, behaving, ending, first_held, leaving, opening, or_success, passing, restarting, succeeding}
+use Rattle.job_dialogue.specs.Held.{Held, Turn, behaving, ending, first_held, leaving, opening, or_success, passing, restarting, succeeding}
 use Rattle.job_dialogue.specs.Kinds.{reading_of}
 use Rattle.job_dialogue.specs.Spots.{spot_after}
 
 -- the piece is read so: it is one list, or else it is judged as it is
-pub data IsRead (piece : List ℕ) (reading : Reading) : Type 0 where
-  lists : (es : List Sexp) → IsScriptText piece es → reading ≡ reading_of (map expr es) → IsRead piece reading
-  no_lists : ((es : List Sexp) → IsScriptText piece es → ⊥) → reading ≡ record { start = 0; kind = k.Says } → IsRead piece reading
+pub data IsPieceRead (piece : List ℕ) (reading : Reading) : Type 0 where
+  lists : (es : List Sexp) → IsScriptText piece es → reading ≡ reading_of (map expr es) → IsPieceRead piece reading
+  no_lists : ((es : List Sexp) → IsScriptText piece es → ⊥) → reading ≡ record { start = 0; kind = k.Says } → IsPieceRead piece reading
 
 -- the check that stands before a command which asks for its model
 abbrev pub check_before : Kind → Option (List ℕ) → List ℕ
@@ -60,26 +60,26 @@ abbrev pub spot_of : Held → Kind → List ℕ → ScriptRefusal → Spot
 spot_of h kind body e = spot_after h.spot (take (place_in e - length (front_of h kind)) body)
 
 -- the bytes are a script
-abbrev pub IsScript : List ℕ → Type 0
-IsScript bytes = (ps : List Problem) × (told : List Reply) × IsScriptWith bytes ps told
+abbrev pub IsAnyScript : List ℕ → Type 0
+IsAnyScript bytes = (ps : List Problem) × (told : List Reply) × IsScriptWith bytes ps told
 
 -- the script is refused so; or it is not, and one of its checks is too large
 abbrev pub IsRefusal : List ℕ → ScriptRefusal → Type 0
-IsRefusal bytes e = (IsScriptRefusal bytes e × (e ≢ r.Memory)) ⊎ ((e ≡ r.Large) × IsScript bytes)
+IsRefusal bytes e = (IsScriptRefusal bytes e × (e ≢ r.Memory)) ⊎ ((e ≡ r.Large) × IsAnyScript bytes)
 
 -- a status with which a script is answered to its end
-abbrev pub IsTaken : ℕ → Type 0
-IsTaken status = (status ≡ 0) ⊎ (status ≡ 2)
+abbrev pub IsTakenStatus : ℕ → Type 0
+IsTakenStatus status = (status ≡ 0) ⊎ (status ≡ 2)
 
 -- the script of what is in force and this command is asked: where it is refused, the error is told and nothing changes
-pub data IsAsked (budget : ℕ) (h : Held) (kind : Kind) (body : List ℕ) (o : Outcome) : Type 0 where
-  accepted : (a : Answer) → IsSmtAnswer budget (front_of h kind ++ body) a → IsTaken a.status
+pub data IsAsked (budget : ℕ) (h : Held) (kind : Kind) (body : List ℕ) (o : Turn) : Type 0 where
+  accepted : (a : Answer) → IsSmtAnswer budget (front_of h kind ++ body) a → IsTakenStatus a.status
       → o ≡ record { held = taken kind body h; text = told kind h a.text } → IsAsked budget h kind body o
-  refused : (a : Answer) (e : ScriptRefusal) → IsSmtAnswer budget (front_of h kind ++ body) a → ¬ (IsTaken a.status) → IsRefusal (front_of h kind ++ body) e
+  refused : (a : Answer) (e : ScriptRefusal) → IsSmtAnswer budget (front_of h kind ++ body) a → ¬ (IsTakenStatus a.status) → IsRefusal (front_of h kind ++ body) e
       → o ≡ record { held = h; text = error_line (spot_of h kind body e) e } → IsAsked budget h kind body o
 
 -- what comes of a command of this kind
-abbrev pub IsDone : ℕ → Held → Kind → List ℕ → Outcome → Type 0
+abbrev pub IsDone : ℕ → Held → Kind → List ℕ → Turn → Type 0
 IsDone budget h (k.Opens n) body o = o ≡ opening n h
 IsDone budget h (k.Leaves n) body o = o ≡ leaving n h
 IsDone budget h k.Restarts body o = o ≡ restarting h
@@ -94,8 +94,8 @@ IsDone budget h k.Says body o = IsAsked budget h k.Says body o
 -- A piece of the input is answered by this text, and then this is held: what stands before its list is passed, and then the list is done.
 pub record IsReply (budget : ℕ) (h : Held) (piece : List ℕ) (next : Held) (text : List ℕ) : Type 0 where
   pub reading : Reading
-  pub read : IsRead piece reading
-  pub outcome : Outcome
+  pub read : IsPieceRead piece reading
+  pub outcome : Turn
   pub done : IsDone budget (passing (take reading.start piece) h) reading.kind (drop reading.start piece) outcome
   pub held : next ≡ passing (drop reading.start piece) outcome.held
   pub told : text ≡ outcome.text

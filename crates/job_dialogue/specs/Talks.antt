@@ -11,9 +11,9 @@ use Rattle.job_dialogue.specs.Dialogue.{IsDialogue, IsReply}
 use Rattle.job_dialogue.specs.Views.{held_of}
 
 -- an input begins with these bytes, where it tells its bytes
-abbrev pub BeginsWith : Option (List ℕ) → List ℕ → Type 0
-BeginsWith (Some all) read = (rest : List ℕ) × (all ≡ read ++ rest)
-BeginsWith None read = ⊤
+abbrev pub StartsWith : Option (List ℕ) → List ℕ → Type 0
+StartsWith (Some all) read = (rest : List ℕ) × (all ≡ read ++ rest)
+StartsWith None read = ⊤
 
 -- the pieces of an input that ends after these bytes
 abbrev pub pieces_of : List ℕ → List (List ℕ)
@@ -21,7 +21,7 @@ pieces_of bytes = (cut_of bytes).pieces ++ last_piece (cut_of bytes).rest
 
 -- This text answers an input: all its pieces are answered, or those up to an `exit`.
 pub data IsConversation (budget : ℕ) (input : Option (List ℕ)) (text : List ℕ) : Type 0 where
-  exits : (read : List ℕ) (h : Held) → BeginsWith input read → IsDialogue budget (cut_of read).pieces h text → h.ended ≡ true → IsConversation budget input text
+  exits : (read : List ℕ) (h : Held) → StartsWith input read → IsDialogue budget (cut_of read).pieces h text → h.ended ≡ true → IsConversation budget input text
   ends : (read : List ℕ) (h : Held) → IsWhole input read → IsDialogue budget (pieces_of read) h text → IsConversation budget input text
 
 -- such a text is put
@@ -37,7 +37,7 @@ ArePieces pieces read = (pieces ≡ (cut_of read).pieces) ⊎ (pieces ≡ pieces
 -- A dialogue breaks off: of the input a front is read, its pieces are answered, and the answers are put, all of them unless the sink failed.
 pub record IsAnsweredUpTo (budget : ℕ) (e : Stop) (input before after : Option (List ℕ)) : Type 0 where
   pub read : List ℕ
-  pub begins : BeginsWith input read
+  pub begins : StartsWith input read
   pub pieces : List (List ℕ)
   pub cut : ArePieces pieces read
   pub held : Held
@@ -102,9 +102,9 @@ pub record BreaksOff (budget : ℕ) (old : Talk) (bytes : List ℕ) (e : Stop) (
   pub heard : (read text : List ℕ) → IsHeard budget read old text → (h : Held) × IsDialogue budget (cut_of (read ++ front)).pieces h (text ++ said)
 
 -- from an input, of which this is left, these bytes are read
-abbrev pub Takes : Option (List ℕ) → Option (List ℕ) → List ℕ → Type 0
-Takes (Some before) after bytes = (rest : List ℕ) × (after ≡ Some rest) × (before ≡ bytes ++ rest)
-Takes None after bytes = after ≡ None
+abbrev pub ReadsOff : Option (List ℕ) → Option (List ℕ) → List ℕ → Type 0
+ReadsOff (Some before) after bytes = (rest : List ℕ) × (after ≡ Some rest) × (before ≡ bytes ++ rest)
+ReadsOff None after bytes = after ≡ None
 
 -- nothing is left of an input, where it tells its bytes
 abbrev pub IsAtEnd : Option (List ℕ) → Type 0
@@ -114,14 +114,14 @@ IsAtEnd None = ⊤
 -- what is read next is heard; if nothing is, the input is at its end
 pub record Listens (budget : ℕ) (old new : Talk) (at_end : Bool) (left_before left_after before after : Option (List ℕ)) : Type 0 where
   pub bytes : List ℕ
-  pub read : Takes left_before left_after bytes
+  pub read : ReadsOff left_before left_after bytes
   pub end : at_end ≡ true → IsAtEnd left_after
   pub heard : HearsFront budget old new bytes before after
 
 -- a dialogue breaks off while what is left of an input is read
 pub record BreaksIn (budget : ℕ) (old : Talk) (e : Stop) (left before after : Option (List ℕ)) : Type 0 where
   pub front : List ℕ
-  pub begins : BeginsWith left front
+  pub begins : StartsWith left front
   pub said : List ℕ
   pub unput : List ℕ
   pub put : PutsUpTo before after said unput
@@ -132,7 +132,7 @@ pub record BreaksIn (budget : ℕ) (old : Talk) (e : Stop) (left before after : 
 pub record IsTalked (budget : ℕ) (talk : Talk) (input left before after : Option (List ℕ)) : Type 0 where
   pub read : List ℕ
   pub text : List ℕ
-  pub taken : Takes input left read
+  pub taken : ReadsOff input left read
   pub heard : IsHeard budget read talk text
   pub put : PutsAll before after text
 

@@ -1,7 +1,7 @@
 // The commands that the script of what is in force answers.
 
 ghost use Rattle.base_limits.specs.Limits.{most_budget};
-ghost use Rattle.job_dialogue.specs.Dialogue.{IsAsked, IsRefusal, IsTaken, behind_line, check_before, front_of, taken, told};
+ghost use Rattle.job_dialogue.specs.Dialogue.{IsAsked, IsRefusal, IsTakenStatus, behind_line, check_before, front_of, taken, told};
 ghost use Rattle.job_dialogue.specs.Spots.{spot_after};
 ghost use Rattle.job_dialogue.specs.Views.{held_of, outcome_of};
 ghost use Rattle.smt_commands.specs.Least.{place_in};
@@ -49,7 +49,7 @@ pub(crate) fn ask<X: Watch>(
 
 /// Whether a script with this status is answered to its end.
 fn is_taken(status: u8) -> bool
-    ensures { MatchBool result (IsTaken status) (¬ (IsTaken status)) }
+    ensures { MatchBool result (IsTakenStatus status) (¬ (IsTakenStatus status)) }
 {
     status == VALID || status == UNKNOWN
 }

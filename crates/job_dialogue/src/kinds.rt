@@ -1,6 +1,6 @@
 // What a command does for a dialogue, by its form and its word.
 
-ghost use Rattle.job_dialogue.specs.Dialogue.{IsRead};
+ghost use Rattle.job_dialogue.specs.Dialogue.{IsPieceRead};
 ghost use Rattle.job_dialogue.specs.Kinds.{begins_with, is_shorthand, is_symbol, is_text, kind_by, kind_of, option_kind, reading_of, said_kind, success_kind};
 ghost use Rattle.smt_commands.specs.Commands.{keyword_of};
 ghost use Rattle.smt_commands.specs.Views.{form_of, now_of, saying_of, symbol_is};
@@ -47,7 +47,7 @@ pub struct Reading {
 
 /// How a piece is read: where it is not one list, the script judges all of it.
 pub(crate) fn read(alloc: Global, piece: &[u8]) -> Result<Reading, Memory>
-    ensures { IfOk result (λ reading. IsRead piece.now reading) }
+    ensures { IfOk result (λ reading. IsPieceRead piece.now reading) }
 {
     match lists(alloc, piece) {
         Ok(found) => Ok(reading_of(found.as_slice())),
